@@ -1,0 +1,3 @@
+pub mod Hash
+pub mod Lending
+pub mod Name

@@ -1,0 +1,10 @@
+//! Plain bytes: keys, values, names and addresses, their spelling, the hash, and lists as contracts see them.
+#![tactic(auto)]
+
+pub mod copies;
+pub mod hash;
+pub mod items;
+pub mod key;
+pub mod memory;
+pub mod name;
+pub mod value;
