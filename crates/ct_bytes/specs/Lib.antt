@@ -1,3 +1,5 @@
 pub mod Hash
 pub mod Lending
 pub mod Name
+pub mod Number
+pub mod Spelling

@@ -7,4 +7,6 @@ pub mod items;
 pub mod key;
 pub mod memory;
 pub mod name;
+pub mod number;
+pub mod spelling;
 pub mod value;
