@@ -137,10 +137,8 @@ fn hex_value(d: u8) -> Option<u8>
 fn escaped_byte(high: u8, low: u8) -> Option<u8>
     ensures { result ≡ escaped_byte high low }
 {
-    let Some(h) = hex_value(high) else {
-        return None
-    };
-    let Some(l) = hex_value(low) else { return None };
+    let h = hex_value(high)?;
+    let l = hex_value(low)?;
     let byte = 16 * h + l;
     if is_plain(byte) { None } else { Some(byte) }
 }
