@@ -92,23 +92,23 @@ abbrev pub ip_of : Address → IpAddr
 ip_of (V4 n) = Ip.V4 (record { octets = octets n })
 ip_of (V6 n) = Ip.V6 (record { segments = groups n })
 
-abbrev pub address_of : IpAddr → Address
-address_of (Ip.V4 ip) = V4 (ipv4_bits ip)
-address_of (Ip.V6 ip) = V6 (ipv6_bits ip)
+abbrev pub of_ip : IpAddr → Address
+of_ip (Ip.V4 ip) = V4 (ipv4_bits ip)
+of_ip (Ip.V6 ip) = V6 (ipv6_bits ip)
 
-spells : (a : Address) → IsIpText (address_text a) (ip_of a)
+pub spells : (a : Address) → IsIpText (address_text a) (ip_of a)
 unfolding octets groups
 spells (V4 n) = IsDotted-ipv4_text (octets n) refl (below (2 ^ 8) (octets n) (omega arith) (bytes_small 4 n))
 spells (V6 n) = IsColonHex-hex_groups_text (groups n) refl (below (2 ^ 16) (groups n) (omega arith) (groups_small (to_be_bytes w128 n) (bytes_small 16 n)))
 
-comes_back : (a : Address) → IsAddress a → address_of (ip_of a) ≡ a
+pub comes_back : (a : Address) → IsAddress a → of_ip (ip_of a) ≡ a
 unfolding octets groups ipv4_bits ipv6_bits
 comes_back (V4 n) fits = ap V4 (from_be_bytes-to_be_bytes_4 n fits)
 comes_back (V6 n) fits = ap V6 (ap (from_be_bytes w128) (same_bytes 8 (to_be_bytes w128 n) refl (bytes_small 16 n)) ∙ from_be_bytes-to_be_bytes_16 n fits)
 
 -- a word that is the text of an address spells no other
-pub same_address : (word : List ℕ) (ip : IpAddr) → IsIpText word ip → (a : Address) → IsAddress a → address_text a ≡ word → address_of ip ≡ a
-same_address word ip read a fits same = ap address_of (IsIpText_unique word ip (ip_of a) read (subst (λ t. IsIpText t (ip_of a)) same (spells a))) ∙ comes_back a fits
+pub same_address : (word : List ℕ) (ip : IpAddr) → IsIpText word ip → (a : Address) → IsAddress a → address_text a ≡ word → of_ip ip ≡ a
+same_address word ip read a fits same = ap of_ip (IsIpText_unique word ip (ip_of a) read (subst (λ t. IsIpText t (ip_of a)) same (spells a))) ∙ comes_back a fits
 
 -- a word that spells nothing is the text of no address
 pub no_address : (word : List ℕ) → ((ip : IpAddr) → ¬ IsIpText word ip) → (a : Address) → ¬ (address_text a ≡ word)

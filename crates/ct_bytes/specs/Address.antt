@@ -1,8 +1,9 @@
 -- The one spelling of an address, and the order of addresses.
-use Rattle.std.specs.Prelude.{ℕ, ◌^◌, ◌<◌, List}
-use Rattle.std.specs.Int.{w32, w128, to_be_bytes}
-use Rattle.std.specs.Net.Addr.{segments_of}
+use Rattle.std.specs.Prelude.{ℕ, ◌^◌, ◌<◌, List, Option, None, Some, bytes_eq, if◌then◌else◌}
+use Rattle.std.specs.Int.{w32, w128, to_be_bytes, from_be_bytes}
+use Rattle.std.specs.Net.Addr.{segments_of, octets_of}
 use Rattle.std.specs.Net.Text.{ipv4_text, hex_groups_text}
+use Rattle.std.specs.Net.Reader.{whole_value, read_ipv4, read_ipv6}
 use Rattle.std.specs.Ordering.{nat_cmp}
 use Rattle.std.specs.declared.cmp.Ordering.{Ordering}
 use Rattle.std.specs.declared.cmp.Ordering.TheVariants.{Less, Greater}
@@ -27,6 +28,25 @@ address_text (V6 n) = hex_groups_text (groups n)
 abbrev pub IsAddress : Address → Type 0
 IsAddress (V4 n) = n < 2 ^ 32
 IsAddress (V6 n) = n < 2 ^ 128
+
+-- the address of the bytes, or else that of the groups, that were read
+abbrev pub address_of_parts : Option (List ℕ) → Option (List ℕ) → Option Address
+address_of_parts (Some bytes) parts = Some (V4 (from_be_bytes w32 bytes))
+address_of_parts None (Some parts) = Some (V6 (from_be_bytes w128 (octets_of parts)))
+address_of_parts None None = None
+
+-- the address that the word spells in some way
+unfoldable pub lenient_address : List ℕ → Option Address
+lenient_address word = address_of_parts (whole_value (read_ipv4 word)) (whole_value (read_ipv6 word))
+
+-- the address, where the word is its text
+abbrev pub if_spelled_so : List ℕ → Option Address → Option Address
+if_spelled_so word None = None
+if_spelled_so word (Some a) = if bytes_eq (address_text a) word then Some a else None
+
+-- the address whose text the word is
+unfoldable pub address_of : List ℕ → Option Address
+address_of word = if_spelled_so word (lenient_address word)
 
 -- every V4 before every V6, and then by number
 abbrev pub address_cmp : Address → Address → Ordering

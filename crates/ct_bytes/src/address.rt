@@ -4,9 +4,9 @@
 //! byte first. An IPv6 address is spelled as eight groups of 16 bits with colons between them, the most significant
 //! first, each in one to four lower-case hexadecimal digits; the longest run of two or more zero groups, and of equal
 //! ones the first, is written `::`. No number has a leading zero, and there is no form with both dots and colons.
-ghost use Rattle.std.specs.Prelude.{◌≡◌, ◌++◌, OnOk, OnErr, IfSome, Some};
+ghost use Rattle.std.specs.Prelude.{◌≡◌, ◌++◌, ℕ, List, OnOk, OnErr, IfSome, Some};
 ghost use Rattle.ct_bytes.specs.declared.address.Address.{Address};
-ghost use Rattle.ct_bytes.specs.Address.{octets, groups, address_text, IsAddress, address_cmp};
+ghost use Rattle.ct_bytes.specs.Address.{octets, groups, address_text, IsAddress, lenient_address, address_of, address_cmp};
 
 mod written;
 
@@ -71,7 +71,8 @@ pub fn push_address(text: &mut Vec<u8>, address: Address) -> Result<(), NoMemory
 
 /// The address that the word spells in some way, if it spells one: other spellings than the one are taken too.
 fn read_leniently(word: &[u8]) -> Option<Address>
-    ensures { (a : Address) → IsAddress a → address_text a ≡ word.now → result ≡ Some a }
+    ensures exact { result ≡ lenient_address word.now }
+    ensures only { (a : Address) → IsAddress a → address_text a ≡ word.now → result ≡ Some a }
 {
     match IpAddr::parse_ascii(word) {
         Ok(IpAddr::V4(ip)) => Some(Address::V4(ip.to_bits())),
@@ -82,7 +83,9 @@ fn read_leniently(word: &[u8]) -> Option<Address>
 
 impl Address {
     /// The address whose one spelling the word is. Of a word that is none, or is another spelling, there is none.
+    #[tactic(auto, unfolding(crate::specs::Address::address_of))]
     pub fn parse(word: &[u8]) -> Option<Address>
+        ensures exact { result ≡ address_of word.now }
         ensures found { IfSome result (λ a. address_text a ≡ word.now) }
         ensures in_range { IfSome result IsAddress }
         ensures only { (a : Address) → IsAddress a → address_text a ≡ word.now → result ≡ Some a }
@@ -102,9 +105,11 @@ impl Duplicate for Address {
     }
 }
 
-/// Two addresses are never spelled alike.
-pub fn spelled_apart()
-    ensures { (a b : Address) → IsAddress a → IsAddress b → address_text a ≡ address_text b → a ≡ b }
+/// Each address is the one that its spelling is read as, and no other spelling is read as it: so no two are spelled alike.
+pub fn one_spelling()
+    ensures back { (a : Address) → IsAddress a → address_of (address_text a) ≡ Some a }
+    ensures only { (word : List ℕ) (a : Address) → address_of word ≡ Some a → address_text a ≡ word }
+    ensures apart { (a b : Address) → IsAddress a → IsAddress b → address_text a ≡ address_text b → a ≡ b }
 {}
 
 /// Addresses are in the order of their families, and then of their numbers.
