@@ -1,2 +1,4 @@
+pub mod Addresses
 pub mod Numbers
+pub mod Reading
 pub mod Spellings

@@ -1,3 +1,4 @@
+pub mod Address
 pub mod Hash
 pub mod Lending
 pub mod Name

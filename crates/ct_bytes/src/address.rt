@@ -1,0 +1,212 @@
+//! The address of a node, and its one spelling.
+//!
+//! An IPv4 address is spelled as four decimal numbers from 0 to 255 with dots between them, the most significant
+//! byte first. An IPv6 address is spelled as eight groups of 16 bits with colons between them, the most significant
+//! first, each in one to four lower-case hexadecimal digits; the longest run of two or more zero groups, and of equal
+//! ones the first, is written `::`. No number has a leading zero, and there is no form with both dots and colons.
+ghost use Rattle.std.specs.Prelude.{◌≡◌, ◌++◌, ℕ, List, OnOk, OnErr, IfSome, Some};
+ghost use Rattle.ct_bytes.specs.declared.address.Address.{Address};
+ghost use Rattle.ct_bytes.specs.Address.{octets, groups, address_text, IsAddress, lenient_address, address_of, address_cmp};
+
+mod written;
+
+use crate::copies::Duplicate;
+use crate::memory::NoMemory;
+use std::net::{IpAddr, Ipv6Addr};
+use written::Written;
+
+/// An IPv4 or IPv6 address as a number. Every IPv4 address comes before every IPv6 address, and then they are in
+/// the order of their numbers.
+#[derive(Clone, Copy, Debug, PartialEq, Eq, PartialOrd, Ord, Hash)]
+pub enum Address {
+    V4(u32),
+    V6(u128),
+}
+
+/// The bytes of an IPv4 address, the most significant first.
+#[tactic(auto, unfolding(crate::specs::Address::octets))]
+fn octets(number: u32) -> [u8; 4]
+    ensures { result ≡ octets number }
+{
+    number.to_be_bytes()
+}
+
+/// The groups of an IPv6 address, the most significant first.
+#[tactic(auto, unfolding(crate::specs::Address::groups, std::specs::Net::Addr::IsIpv6OfBits))]
+fn groups(number: u128) -> [u16; 8]
+    ensures { result ≡ groups number }
+{
+    Ipv6Addr::from_bits(number).segments()
+}
+
+/// The one spelling.
+fn spell(address: Address) -> Written
+    ensures { result ≡ address_text address }
+{
+    let mut text = Written::new();
+    match address {
+        Address::V4(number) => {
+            let [a, b, c, d] = octets(number);
+            text.push_octet(a);
+            text.push(b'.');
+            text.push_octet(b);
+            text.push(b'.');
+            text.push_octet(c);
+            text.push(b'.');
+            text.push_octet(d);
+        }
+        Address::V6(number) => text.push_compressed(&groups(number)),
+    }
+    text
+}
+
+/// Writes the one spelling of the address at the end of the text. Without memory the text stays as it is.
+pub fn push_address(text: &mut Vec<u8>, address: Address) -> Result<(), NoMemory>
+    ensures ok { OnOk result (text.new.items ≡ text.old.items ++ address_text address) }
+    ensures err { OnErr result (text.new.items ≡ text.old.items) }
+{
+    text.extend_from_slice(spell(address).as_slice())?;
+    Ok(())
+}
+
+/// The address that the word spells in some way, if it spells one: other spellings than the one are taken too.
+fn read_leniently(word: &[u8]) -> Option<Address>
+    ensures exact { result ≡ lenient_address word.now }
+    ensures only { (a : Address) → IsAddress a → address_text a ≡ word.now → result ≡ Some a }
+{
+    match IpAddr::parse_ascii(word) {
+        Ok(IpAddr::V4(ip)) => Some(Address::V4(ip.to_bits())),
+        Ok(IpAddr::V6(ip)) => Some(Address::V6(ip.to_bits())),
+        Err(_) => None,
+    }
+}
+
+impl Address {
+    /// The address whose one spelling the word is. Of a word that is none, or is another spelling, there is none.
+    #[tactic(auto, unfolding(crate::specs::Address::address_of))]
+    pub fn parse(word: &[u8]) -> Option<Address>
+        ensures exact { result ≡ address_of word.now }
+        ensures found { IfSome result (λ a. address_text a ≡ word.now) }
+        ensures in_range { IfSome result IsAddress }
+        ensures only { (a : Address) → IsAddress a → address_text a ≡ word.now → result ≡ Some a }
+    {
+        let address = read_leniently(word)?;
+        if spell(address).as_slice() == word {
+            Some(address)
+        } else {
+            None
+        }
+    }
+}
+
+impl Duplicate for Address {
+    fn duplicate(&self) -> Result<Address, NoMemory> {
+        Ok(*self)
+    }
+}
+
+/// Each address is the one that its spelling is read as, and no other spelling is read as it: so no two are spelled alike.
+pub fn one_spelling()
+    ensures back { (a : Address) → IsAddress a → address_of (address_text a) ≡ Some a }
+    ensures only { (word : List ℕ) (a : Address) → address_of word ≡ Some a → address_text a ≡ word }
+    ensures apart { (a b : Address) → IsAddress a → IsAddress b → address_text a ≡ address_text b → a ≡ b }
+{}
+
+/// Addresses are in the order of their families, and then of their numbers.
+pub fn in_order()
+    ensures { (a b : Address) → ⟦<Address as Ord>⟧.cmp a b ≡ address_cmp a b }
+{}
+
+#[cfg(test)]
+mod tests {
+    use super::*;
+    use std::test::Fail;
+
+    #[test]
+    fn spells_and_reads(rt: HostRuntime) -> Result<(), Fail> {
+        let table = [
+            ("0.0.0.0", Address::V4(0)),
+            ("255.255.255.255", Address::V4(0xffff_ffff)),
+            ("10.0.0.1", Address::V4(0x0a00_0001)),
+            ("192.168.1.4", Address::V4(0xc0a8_0104)),
+            ("::", Address::V6(0)),
+            ("::1", Address::V6(1)),
+            (
+                "1::",
+                Address::V6(0x0001_0000_0000_0000_0000_0000_0000_0000),
+            ),
+            (
+                "2001:db8::1",
+                Address::V6(0x2001_0db8_0000_0000_0000_0000_0000_0001),
+            ),
+            (
+                "2001:db8::2",
+                Address::V6(0x2001_0db8_0000_0000_0000_0000_0000_0002),
+            ),
+            (
+                "2001:db8:0:1:1:1:1:1",
+                Address::V6(0x2001_0db8_0000_0001_0001_0001_0001_0001),
+            ),
+            (
+                "2001:0:0:1::1",
+                Address::V6(0x2001_0000_0000_0001_0000_0000_0000_0001),
+            ),
+            (
+                "2001:db8::1:0:0:1",
+                Address::V6(0x2001_0db8_0000_0000_0001_0000_0000_0001),
+            ),
+            (
+                "ffff:ffff:ffff:ffff:ffff:ffff:ffff:ffff",
+                Address::V6(0xffff_ffff_ffff_ffff_ffff_ffff_ffff_ffff),
+            ),
+            ("::ffff:102:304", Address::V6(0xffff_0102_0304)),
+        ];
+        for (spelling, address) in table {
+            assert_eq!(rt;
+                Address::parse(spelling.as_bytes()),
+                Some(address),
+                "{spelling}"
+            );
+            let mut text = Vec::from_slice(rt.alloc(), b"at ")?;
+            push_address(&mut text, address)?;
+            assert_eq!(rt; &text[..3], b"at ".as_slice(), "{spelling}");
+            assert_eq!(rt; &text[3..], spelling.as_bytes(), "{spelling}");
+            assert_eq!(rt; address.duplicate()?, address);
+        }
+        Ok(())
+    }
+
+    #[test]
+    fn refuses(rt: HostRuntime) {
+        let table = [
+            "",
+            "1.2.3",
+            "1.2.3.4.5",
+            "01.2.3.4",
+            "256.1.1.1",
+            "1.2.3.",
+            " 1.2.3.4",
+            "2001:0db8::1",
+            "2001:DB8::1",
+            "1:2:3:4:5:6:7",
+            "1:2:3:4:5:6:7:8:9",
+            "1::2::3",
+            "2001:db8:0:0:1:0:0:1",
+            "::ffff:1.2.3.4",
+            "1:2:3:4:5:6:7::",
+            ":::",
+            "12345::",
+            "g::",
+        ];
+        for word in table {
+            assert_eq!(rt; Address::parse(word.as_bytes()), None, "{word}");
+        }
+    }
+
+    #[test]
+    fn is_ordered(rt: HostRuntime) {
+        assert!(rt; Address::V4(0xffff_ffff) < Address::V6(0));
+        assert!(rt; Address::V4(1) < Address::V4(2));
+        assert!(rt; Address::V6(1) < Address::V6(2));
+    }
+}
