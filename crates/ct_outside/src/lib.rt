@@ -6,3 +6,5 @@ pub mod fault;
 pub mod memory;
 pub mod sink;
 pub mod source;
+#[cfg(test)]
+mod tests;
