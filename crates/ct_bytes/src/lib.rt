@@ -1,6 +1,7 @@
 //! Plain bytes: keys, values, names and addresses, their spelling, the hash, and lists as contracts see them.
 #![tactic(auto)]
 
+pub mod address;
 pub mod copies;
 pub mod hash;
 pub mod items;
