@@ -1,0 +1,7 @@
+//! Plain values: what a cluster is made of, what clients ask and what they are answered.
+#![tactic(auto)]
+
+pub mod client;
+pub mod config;
+#[cfg(test)]
+mod tests;
