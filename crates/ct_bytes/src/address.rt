@@ -3,7 +3,8 @@
 //! An IPv4 address is spelled as four decimal numbers from 0 to 255 with dots between them, the most significant
 //! byte first. An IPv6 address is spelled as eight groups of 16 bits with colons between them, the most significant
 //! first, each in one to four lower-case hexadecimal digits; the longest run of two or more zero groups, and of equal
-//! ones the first, is written `::`. No number has a leading zero, and there is no form with both dots and colons.
+//! ones the first, is written `::`, and a zero group alone is written `0`. No number has a leading zero, there is no
+//! form with both dots and colons, and no other spelling is read.
 ghost use Rattle.std.specs.Prelude.{◌≡◌, ◌++◌, ℕ, List, OnOk, OnErr, IfSome, Some};
 ghost use Rattle.ct_bytes.specs.declared.address.Address.{Address};
 ghost use Rattle.ct_bytes.specs.Address.{octets, groups, address_text, IsAddress, lenient_address, address_of, address_cmp};
@@ -105,7 +106,7 @@ impl Duplicate for Address {
     }
 }
 
-/// Each address is the one that its spelling is read as, and no other spelling is read as it: so no two are spelled alike.
+/// Each address comes back from its spelling, nothing else is read as it, and no two addresses are spelled alike.
 pub fn one_spelling()
     ensures back { (a : Address) → IsAddress a → address_of (address_text a) ≡ Some a }
     ensures only { (word : List ℕ) (a : Address) → address_of word ≡ Some a → address_text a ≡ word }
