@@ -98,7 +98,7 @@ impl Written {
     }
 
     /// A decimal number without leading zeros.
-    #[tactic(auto, using(crate::proofs::Spellings::one_digit, crate::proofs::Spellings::two_digits, crate::proofs::Spellings::three_digits))]
+    #[tactic(auto, using(crate::proofs::Addresses::one_digit, crate::proofs::Addresses::two_digits, crate::proofs::Addresses::three_digits))]
     pub fn push_octet(&mut self, octet: u8)
         requires { length self.old + 3 ≤ 40 }
         ensures text { self.new ≡ self.old ++ decimal octet }
