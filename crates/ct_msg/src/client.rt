@@ -157,7 +157,7 @@ pub enum Why {
 impl Why {
     /// A copy that equals it.
     pub fn copy(&self) -> Result<Why, NoMemory>
-        ensures { IfOk result (λ x. x ≡ self.now) }
+        ensures { result ≡ Ok self.now }
     {
         Ok(*self)
     }

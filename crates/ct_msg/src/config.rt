@@ -25,7 +25,7 @@ pub enum DbKind {
 impl DbKind {
     /// A copy that equals it.
     pub fn copy(&self) -> Result<DbKind, NoMemory>
-        ensures { IfOk result (λ x. x ≡ self.now) }
+        ensures { result ≡ Ok self.now }
     {
         Ok(*self)
     }
