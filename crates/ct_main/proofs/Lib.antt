@@ -1,0 +1,5 @@
+pub mod Configs
+pub mod Ending
+pub mod Feeding
+pub mod Printing
+pub mod Registers

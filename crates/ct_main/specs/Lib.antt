@@ -1,0 +1,5 @@
+pub mod Claims
+pub mod Feeding
+pub mod Play
+pub mod Session
+pub mod Text

@@ -1,0 +1,255 @@
+//! Plays a scenario while its bytes come.
+ghost use Rattle.std.specs.Prelude.{◌≡◌, ◌≤◌, ◌<◌, ◌+◌, ◌^◌, ◌∷◌, [], length, IfOk, OnOk};
+ghost use Rattle.std.specs.Io.KnownBytes.{Appends};
+ghost use Rattle.ct_outside.specs.Causes.{AppendsPart};
+ghost use Rattle.ct_main.specs.Claims.{HasEndCause, Plays};
+ghost use Rattle.ct_main.specs.Feeding.{Feeds, HasStopCause, Prints, TurnCause, Turns, end_at, end_of};
+ghost use Rattle.ct_main.specs.Text.{lines_text};
+
+use crate::session::{PlayFault, Session, What};
+use crate::text::line_text;
+use ct_bytes::items::Items;
+use ct_bytes::memory::NoMemory;
+use ct_outside::fault::SinkFault;
+use ct_outside::sink::{Sink, write_all};
+use ct_outside::source::Source;
+use ct_world::step::Line;
+use std::alloc::{AllocFailed, Global};
+
+/// Why playing stops before the input ends.
+#[derive(Clone, Copy, Debug, PartialEq, Eq)]
+pub enum Stop {
+    Refused(What),
+    WriteFault,
+    NoMemory,
+}
+
+impl From<SinkFault> for Stop {
+    ghost use Rattle.ct_main.specs.Feeding.{stop_of};
+
+    ghost from_gives = { λ x e. e ≡ stop_of x };
+
+    fn from(fault: SinkFault) -> Stop {
+        match fault {
+            SinkFault::Failed => Stop::WriteFault,
+            SinkFault::NoMemory => Stop::NoMemory,
+        }
+    }
+}
+
+impl From<PlayFault> for Stop {
+    ghost use Rattle.ct_main.specs.Feeding.{stop_at};
+
+    ghost from_gives = { λ x e. e ≡ stop_at x };
+
+    fn from(fault: PlayFault) -> Stop {
+        match fault {
+            PlayFault::Refused(what) => Stop::Refused(what),
+            PlayFault::NoMemory => Stop::NoMemory,
+        }
+    }
+}
+
+impl From<NoMemory> for Stop {
+    ghost use Rattle.ct_main.specs.declared.player.Stop.TheVariants.{NoMemory as Want};
+
+    ghost from_gives = { λ _ e. e ≡ Want };
+
+    fn from(_e: NoMemory) -> Stop {
+        Stop::NoMemory
+    }
+}
+
+impl<T: Drop> From<AllocFailed<T>> for Stop {
+    ghost use Rattle.ct_main.specs.declared.player.Stop.TheVariants.{NoMemory as Want};
+
+    ghost from_gives = { λ _ e. e ≡ Want };
+
+    fn from(_e: AllocFailed<T>) -> Stop {
+        Stop::NoMemory
+    }
+}
+
+/// How a play ends. A line is told by its number, counted from 1.
+#[derive(Clone, Copy, Debug, PartialEq, Eq)]
+pub enum End {
+    /// All of the input was played.
+    Read,
+    /// The input ended inside a line.
+    Unended { line: u64 },
+    Refused { line: u64, what: What },
+    ReadFault,
+    WriteFault,
+    NoMemory,
+    /// The input has 2^40 bytes or more.
+    TooLong,
+}
+
+/// A session, the line so far, and how many lines were played.
+#[derive(Drop)]
+pub struct Player {
+    pub session: Session,
+    pub line: Items<u8>,
+    pub count: u64,
+}
+
+/// Prints lines, each by one write where the sink takes it whole.
+fn print<K: Sink>(alloc: Global, lines: &[Line], out: &mut K) -> Result<(), Stop>
+    ensures prints { Prints result lines.now (K.held out.old) (K.held out.new) }
+    ensures cause { HasStopCause (K.faults out.old) (K.faults out.new) result }
+{
+    for line in lines {
+        let text = match line_text(alloc, line) {
+            Ok(text) => text,
+            Err(fault) => return Err(Stop::from(fault)),
+        };
+        if let Err(fault) = write_all(out, text.as_slice()) {
+            return Err(Stop::from(fault));
+        }
+    }
+    Ok(())
+}
+
+impl Player {
+    /// The line is whole.
+    fn end<K: Sink>(&mut self, alloc: Global, out: &mut K) -> Result<(), Stop>
+        requires count { self.old.count + 1 < 2 ^ 64 }
+        requires line { length self.old.line ≤ 65535 }
+        ensures feeds { Feeds result self.old (10 ∷ []) self.new (K.held out.old) (K.held out.new) }
+        ensures cause { HasStopCause (K.faults out.old) (K.faults out.new) result }
+        ensures count { self.new.count ≤ self.old.count + 1 }
+        ensures line { length self.new.line ≤ 65535 }
+    {
+        let lines = match self.session.play(alloc, self.line.as_slice()) {
+            Ok(lines) => lines,
+            Err(fault) => return Err(Stop::from(fault)),
+        };
+        if let Err(stop) = print(alloc, lines.as_slice(), out) {
+            return Err(stop);
+        }
+        self.line.truncate(0);
+        self.count += 1;
+        Ok(())
+    }
+
+    fn byte<K: Sink>(&mut self, alloc: Global, x: u8, out: &mut K) -> Result<(), Stop>
+        requires count { self.old.count + 1 < 2 ^ 64 }
+        requires line { length self.old.line ≤ 65535 }
+        ensures feeds { Feeds result self.old (x ∷ []) self.new (K.held out.old) (K.held out.new) }
+        ensures cause { HasStopCause (K.faults out.old) (K.faults out.new) result }
+        ensures count { self.new.count ≤ self.old.count + 1 }
+        ensures line { length self.new.line ≤ 65535 }
+    {
+        if x == b'\n' {
+            return self.end(alloc, out);
+        }
+        if self.line.len() >= 65535 {
+            return Err(Stop::Refused(What::Words));
+        }
+        self.line.push(x)?;
+        Ok(())
+    }
+
+    fn feed<K: Sink>(&mut self, alloc: Global, bytes: &[u8], out: &mut K) -> Result<(), Stop>
+        requires count { self.old.count + length bytes.now < 2 ^ 64 }
+        requires line { length self.old.line ≤ 65535 }
+        ensures feeds { Feeds result self.old bytes.now self.new (K.held out.old) (K.held out.new) }
+        ensures cause { HasStopCause (K.faults out.old) (K.faults out.new) result }
+        ensures count { self.new.count ≤ self.old.count + length bytes.now }
+        ensures line { length self.new.line ≤ 65535 }
+    {
+        for x in bytes {
+            match self.byte(alloc, *x, out) {
+                Ok(()) => {}
+                Err(stop) => return Err(stop),
+            }
+        }
+        Ok(())
+    }
+
+    /// The input has no more.
+    fn at_end(&self) -> End
+        requires { self.now.count + 1 < 2 ^ 64 }
+        ensures { result ≡ end_at self.now.line self.now.count }
+    {
+        if self.line.is_empty() {
+            End::Read
+        } else {
+            End::Unended {
+                line: self.count + 1,
+            }
+        }
+    }
+
+    fn end_of(&self, stop: Stop) -> End
+        requires { self.now.count + 1 < 2 ^ 64 }
+        ensures { result ≡ end_of stop self.now.count }
+    {
+        match stop {
+            Stop::Refused(what) => End::Refused {
+                line: self.count + 1,
+                what,
+            },
+            Stop::WriteFault => End::WriteFault,
+            Stop::NoMemory => End::NoMemory,
+        }
+    }
+
+    /// Reads a piece and plays it.
+    fn turn<S: Source, K: Sink>(
+        &mut self,
+        alloc: Global,
+        buffer: &mut [u8],
+        input: &mut S,
+        out: &mut K,
+    ) -> Result<usize, End>
+        requires room { 0 < length buffer.old }
+        requires count { self.old.count + length buffer.old + 1 < 2 ^ 64 }
+        requires line { length self.old.line ≤ 65535 }
+        ensures turns { Turns result (length buffer.old) self.old self.new (S.left input.old) (S.left input.new) (K.held out.old) (K.held out.new) }
+        ensures cause { TurnCause result (S.faults input.old) (S.faults input.new) (K.faults out.old) (K.faults out.new) }
+        ensures count { IfOk result (λ n. self.new.count ≤ self.old.count + n) }
+        ensures line { length self.new.line ≤ 65535 }
+    {
+        let n = match input.read(buffer) {
+            Ok(n) => n,
+            Err(_) => return Err(End::ReadFault),
+        };
+        if n == 0 {
+            return Err(self.at_end());
+        }
+        match self.feed(alloc, &buffer[..n], out) {
+            Ok(()) => Ok(n),
+            Err(stop) => Err(self.end_of(stop)),
+        }
+    }
+}
+
+/// The most bytes that are taken of an input.
+pub const MOST_BYTES: u64 = 1099511627776;
+
+/// Plays the input to its end, or as far as it goes.
+pub fn play<S: Source, K: Sink>(alloc: Global, input: &mut S, out: &mut K) -> End
+    ensures plays { Plays result (S.left input.old) (S.left input.new) (K.held out.old) (K.held out.new) }
+    ensures cause { HasEndCause result (S.faults input.old) (S.faults input.new) (K.faults out.old) (K.faults out.new) }
+{
+    let session = match Session::new(alloc) {
+        Ok(session) => session,
+        Err(_) => return End::NoMemory,
+    };
+    let mut player = Player {
+        session,
+        line: Items::empty(alloc),
+        count: 0,
+    };
+    let mut buffer = [0u8; 4096];
+    let mut taken = 0u64;
+    while taken < MOST_BYTES {
+        let room = (MOST_BYTES - taken).min(4096) as usize;
+        match player.turn(alloc, &mut buffer[..room], input, out) {
+            Ok(n) => taken += n as u64,
+            Err(end) => return end,
+        }
+    }
+    End::TooLong
+}
