@@ -15,7 +15,8 @@ use Rattle.ct_bytes.specs.declared.address.Address.{Address}
 use Rattle.ct_bytes.specs.declared.address.Address.TheVariants.{V4, V6}
 use Rattle.ct_bytes.specs.contracts.address.AddressOrd.TheImpl as derived
 use Rattle.ct_bytes.specs.contracts.address.AddressOrd.TheImpl.Laws as laws
-use Rattle.ct_msg.specs.Config.{address_cmp, same_address}
+use Rattle.ct_bytes.specs.Address.{address_cmp}
+use Rattle.ct_msg.specs.Config.{same_address}
 
 derived_cmp : (a b : Address) → (derived.ghosts).cmp a b ≡ address_cmp a b
 derived_cmp (V4 a) (V4 b) = refl

@@ -3,9 +3,7 @@ use Rattle.std.specs.Prelude.{ℕ, ◌≡◌, ◌+◌, Bool, false, ◌||◌, �
 use Rattle.std.specs.List.{list_any}
 use Rattle.std.specs.List.Sorted.{IsPermutation, IsStrictlySortedBy}
 use Rattle.std.specs.Cmp.Lexicographic.{pointwise}
-use Rattle.std.specs.Ordering.{nat_cmp}
-use Rattle.std.specs.declared.cmp.Ordering.{Ordering}
-use Rattle.std.specs.declared.cmp.Ordering.TheVariants.{Less, Greater}
+use Rattle.ct_bytes.specs.Address.{address_cmp}
 use Rattle.ct_bytes.specs.declared.address.Address.{Address}
 use Rattle.ct_bytes.specs.declared.address.Address.TheVariants.{V4, V6}
 use Rattle.ct_msg.specs.declared.config.Config.{Config}
@@ -26,13 +24,6 @@ same_address (V4 a) (V4 b) = a == b
 same_address (V6 a) (V6 b) = a == b
 same_address (V4 a) (V6 b) = false
 same_address (V6 a) (V4 b) = false
-
--- addresses of version 4 come first, and each family goes by its number
-abbrev pub address_cmp : Address → Address → Ordering
-address_cmp (V4 a) (V4 b) = nat_cmp a b
-address_cmp (V6 a) (V6 b) = nat_cmp a b
-address_cmp (V4 a) (V6 b) = Less
-address_cmp (V6 a) (V4 b) = Greater
 
 -- the place of the first item that is the same as one before it, where the items of `before` stand before all,
 -- and the first of the others has place i
