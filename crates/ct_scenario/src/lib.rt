@@ -3,3 +3,5 @@
 
 pub mod line;
 pub mod parse;
+#[cfg(test)]
+mod tests;
