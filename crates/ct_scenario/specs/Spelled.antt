@@ -1,4 +1,4 @@
--- The one text of each line, and which lines there are.
+-- The one text of each line, and which lines are in their range.
 use Rattle.std.specs.Prelude.{◌≡◌, ℕ, ◌<◌, ◌≤◌, ◌^◌, List, [], ◌∷◌, length, codes, None}
 use Rattle.std.specs.Fmt.{decimal}
 use Rattle.std.specs.List.{join_with_byte}

@@ -4,8 +4,8 @@ ghost use Rattle.ct_scenario.specs.Grammar.{line_of};
 ghost use Rattle.ct_scenario.specs.Spelled.{IsInRange, spelled_line};
 ghost use Rattle.ct_scenario.specs.declared.line.ScenarioLine.{ScenarioLine};
 
-/// A scenario line has one text, and no other bytes are read as it: what is read is in its range and was its text,
-/// and the text of each line in its range is read as that line.
+/// Each line in its range has one text, which is read as that line, and no other bytes are read as it. Nothing out of
+/// its range is read.
 pub fn one_text()
     ensures only { (line : List ℕ) (item : ScenarioLine) → line_of line ≡ Some item → IsInRange item × (line ≡ spelled_line item) }
     ensures back { (item : ScenarioLine) → IsInRange item → line_of (spelled_line item) ≡ Some item }

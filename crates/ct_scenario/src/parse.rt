@@ -213,8 +213,8 @@ fn read_line(alloc: Global, line: &[u8]) -> Result<ScenarioLine, LineKindFault>
     form(alloc, words.as_slice())
 }
 
-/// Reads one line, without its line feed. `Words` comes exactly where the bytes are the text of no line in its range,
-/// and no other kind comes.
+/// Reads one line, without its line feed. Ok has the line whose text the bytes are. `Words` comes, want of memory apart,
+/// exactly where they are the text of no line in its range, and no other kind comes.
 pub fn parse_line(alloc: Global, line: &[u8]) -> Result<ScenarioLine, LineKindFault>
     ensures exact { Reads result (line_of line.now) }
     ensures found { IfOk result (λ item. IsInRange item × (line.now ≡ spelled_line item)) }
