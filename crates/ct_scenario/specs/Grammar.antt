@@ -1,11 +1,10 @@
 -- The grammar of a scenario's lines: the words of a line, each read by itself, in the forms that there are.
-use Rattle.std.specs.Prelude.{◌≡◌, ℕ, Bool, true, false, ◌&&◌, ◌==◌, nat_le, nat_lt, is_none, if◌then◌else◌, List, [], ◌∷◌, length, codes, Option, None, Some}
+use Rattle.std.specs.Prelude.{ℕ, ◌&&◌, ◌==◌, nat_le, nat_lt, is_none, if◌then◌else◌, List, [], ◌∷◌, length, codes, Option, None, Some}
 use Rattle.std.specs.List.{slice_split}
 use Rattle.std.specs.Str.{bytes_eq}
 use Rattle.ct_bytes.specs.Name.{bad_byte}
 use Rattle.ct_bytes.specs.Number.{number_of}
 use Rattle.ct_bytes.specs.Spelling.{unspelled}
-use Rattle.ct_msg.specs.declared.config.DbDecl.{DbDecl}
 use Rattle.ct_msg.specs.declared.config.DbKind.{DbKind}
 use Rattle.ct_msg.specs.declared.config.DbKind.TheVariants.{Volatile, ReadOnly, Persistent}
 use Rattle.ct_scenario.specs.declared.line.ScenarioLine.{ScenarioLine}

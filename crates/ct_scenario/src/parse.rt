@@ -1,7 +1,8 @@
 //! Reading one line.
-ghost use Rattle.std.specs.Prelude.{◌≡◌, ◌≤◌, ◌^◌, None, IfOk, map, codes, if◌then◌else◌};
+ghost use Rattle.std.specs.Prelude.{◌≡◌, ◌≢◌, ◌≤◌, ◌^◌, None, Err, IfOk, map, codes, if◌then◌else◌};
 ghost use Rattle.ct_scenario.specs.Grammar.{call_line, db_line, form, key_op, key_word, kind_word, line_of, name_word, nodes_line, number_word, value_op, value_word, within, words_of};
 ghost use Rattle.ct_scenario.specs.Reading.{Reads, ReadsBytes};
+ghost use Rattle.ct_scenario.specs.Spelled.{IsInRange, spelled_line};
 ghost use Rattle.std.specs.Str.{bytes_eq};
 ghost use Rattle.ct_bytes.specs.Number.{number_of};
 ghost use Rattle.ct_bytes.specs.Spelling.{unspelled};
@@ -204,11 +205,20 @@ fn words_of(alloc: Global, line: &[u8]) -> Result<Vec<&[u8]>, NoMemory>
     Ok(line.split(|b| *b == b' ').collect(alloc)?)
 }
 
-/// Reads one line, without its line feed.
 #[tactic(auto, unfolding(crate::specs::Grammar::line_of))]
-pub fn parse_line(alloc: Global, line: &[u8]) -> Result<ScenarioLine, LineKindFault>
+fn read_line(alloc: Global, line: &[u8]) -> Result<ScenarioLine, LineKindFault>
     ensures { Reads result (line_of line.now) }
 {
     let words = words_of(alloc, line)?;
     form(alloc, words.as_slice())
+}
+
+/// Reads one line, without its line feed. Ok has the line whose text the bytes are. `Words` comes, want of memory apart,
+/// exactly where they are the text of no line in its range, and no other kind comes.
+pub fn parse_line(alloc: Global, line: &[u8]) -> Result<ScenarioLine, LineKindFault>
+    ensures exact { Reads result (line_of line.now) }
+    ensures found { IfOk result (λ item. IsInRange item × (line.now ≡ spelled_line item)) }
+    ensures words { result ≡ Err (LineKindFault.Kind LineKind.Words) → (item : ScenarioLine) → IsInRange item → line.now ≢ spelled_line item }
+{
+    read_line(alloc, line)
 }
