@@ -42,6 +42,102 @@ fn built(rt: HostRuntime) -> Result<(), Fail> {
     Ok(())
 }
 
+/// A call on key `k`, with its database and the one byte of its value, if it has one.
+#[derive(Clone, Copy)]
+enum Call {
+    Lock(u32),
+    Read(u32),
+    Write(u32, u8),
+    Apply(u32),
+    Store(u32, u8),
+    Unlock(u32),
+    Commit(u32),
+}
+
+/// An answer with the one byte of its value.
+#[derive(Clone, Copy)]
+enum Told {
+    Locked(u8),
+    Read(u8),
+    Written,
+    Stored,
+    Unlocked,
+    Refused(Why),
+}
+
+fn k(alloc: Global) -> Result<Key, Fail> {
+    Ok(Key::new(alloc, b"k")?)
+}
+
+fn v(alloc: Global, byte: u8) -> Result<Value, Fail> {
+    Ok(Value::new(alloc, &[byte])?)
+}
+
+fn lock(alloc: Global, db: u32) -> Result<ClientOp, Fail> {
+    let key = k(alloc)?;
+    Ok(ClientOp::Lock { db, key })
+}
+
+fn read(alloc: Global, db: u32) -> Result<ClientOp, Fail> {
+    let key = k(alloc)?;
+    Ok(ClientOp::Read { db, key })
+}
+
+fn write(alloc: Global, db: u32, byte: u8) -> Result<ClientOp, Fail> {
+    let key = k(alloc)?;
+    let value = v(alloc, byte)?;
+    Ok(ClientOp::Write { db, key, value })
+}
+
+fn apply(alloc: Global, db: u32) -> Result<ClientOp, Fail> {
+    let key = k(alloc)?;
+    let arg = v(alloc, 0)?;
+    let function = 0;
+    Ok(ClientOp::Apply {
+        db,
+        key,
+        function,
+        arg,
+    })
+}
+
+fn store(alloc: Global, db: u32, byte: u8) -> Result<ClientOp, Fail> {
+    let key = k(alloc)?;
+    let value = v(alloc, byte)?;
+    Ok(ClientOp::Store { db, key, value })
+}
+
+fn unlock(alloc: Global, db: u32) -> Result<ClientOp, Fail> {
+    let key = k(alloc)?;
+    Ok(ClientOp::Unlock { db, key })
+}
+
+fn asked(alloc: Global, call: Call) -> Result<ClientOp, Fail> {
+    match call {
+        Call::Lock(db) => lock(alloc, db),
+        Call::Read(db) => read(alloc, db),
+        Call::Write(db, byte) => write(alloc, db, byte),
+        Call::Apply(db) => apply(alloc, db),
+        Call::Store(db, byte) => store(alloc, db, byte),
+        Call::Unlock(db) => unlock(alloc, db),
+        Call::Commit(db) => {
+            let writes = Items::empty(alloc);
+            Ok(ClientOp::Commit { db, writes })
+        }
+    }
+}
+
+fn wanted(alloc: Global, told: Told) -> Result<Answer, Fail> {
+    Ok(match told {
+        Told::Locked(byte) => Answer::Locked(v(alloc, byte)?),
+        Told::Read(byte) => Answer::Read(v(alloc, byte)?),
+        Told::Written => Answer::Written,
+        Told::Stored => Answer::Stored,
+        Told::Unlocked => Answer::Unlocked,
+        Told::Refused(why) => Answer::Refused(why),
+    })
+}
+
 #[test]
 fn answers(rt: HostRuntime) -> Result<(), Fail> {
     let alloc = rt.alloc();
@@ -49,136 +145,29 @@ fn answers(rt: HostRuntime) -> Result<(), Fail> {
     assert!(rt; is_built(&config));
     let mut world = World::new(alloc, &config)?;
     assert_eq!(rt; *world.config(), config);
-    let k = Key::new(alloc, b"k")?;
-    let first = Value::new(alloc, b"1")?;
-    let second = Value::new(alloc, b"2")?;
     let table = [
-        (
-            ClientOp::Unlock {
-                db: 1,
-                key: k.copy()?,
-            },
-            Answer::Refused(Why::NotLocked),
-        ),
-        (
-            ClientOp::Store {
-                db: 1,
-                key: k.copy()?,
-                value: first.copy()?,
-            },
-            Answer::Refused(Why::NotLocked),
-        ),
-        (
-            ClientOp::Read {
-                db: 2,
-                key: k.copy()?,
-            },
-            Answer::Refused(Why::NoSuchDb),
-        ),
-        (
-            ClientOp::Read {
-                db: 1,
-                key: k.copy()?,
-            },
-            Answer::Read(Value::empty(alloc)),
-        ),
-        (
-            ClientOp::Write {
-                db: 1,
-                key: k.copy()?,
-                value: first.copy()?,
-            },
-            Answer::Written,
-        ),
-        (
-            ClientOp::Lock {
-                db: 1,
-                key: k.copy()?,
-            },
-            Answer::Locked(first.copy()?),
-        ),
-        (
-            ClientOp::Lock {
-                db: 1,
-                key: k.copy()?,
-            },
-            Answer::Refused(Why::AlreadyLocked),
-        ),
-        (
-            ClientOp::Write {
-                db: 1,
-                key: k.copy()?,
-                value: second.copy()?,
-            },
-            Answer::Refused(Why::AlreadyLocked),
-        ),
-        (
-            ClientOp::Apply {
-                db: 1,
-                key: k.copy()?,
-                function: 0,
-                arg: second.copy()?,
-            },
-            Answer::Refused(Why::AlreadyLocked),
-        ),
-        (
-            ClientOp::Lock {
-                db: 0,
-                key: k.copy()?,
-            },
-            Answer::Locked(Value::empty(alloc)),
-        ),
-        (
-            ClientOp::Store {
-                db: 1,
-                key: k.copy()?,
-                value: second.copy()?,
-            },
-            Answer::Stored,
-        ),
-        (
-            ClientOp::Read {
-                db: 1,
-                key: k.copy()?,
-            },
-            Answer::Read(second.copy()?),
-        ),
-        (
-            ClientOp::Unlock {
-                db: 1,
-                key: k.copy()?,
-            },
-            Answer::Unlocked,
-        ),
-        (
-            ClientOp::Lock {
-                db: 1,
-                key: k.copy()?,
-            },
-            Answer::Locked(second.copy()?),
-        ),
-        (
-            ClientOp::Apply {
-                db: 1,
-                key: Key::new(alloc, b"l")?,
-                function: 0,
-                arg: first.copy()?,
-            },
-            Answer::Refused(Why::NoSuchCall),
-        ),
-        (
-            ClientOp::Commit {
-                db: 1,
-                writes: Items::empty(alloc),
-            },
-            Answer::Refused(Why::WrongKind),
-        ),
+        (Call::Unlock(1), Told::Refused(Why::NotLocked)),
+        (Call::Store(1, 1), Told::Refused(Why::NotLocked)),
+        (Call::Read(2), Told::Refused(Why::NoSuchDb)),
+        (Call::Write(0, 9), Told::Written),
+        (Call::Write(1, 1), Told::Written),
+        (Call::Lock(1), Told::Locked(1)),
+        (Call::Lock(1), Told::Refused(Why::AlreadyLocked)),
+        (Call::Write(1, 2), Told::Refused(Why::AlreadyLocked)),
+        (Call::Apply(1), Told::Refused(Why::AlreadyLocked)),
+        (Call::Apply(0), Told::Refused(Why::NoSuchCall)),
+        (Call::Lock(0), Told::Locked(9)),
+        (Call::Store(1, 2), Told::Stored),
+        (Call::Read(1), Told::Read(2)),
+        (Call::Unlock(1), Told::Unlocked),
+        (Call::Lock(1), Told::Locked(2)),
+        (Call::Commit(1), Told::Refused(Why::WrongKind)),
     ];
-    let mut call = 0;
-    for (op, answer) in table {
-        call = 1 + call % 100;
-        let lines = world.apply(&client(op))?;
-        assert_eq!(rt; lines, line(alloc, call, answer)?);
+    for (i, (call, told)) in table.iter().enumerate() {
+        let step = client(asked(alloc, *call)?);
+        let lines = world.apply(&step)?;
+        let number = i as u64 + 1;
+        assert_eq!(rt; lines, line(alloc, number, wanted(alloc, *told)?)?);
     }
     Ok(())
 }
