@@ -4,4 +4,6 @@
 pub mod player;
 pub mod run;
 pub mod session;
+#[cfg(test)]
+mod tests;
 pub mod text;

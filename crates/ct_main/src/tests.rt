@@ -1,0 +1,342 @@
+//! Runs of the top call with ample memory, and the text of what is printed.
+ghost use Rattle.std.specs.Prelude.{None};
+
+use crate::run::run;
+use crate::session::What;
+use crate::text::{line_text, push_what};
+use ct_bytes::items::Items;
+use ct_bytes::value::Value;
+use ct_msg::client::{Answer, Why};
+use ct_outside::fault::{Failed, SinkFault};
+use ct_outside::memory::{MemSink, MemSource};
+use ct_outside::sink::Sink;
+use ct_outside::source::Source;
+use ct_world::step::Line;
+use std::alloc::Global;
+use std::test::Fail;
+
+const SESSION: &str =
+    "nodes 1\ndb t volatile\nlock 0 t k\nstore 0 t k v1\nunlock 0 t k\nread 0 t k\n";
+
+const ANSWERS: &str = "answer 1 locked -\nanswer 2 stored\nanswer 3 unlocked\nanswer 4 read v1\n";
+
+// Gives a few bytes a call.
+#[derive(Drop)]
+struct Slow {
+    bytes: &'static [u8],
+    most: usize,
+}
+
+impl Source for Slow {
+    ghost left = { λ _. None };
+
+    ghost faults = { λ _. 0 };
+
+    fn read(&mut self, into: &mut [u8]) -> Result<usize, Failed> {
+        let count = self.most.min(into.len()).min(self.bytes.len());
+        into[..count].copy_from_slice(&self.bytes[..count]);
+        self.bytes = &self.bytes[count..];
+        Ok(count)
+    }
+}
+
+// Takes a few bytes a call, one at least, and counts the calls.
+#[derive(Drop)]
+struct Narrow {
+    bytes: Vec<u8>,
+    most: usize,
+    calls: u64,
+}
+
+impl Narrow {
+    fn new(alloc: Global, most: usize) -> Narrow {
+        Narrow {
+            bytes: Vec::new(alloc),
+            most,
+            calls: 0,
+        }
+    }
+}
+
+impl Sink for Narrow {
+    ghost held = { λ _. None };
+
+    ghost faults = { λ _. 0 };
+
+    fn write(&mut self, piece: &[u8]) -> Result<usize, SinkFault> {
+        self.calls = self.calls.saturating_add(1);
+        let count = self.most.max(1).min(piece.len());
+        self.bytes.extend_from_slice(&piece[..count])?;
+        Ok(count)
+    }
+}
+
+// Words, an input, which calls of the input, out and err fail, and the status, out and err that come of it.
+type Case = (
+    &'static [&'static str],
+    &'static str,
+    [&'static [u64]; 3],
+    (u8, &'static str, &'static str),
+);
+
+const PLAY: &[&str] = &["play"];
+
+const NONE: [&[u64]; 3] = [&[], &[], &[]];
+
+const SCENARIOS: [Case; 15] = [
+    (PLAY, SESSION, NONE, (0, ANSWERS, "")),
+    (PLAY, "", NONE, (0, "", "")),
+    (PLAY, "nodes 1\n", NONE, (0, "", "")),
+    (PLAY, "\n", NONE, (2, "", "ctdbsim: line 1: words\n")),
+    (PLAY, "nodes 0\n", NONE, (2, "", "ctdbsim: line 1: words\n")),
+    (PLAY, "nodes 2\n", NONE, (2, "", "ctdbsim: line 1: words\n")),
+    (PLAY, "nodes 1", NONE, (2, "", "ctdbsim: line 1: unended\n")),
+    (
+        PLAY,
+        "nodes 1\nlock 0 t k",
+        NONE,
+        (2, "", "ctdbsim: line 2: unended\n"),
+    ),
+    (
+        PLAY,
+        "nodes 1\ndb t volatile\nlock 1 t k\n",
+        NONE,
+        (2, "", "ctdbsim: line 3: no-such-node 1\n"),
+    ),
+    (
+        PLAY,
+        "nodes 1\ndb t volatile\nlock 0 t k\nlock 1 t k\nread 0 t k\n",
+        NONE,
+        (
+            2,
+            "answer 1 locked -\n",
+            "ctdbsim: line 4: no-such-node 1\n",
+        ),
+    ),
+    (
+        PLAY,
+        "nodes 1\ndb t volatile\nunlock 0 t k\nlock 0 u k\nlock 0 t k\nlock 0 t k\n",
+        NONE,
+        (
+            0,
+            "answer 1 refused not-locked\nanswer 2 refused no-such-db\nanswer 3 locked -\nanswer 4 refused already-locked\n",
+            "",
+        ),
+    ),
+    (
+        PLAY,
+        "nodes 1\ndb t volatile\ndb u volatile\n",
+        NONE,
+        (2, "", "ctdbsim: line 3: words\n"),
+    ),
+    (
+        PLAY,
+        "nodes 1\nnodes 1\n",
+        NONE,
+        (2, "", "ctdbsim: line 2: words\n"),
+    ),
+    (
+        PLAY,
+        "nodes 1\ndb g_lock volatile\n",
+        NONE,
+        (2, "", "ctdbsim: line 2: words\n"),
+    ),
+    (
+        PLAY,
+        "nodes 1\ndb t persistent\n",
+        NONE,
+        (2, "", "ctdbsim: line 2: words\n"),
+    ),
+];
+
+const USAGE: &str = "ctdbsim: usage\n";
+
+const WORDS: [Case; 9] = [
+    (&["play", "--"], SESSION, NONE, (0, ANSWERS, "")),
+    (&[], SESSION, NONE, (1, "", USAGE)),
+    (&["play", "x"], SESSION, NONE, (1, "", USAGE)),
+    (&["--help"], SESSION, NONE, (1, "", USAGE)),
+    (&["Play"], SESSION, NONE, (1, "", USAGE)),
+    (&["--"], SESSION, NONE, (1, "", USAGE)),
+    (&["--", "play"], SESSION, NONE, (1, "", USAGE)),
+    (&["play", "--", "--"], SESSION, NONE, (1, "", USAGE)),
+    (&["x"], SESSION, [&[1], &[1], &[1]], (4, "", "")),
+];
+
+const FAULTS: [Case; 6] = [
+    (
+        PLAY,
+        SESSION,
+        [&[], &[3], &[]],
+        (
+            4,
+            "answer 1 locked -\nanswer 2 stored\n",
+            "ctdbsim: write fault\n",
+        ),
+    ),
+    (PLAY, SESSION, [&[], &[5], &[1]], (0, ANSWERS, "")),
+    (
+        PLAY,
+        SESSION,
+        [&[1], &[], &[]],
+        (3, "", "ctdbsim: read fault\n"),
+    ),
+    (
+        PLAY,
+        SESSION,
+        [&[2], &[], &[]],
+        (3, ANSWERS, "ctdbsim: read fault\n"),
+    ),
+    (PLAY, SESSION, [&[1], &[], &[1]], (4, "", "")),
+    (PLAY, "nodes 2\n", [&[], &[], &[1]], (4, "", "")),
+];
+
+fn strings(alloc: Global, words: &[&str]) -> Result<Vec<String>, Fail> {
+    let mut strings = Vec::new(alloc);
+    for word in words {
+        strings.push(String::from_str(alloc, word)?)?;
+    }
+    Ok(strings)
+}
+
+fn agrees(alloc: Global, case: &Case) -> Result<bool, Fail> {
+    let (words, input, [input_fails, out_fails, err_fails], (status, out, err)) = *case;
+    let words = strings(alloc, words)?;
+    let bytes = Vec::from_slice(alloc, input.as_bytes())?;
+    let mut source = MemSource::new(bytes, Vec::from_slice(alloc, input_fails)?);
+    let mut held = MemSink::new(alloc, Vec::from_slice(alloc, out_fails)?);
+    let mut said = MemSink::new(alloc, Vec::from_slice(alloc, err_fails)?);
+    let got = run(alloc, words.as_slice(), &mut source, &mut held, &mut said);
+    Ok(got == status && held.held() == out.as_bytes() && said.held() == err.as_bytes())
+}
+
+#[test]
+fn runs(rt: HostRuntime) -> Result<(), Fail> {
+    let tables: [&[Case]; 3] = [&SCENARIOS, &WORDS, &FAULTS];
+    for (table, cases) in tables.iter().enumerate() {
+        for (row, case) in cases.iter().enumerate() {
+            assert!(rt; agrees(rt.alloc(), case)?, "at {row} of {table}");
+        }
+    }
+    Ok(())
+}
+
+// A line that is printed is one write, where the sink takes it whole.
+#[test]
+fn pieces(rt: HostRuntime) -> Result<(), Fail> {
+    let alloc = rt.alloc();
+    let words = strings(alloc, PLAY)?;
+    for (give, take, calls) in [(1, 1, 69), (1, 100, 4), (100, 1, 69), (3, 7, 12)] {
+        let mut source = Slow {
+            bytes: SESSION.as_bytes(),
+            most: give,
+        };
+        let mut held = Narrow::new(alloc, take);
+        let mut said = Narrow::new(alloc, take);
+        assert_eq!(rt;
+            run(alloc, words.as_slice(), &mut source, &mut held, &mut said),
+            0
+        );
+        assert_eq!(rt; held.bytes.as_slice(), ANSWERS.as_bytes());
+        assert_eq!(rt; (held.calls, said.calls), (calls, 0));
+    }
+    Ok(())
+}
+
+// What is said of an input of so many letters and this end, after its first line.
+fn said_of_letters(alloc: Global, letters: usize, end: &[u8]) -> Result<MemSink, Fail> {
+    let words = strings(alloc, PLAY)?;
+    let mut bytes = Vec::from_slice(alloc, b"nodes 1\n")?;
+    for _ in 0..letters {
+        bytes.push(b'a')?;
+    }
+    bytes.extend_from_slice(end)?;
+    let mut source = MemSource::new(bytes, Vec::new(alloc));
+    let mut held = MemSink::new(alloc, Vec::new(alloc));
+    let mut said = MemSink::new(alloc, Vec::new(alloc));
+    run(alloc, words.as_slice(), &mut source, &mut held, &mut said);
+    Ok(said)
+}
+
+#[test]
+fn long_lines(rt: HostRuntime) -> Result<(), Fail> {
+    let cases: [(usize, &[u8], &str); 4] = [
+        (65535, b"", "ctdbsim: line 2: unended\n"),
+        (65536, b"", "ctdbsim: line 2: words\n"),
+        (65535, b"\n", "ctdbsim: line 2: words\n"),
+        (65536, b"\n", "ctdbsim: line 2: words\n"),
+    ];
+    for (letters, end, err) in cases {
+        let said = said_of_letters(rt.alloc(), letters, end)?;
+        assert_eq!(rt; said.held(), err.as_bytes());
+    }
+    Ok(())
+}
+
+const REFUSED: [(Why, &str); 10] = [
+    (Why::NoSuchDb, "answer 1 refused no-such-db\n"),
+    (Why::WrongKind, "answer 1 refused wrong-kind\n"),
+    (Why::NotServing, "answer 1 refused not-serving\n"),
+    (Why::CallPending(4), "answer 1 refused call-pending 4\n"),
+    (Why::CommitPending, "answer 1 refused commit-pending\n"),
+    (Why::AlreadyLocked, "answer 1 refused already-locked\n"),
+    (Why::NotLocked, "answer 1 refused not-locked\n"),
+    (Why::NoSuchCall, "answer 1 refused no-such-call\n"),
+    (Why::Full, "answer 1 refused full\n"),
+    (Why::TooLong(1025), "answer 1 refused too-long 1025\n"),
+];
+
+fn shows(alloc: Global, call: u64, answer: Answer, text: &str) -> Result<bool, Fail> {
+    let shown = line_text(alloc, &Line::Answered { call, answer })?;
+    Ok(shown.as_slice() == text.as_bytes())
+}
+
+#[test]
+fn answers(rt: HostRuntime) -> Result<(), Fail> {
+    let alloc = rt.alloc();
+    for (why, text) in &REFUSED {
+        assert!(rt; shows(alloc, 1, Answer::Refused(*why), text)?, "at {text}");
+    }
+    let read = Value::new(alloc, b"v")?;
+    let applied = Value::new(alloc, b"a b")?;
+    let missing = Items::new(Vec::from_slice(alloc, &[1, 2])?);
+    let cases = [
+        (Answer::Locked(Value::empty(alloc)), "answer 10 locked -\n"),
+        (Answer::Read(read), "answer 10 read v\n"),
+        (Answer::Written, "answer 10 written\n"),
+        (Answer::Applied(applied), "answer 10 applied a%20b\n"),
+        (Answer::Stored, "answer 10 stored\n"),
+        (Answer::Unlocked, "answer 10 unlocked\n"),
+        (Answer::Committed(7), "answer 10 committed 7\n"),
+        (
+            Answer::Unsure { seq: 3, missing },
+            "answer 10 unsure 3 1,2\n",
+        ),
+        (
+            Answer::Unsure {
+                seq: 3,
+                missing: Items::empty(alloc),
+            },
+            "answer 10 unsure 3 -\n",
+        ),
+    ];
+    for (answer, text) in cases {
+        assert!(rt; shows(alloc, 10, answer, text)?, "at {text}");
+    }
+    Ok(())
+}
+
+#[test]
+fn refusals(rt: HostRuntime) -> Result<(), Fail> {
+    let cases = [
+        (What::Words, "words"),
+        (What::NoSuchNode(4294967295), "no-such-node 4294967295"),
+        (What::Exhausted, "exhausted"),
+    ];
+    for (what, wanted) in cases {
+        let mut text = Vec::new(rt.alloc());
+        push_what(&mut text, what)?;
+        assert_eq!(rt; text.as_slice(), wanted.as_bytes());
+    }
+    Ok(())
+}
