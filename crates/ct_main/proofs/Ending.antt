@@ -1,12 +1,11 @@
 -- How a play ends, by the bytes that it took.
-use Rattle.std.proofs.Common.{◌≡◌, ◌≢◌, ℕ, ◌+◌, ◌-◌, ◌<◌, ◌≤◌, List, [], ◌∷◌, ◌++◌, length, cond, Option, None, Some, Result, Ok, Err, refl, sym, ap, subst, ◌∙◌, append_assoc, append-nil, length-append, arith}
-use Rattle.std.specs.Io.KnownBytes.{Appends, Consumes, IsAtEnd}
+use Rattle.std.proofs.Common.{◌≡◌, ℕ, ◌<◌, ◌≤◌, List, [], ◌∷◌, ◌++◌, length, cond, Option, None, Some, Err, refl, sym, ap, subst, ◌∙◌, append_assoc, append-nil, arith}
+use Rattle.std.specs.Io.KnownBytes.{Appends, IsAtEnd}
 use Rattle.std.proofs.KnownBytes.{Appends-nil, Appends-trans}
 use Rattle.std.proofs.lemmas.Bool.{le-ltb}
-use Rattle.ct_outside.specs.Causes.{AppendsPart}
 use Rattle.ct_main.specs.Claims.{Ends, most_bytes}
 use Rattle.ct_main.specs.Feeding.{EndsOn, Fed, Feeds, TookNone, end_at, end_of, run_on}
-use Rattle.ct_main.specs.Play.{Run, ended, rest_after, run_from, told}
+use Rattle.ct_main.specs.Play.{ended, run_from, told}
 use Rattle.ct_main.specs.Session.{longest, start}
 use Rattle.ct_main.specs.declared.player.End.{End}
 use Rattle.ct_main.specs.declared.player.End.TheVariants as end

@@ -1,9 +1,8 @@
 -- The registers are kept by every line of a scenario.
-use Rattle.std.proofs.Common.{◌≡◌, ◌≢◌, ◌==◌, ◌&&◌, ℕ, List, [], ◌∷◌, ◌++◌, Bool, true, false, cond, not, codes, Option, None, Some, Result, Ok, Err, refl, sym, ap, subst, ◌∙◌, append_assoc, append-nil}
+use Rattle.std.proofs.Common.{◌≡◌, ◌≢◌, ◌==◌, ◌&&◌, ℕ, List, [], ◌∷◌, ◌++◌, Bool, true, false, cond, not, codes, Option, None, Some, Result, Ok, Err, refl, sym, subst, ◌∙◌, append_assoc, append-nil}
 use Rattle.std.specs.Str.{bytes_eq}
 use Rattle.std.proofs.lemmas.List.Elements.{All-nil, All-cons}
 use Rattle.ct_msg.specs.Config.{lock_db}
-use Rattle.ct_msg.specs.declared.config.Config.{Config}
 use Rattle.ct_msg.specs.declared.config.DbDecl.{DbDecl}
 use Rattle.ct_msg.specs.declared.config.DbKind.{DbKind}
 use Rattle.ct_msg.specs.declared.config.DbKind.TheVariants.{Volatile, ReadOnly, Persistent}
@@ -17,8 +16,8 @@ use Rattle.ct_world.specs.declared.step.Step.{Step}
 use Rattle.ct_world.specs.declared.step.Step.TheVariants.{Client}
 use Rattle.ct_world.specs.declared.step.StepFault.{StepFault}
 use Rattle.ct_world.proofs.Registers.{kept_opening, kept_step}
-use Rattle.ct_main.specs.Play.{Run, continued, ended, lines_after, played, rest_after, run_from, run_lines, told, with_rest}
-use Rattle.ct_main.specs.Session.{Played, client_op, db_number, item_played, line_played, longest, may_declare, one_node, outcome, placed, quiet, start, stepped, with_db, is_volatile}
+use Rattle.ct_main.specs.Play.{Run, continued, lines_after, played, run_from, run_lines}
+use Rattle.ct_main.specs.Session.{Played, client_op, db_number, item_played, line_played, may_declare, one_node, outcome, placed, start, with_db, is_volatile}
 use Rattle.ct_main.specs.declared.session.Place.{Place}
 use Rattle.ct_main.specs.declared.session.Place.TheVariants.{First, Second, Later}
 use Rattle.ct_main.specs.declared.session.Session.{Session}

@@ -1,6 +1,4 @@
 use Rattle.std.proofs.Common.{Err, arith, sym, subst, ◌∙◌}
-use Rattle.std.specs.Io.KnownBytes.{Appends}
-use Rattle.ct_outside.specs.Causes.{AppendsPart}
 use Rattle.ct_main.specs.Feeding.{Prints}
 use Rattle.ct_main.proofs.Printing.{printed_line_part, printed_part}
 use Rattle.ct_main.proofs.player.print.Goals as goal
