@@ -77,6 +77,7 @@ ends_after (end.Unended line) q b d left a m c f g z h =
     let e = f.goes_on d in (
       g.0,
       (λ n. g.1 (sym (f.rests d) ∙ n)),
+      subst (λ x. length (b ++ x) < most_bytes) (sym z) (subst (λ x. length x < most_bytes) (sym (append-nil b)) h),
       omega (arith, g.2, f.counted, ap (λ r. r.count) e),
       record { unrefused = ap (λ r. r.refusal) e ∙ g.3; text = subst (Appends a c) (sym (ap (λ r. r.text) e)) (Appends-trans a m c f.text _ f.wrote g.4) },
     )

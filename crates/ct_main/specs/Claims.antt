@@ -27,7 +27,7 @@ abbrev pub Ends : End → List ℕ → Option (List ℕ) → Option (List ℕ) �
 -- the input was read to its end, and it has no unended line
 Ends end.Read bytes left before now = IsAtEnd left × (rest bytes ≡ []) × (length bytes < most_bytes) × WholeText bytes before now
 -- the input ended inside a line, the one after those that were played
-Ends (end.Unended line) bytes left before now = IsAtEnd left × (rest bytes ≢ []) × (line ≡ (played bytes).count + 1) × WholeText bytes before now
+Ends (end.Unended line) bytes left before now = IsAtEnd left × (rest bytes ≢ []) × (length bytes < most_bytes) × (line ≡ (played bytes).count + 1) × WholeText bytes before now
 -- a line was refused, the first such; out gained the text before it
 Ends (end.Refused line what) bytes left before now = ((played bytes).refusal ≡ Some what) × (line ≡ (played bytes).count + 1) × Appends before now (played bytes).text
 Ends end.ReadFault bytes left before now = (length bytes < most_bytes) × WholeText bytes before now

@@ -63,6 +63,7 @@ pub record Played : Type 0 where
 abbrev pub quiet : Place → Cluster → Result Played What
 quiet place world = Ok (record { session = record { place = place; world = world }; lines = []; labels = [] })
 
+-- why a step is refused, as why its line is; the rule of a step never wants memory
 abbrev pub what_of : StepFault → What
 what_of (fault.NoSuchNode node) = what.NoSuchNode node
 what_of fault.Exhausted = what.Exhausted
