@@ -1,7 +1,7 @@
 -- A `HashMap` from keys as a map by ascending key.
-use Rattle.std.proofs.Common.{◌≡◌, ◌≢◌, ℕ, Result, Ok, Err, OnErr, ◌+◌, suc, Bool, true, false, cond, List, [], ◌∷◌, length, Option, Some, None, refl, sym, ◌∙◌, ap, subst, arith}
+use Rattle.std.proofs.Common.{◌≡◌, ℕ, Result, Ok, Err, OnErr, ◌+◌, suc, Bool, true, false, cond, List, [], ◌∷◌, length, Option, Some, None, refl, sym, ◌∙◌, ap, subst, arith}
 use Rattle.std.specs.Prelude.{is_some, map, nat_eq}
-use Rattle.std.specs.Ordering.{is_eq, eq_by_cmp, match_ordering}
+use Rattle.std.specs.Ordering.{match_ordering}
 use Rattle.std.specs.declared.cmp.Ordering.TheVariants.{Less, Equal, Greater}
 use Rattle.std.specs.Option.{option_copied_mut, IsSome, OnSome}
 use Rattle.std.specs.Borrow.{Bor, MutBor}
@@ -13,7 +13,7 @@ use Rattle.std.specs.Map.Iter.{deref_pair}
 use Rattle.std.specs.BTreeMap.{is_at, insert_entry}
 use Rattle.ct_store.specs.Map.{Pairs, Ascends, key_cmp, look, write, erase}
 use Rattle.ct_store.specs.Hashed.{ordered}
-use Rattle.ct_store.proofs.Maps.{key_total, one_key, equal, same_map, look-write, look-erase, write_ascends, write_length, erase_ascends, empty_ascends, lent}
+use Rattle.ct_store.proofs.Maps.{key_total, one_key, equal, same_map, look-write, look-erase, write_ascends, write_length, erase_ascends, empty_ascends}
 
 -- the test of keys that a `HashMap` makes
 abbrev pub same : List ℕ → List ℕ → Bool

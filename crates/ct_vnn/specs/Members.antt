@@ -8,7 +8,7 @@ use Rattle.ct_vnn.specs.declared.map.MapFault.TheVariants.{Empty, Repeated, NoMe
 -- the first of the numbers that repeats one before it, where those of `before` stand before all
 abbrev pub repeat_after : List ℕ → List ℕ → Option ℕ
 repeat_after before [] = None
-repeat_after before (n ∷ ns) = if list_any (λ m. m == n) before then Some n else repeat_after (before ++ n ∷ []) ns
+repeat_after before (n ∷ ns) = if list_any (λ m. n == m) before then Some n else repeat_after (before ++ n ∷ []) ns
 
 -- the first of the numbers that repeats an earlier one
 abbrev pub repeat : List ℕ → Option ℕ

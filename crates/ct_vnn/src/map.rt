@@ -1,6 +1,6 @@
 //! The map of virtual node numbers.
-ghost use Rattle.std.specs.Prelude.{◌≡◌, ◌==◌, IfOk, Some};
-ghost use Rattle.std.specs.List.{list_any};
+ghost use Rattle.std.specs.Prelude.{ℕ, ◌≡◌, ◌==◌, IfOk, List, Some, nat_eq};
+ghost use Rattle.std.specs.List.{IsDistinct, list_any};
 ghost use Rattle.ct_vnn.specs.Members.{repeat, AreMembers, Maps, member_of};
 
 use ct_bytes::hash::hash;
@@ -51,9 +51,9 @@ impl Model for VnnMap {
 }
 
 fn stands_in(before: &[u32], member: u32) -> bool
-    ensures { result ≡ list_any (λ m. m == member) before.now }
+    ensures { result ≡ list_any (λ m. member == m) before.now }
 {
-    before.iter().any(|m| *m == member)
+    before.iter().any(|m| member == *m)
 }
 
 /// The first member that repeats an earlier one.
@@ -108,3 +108,8 @@ pub fn lmaster(map: &VnnMap, key: &Key) -> u32
     let members = map.members();
     members[hash(key) as usize % members.len()]
 }
+
+/// The members of a map all differ.
+pub fn members_differ()
+    ensures { (members : List ℕ) → AreMembers members → IsDistinct nat_eq members }
+{}

@@ -1,4 +1,4 @@
-use Rattle.std.proofs.Common.{◌+◌, ◌≡◌}
+use Rattle.std.proofs.Common.{◌+◌}
 use Rattle.ct_store.proofs.Playing.{after_more, replies_more, after_some}
 use Rattle.ct_store.proofs.calls.run_calls.Goals as goal
 

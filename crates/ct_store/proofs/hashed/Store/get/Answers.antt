@@ -1,4 +1,4 @@
-use Rattle.std.proofs.Common.{◌≡◌, ap, sym, ◌∙◌}
+use Rattle.std.proofs.Common.{ap, sym, ◌∙◌}
 use Rattle.ct_store.specs.Map.{look}
 use Rattle.ct_store.proofs.Hashing.{look-ordered}
 use Rattle.ct_store.proofs.hashed.Store.get.Goals as goal

@@ -1,4 +1,4 @@
-use Rattle.std.proofs.Common.{◌≡◌, length, ap, sym, subst, ◌∙◌}
+use Rattle.std.proofs.Common.{length, ap, sym, subst, ◌∙◌}
 use Rattle.ct_store.specs.Map.{Ascends}
 use Rattle.ct_store.proofs.Hashing.{ordered_ascends, ordered_length}
 use Rattle.ct_store.proofs.hashed.Store.len.Goals as goal

@@ -1,4 +1,4 @@
-use Rattle.std.proofs.Common.{◌≡◌, ap, sym, ◌∙◌}
+use Rattle.std.proofs.Common.{ap, sym, ◌∙◌}
 use Rattle.ct_store.specs.Map.{look, write}
 use Rattle.ct_store.proofs.Hashing.{look-ordered, one_put, on_err}
 use Rattle.ct_store.proofs.hashed.Store.put.Goals as goal

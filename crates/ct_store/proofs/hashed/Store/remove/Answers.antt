@@ -1,4 +1,4 @@
-use Rattle.std.proofs.Common.{◌≡◌, ap, sym, ◌∙◌}
+use Rattle.std.proofs.Common.{ap, sym, ◌∙◌}
 use Rattle.ct_store.specs.Map.{look, erase}
 use Rattle.ct_store.proofs.Hashing.{look-ordered, one_taken}
 use Rattle.ct_store.proofs.hashed.Store.remove.Goals as goal
