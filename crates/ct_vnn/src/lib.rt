@@ -1,0 +1,6 @@
+//! The map of virtual node numbers, which tells for each key the node that knows where its record is.
+#![tactic(auto)]
+
+pub mod map;
+#[cfg(test)]
+mod tests;
