@@ -1,0 +1,2 @@
+pub mod Vacuum
+pub mod Code
