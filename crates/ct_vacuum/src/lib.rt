@@ -1,6 +1,7 @@
-//! The two phases in which one key is taken out of a database.
+//! Taking keys out of a database: the two phases for one key, and the keys that may be taken out.
 #![tactic(auto)]
 
+pub mod candidates;
 #[cfg(test)]
 mod tests;
 pub mod vacuum;

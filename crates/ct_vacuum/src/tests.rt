@@ -1,5 +1,7 @@
+use crate::candidates::Candidates;
 use crate::vacuum::{Vacuum, VacuumPhase};
 use ct_bytes::copies::Duplicate;
+use ct_bytes::key::Key;
 use std::test::Fail;
 
 #[test]
@@ -51,5 +53,42 @@ fn one_other(rt: HostRuntime) -> Result<(), Fail> {
     assert!(rt; vacuum.deleted(3, 0));
     assert_eq!(rt; copy.missing(), [3].as_slice());
     assert!(rt; copy.deleted(3, 0));
+    Ok(())
+}
+
+/// A call, on a key of one byte.
+#[derive(Clone, Copy)]
+enum Call {
+    Note(u8),
+    Forget(u8),
+}
+
+#[test]
+fn candidates(rt: HostRuntime) -> Result<(), Fail> {
+    let alloc = rt.alloc();
+    let table = [
+        (Call::Forget(b'b'), ""),
+        (Call::Note(b'b'), "b"),
+        (Call::Note(b'c'), "bc"),
+        (Call::Note(b'a'), "abc"),
+        (Call::Note(b'b'), "abc"),
+        (Call::Forget(b'b'), "ac"),
+        (Call::Forget(b'b'), "ac"),
+        (Call::Forget(b'c'), "a"),
+        (Call::Note(b'b'), "ab"),
+        (Call::Forget(b'a'), "b"),
+    ];
+    let mut candidates = Candidates::new(alloc);
+    for (call, wanted) in table {
+        match call {
+            Call::Note(byte) => candidates.note(&Key::new(alloc, &[byte])?)?,
+            Call::Forget(byte) => candidates.forget(&Key::new(alloc, &[byte])?),
+        }
+        let mut seen = Vec::new(alloc);
+        for key in &candidates.sorted()? {
+            seen.extend_from_slice(key.bytes())?;
+        }
+        assert_eq!(rt; seen.as_slice(), wanted.as_bytes(), "{wanted}");
+    }
     Ok(())
 }
