@@ -1,0 +1,7 @@
+//! Taking keys out of a database: the two phases for one key, and the keys that may be taken out.
+#![tactic(auto)]
+
+pub mod candidates;
+#[cfg(test)]
+mod tests;
+pub mod vacuum;
