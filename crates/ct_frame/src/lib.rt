@@ -1,0 +1,12 @@
+//! What nodes tell each other: headers and frames, events and what comes of them, rounds and plans, and the rules of a
+//! frame's fields.
+#![tactic(auto)]
+
+pub mod event;
+pub mod fields;
+pub mod frame;
+pub mod header;
+pub mod plan;
+pub mod round;
+#[cfg(test)]
+mod tests;

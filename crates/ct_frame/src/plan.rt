@@ -1,0 +1,64 @@
+//! What the nodes of a cluster are to do, each by itself.
+ghost use Rattle.std.specs.Prelude.{◌≡◌, IfOk};
+
+use ct_bytes::copies::Duplicate;
+use ct_bytes::items::Items;
+use ct_bytes::memory::NoMemory;
+use ct_msg::client::ClientOp;
+use ct_msg::config::Config;
+
+/// What a node does next.
+#[derive(Debug, Drop, PartialEq, Eq)]
+pub enum PlanItem {
+    /// A client of the node asks this.
+    Call(ClientOp),
+    /// The node leads a recovery of these members.
+    Round(Items<u32>),
+}
+
+impl PlanItem {
+    /// A copy that equals it.
+    pub fn copy(&self) -> Result<PlanItem, NoMemory>
+        ensures { IfOk result (λ x. x ≡ self.now) }
+    {
+        match self {
+            PlanItem::Call(op) => Ok(PlanItem::Call(op.copy()?)),
+            PlanItem::Round(members) => Ok(PlanItem::Round(members.duplicate()?)),
+        }
+    }
+}
+
+impl Duplicate for PlanItem {
+    fn duplicate(&self) -> Result<PlanItem, NoMemory> {
+        self.copy()
+    }
+}
+
+/// What each node of a cluster does, in order.
+#[derive(Debug, Drop, PartialEq, Eq)]
+pub struct Plan {
+    pub config: Config,
+    /// One list a node, in the order of their numbers.
+    pub scripts: Items<Items<PlanItem>>,
+    /// Whether the nodes talk over sockets.
+    pub net: bool,
+}
+
+impl Plan {
+    /// A copy that equals it.
+    pub fn copy(&self) -> Result<Plan, NoMemory>
+        ensures { IfOk result (λ x. x ≡ self.now) }
+    {
+        Ok(Plan {
+            config: self.config.copy()?,
+            scripts: self.scripts.duplicate()?,
+            net: self.net,
+        })
+    }
+}
+
+impl Duplicate for Plan {
+    fn duplicate(&self) -> Result<Plan, NoMemory> {
+        self.copy()
+    }
+}
