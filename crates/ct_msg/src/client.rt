@@ -45,7 +45,7 @@ pub enum ClientOp {
         db: u32,
         key: Key,
     },
-    /// Write a value under the lock of a record.
+    /// Write a value to a record in one step, with no lock held before.
     Write {
         db: u32,
         key: Key,
@@ -58,7 +58,7 @@ pub enum ClientOp {
         function: u32,
         arg: Value,
     },
-    /// Write a value to a record in one step, with no lock held before.
+    /// Write a value under the lock of a record, which the node holds.
     Store {
         db: u32,
         key: Key,
