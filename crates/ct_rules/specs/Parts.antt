@@ -1,0 +1,194 @@
+-- The parts that the rules of one record are made of: each is a function from the middle of a step to the middle of a step.
+use Rattle.std.specs.Prelude.{ℕ, ◌+◌, ◌-◌, ◌^◌, ◌==◌, nat_eq, nat_le, nat_lt, Bool, true, false, not, ◌&&◌, ◌||◌, if◌then◌else◌, List, [], ◌∷◌, ◌++◌, Option, None, Some, is_none, Result, Ok, Err}
+use Rattle.ct_msg.specs.declared.client.Answer.{Answer}
+use Rattle.ct_msg.specs.declared.client.Answer.TheVariants as answer
+use Rattle.ct_msg.specs.declared.client.ClientOp.{ClientOp}
+use Rattle.ct_msg.specs.declared.client.ClientOp.TheVariants as op
+use Rattle.ct_msg.specs.declared.client.Why.TheVariants as why
+use Rattle.ct_frame.specs.declared.frame.Msg.{Msg}
+use Rattle.ct_frame.specs.declared.frame.Msg.TheVariants as msg
+use Rattle.ct_frame.specs.declared.frame.CallKind.{CallKind}
+use Rattle.ct_frame.specs.declared.frame.CallKind.TheVariants as kind
+use Rattle.ct_frame.specs.declared.header.RecCopy.{RecCopy}
+use Rattle.ct_call.specs.Rules.{Rules}
+use Rattle.ct_call.specs.Table.{applied}
+use Rattle.ct_call.specs.declared.fault.CallFault.{CallFault}
+use Rattle.ct_call.specs.declared.fault.CallFault.TheVariants as fault
+use Rattle.ct_deleg.specs.Tracked.{Tracked, Revocation, untracked, added, begun}
+use Rattle.ct_rules.specs.State.{is_nil, plain, delegated, being_revoked, a_copy, rsn_of, value_of, is_mastered, is_for_reading, with_value, with_flags, raised, given, is_quiet, is_free, is_read_op, is_read_kind, kind_of, is_wished}
+use Rattle.ct_rules.specs.declared.state.Entry.{Entry}
+use Rattle.ct_rules.specs.declared.state.RecState.{RecState}
+use Rattle.ct_rules.specs.declared.state.RecallNote.{RecallNote}
+use Rattle.ct_rules.specs.declared.state.Waiter.{Waiter}
+use Rattle.ct_rules.specs.declared.state.Wish.{Wish}
+use Rattle.ct_rules.specs.declared.event.Act.{Act}
+use Rattle.ct_rules.specs.declared.event.Act.TheVariants as act
+use Rattle.ct_rules.specs.declared.event.Place.{Place}
+
+
+-- the middle of a step: what is kept of the record, the node's next request number, the database's floor, what the node
+-- does, in order, and whether a number of this step reached 2^62
+pub record Moving : Type 0 where
+  pub state : RecState
+  pub next : ℕ
+  pub floor : ℕ
+  pub acts : List Act
+  pub spent : Bool
+
+-- "In the middle of a step": sending, answering, changing the state, making a number
+unfoldable pub acts : Act → Moving → Moving
+acts a o = record o { acts = o.acts ++ a ∷ [] }
+
+unfoldable pub send : ℕ → Msg → Moving → Moving
+send receiver m o = acts (act.Send receiver m) o
+
+-- the same message to several nodes, in order
+unfoldable pub send_all : List ℕ → Msg → Moving → Moving
+send_all [] m o = o
+send_all (n ∷ ns) m o = send_all ns m (send n m o)
+
+unfoldable pub reply : ℕ → Answer → Moving → Moving
+reply call a o = acts (act.Answer call a) o
+
+unfoldable pub keeps : RecState → Moving → Moving
+keeps s o = record o { state = s }
+
+unfoldable pub makes : ℕ → Moving → Moving
+makes n o = record o { spent = o.spent || nat_le (2 ^ 62) n }
+
+-- OPEN: the location master that knows nothing of the record makes it, under the floor's RSN
+unfoldable pub open_of : Place → Moving → Option Entry → Moving
+open_of at o None = keeps (record o.state {
+  entry = Some (record { holder = at.lmaster; least = o.floor; request = 0; value = [] });
+  copy = Some (a_copy o.floor at.lmaster plain []);
+}) o
+open_of at o (Some e) = o
+
+unfoldable pub opened : Place → Moving → Moving
+opened at o = open_of at o o.state.entry
+
+-- a vacuum of the record ends
+unfoldable pub end_vacuum : Moving → Moving
+end_vacuum o = keeps (record o.state { vacuum = None }) o
+
+-- SATISFY: an operation of a client at the holder
+unfoldable pub applies : ℕ → Moving → Result (List ℕ) CallFault → Moving
+applies call o (Ok v) = reply call (answer.Applied v) (keeps (record o.state { copy = with_value v o.state.copy }) o)
+applies call o (Err (fault.TooLong n)) = reply call (answer.Refused (why.TooLong n)) o
+applies call o (Err fault.NoSuchCall) = reply call (answer.Refused why.NoSuchCall) o
+applies call o (Err fault.NoMemory) = o
+
+unfoldable pub satisfy : Rules → ℕ → ClientOp → Moving → Moving
+satisfy rules call (op.Lock db key) o = reply call (answer.Locked (value_of o.state.copy)) (keeps (record o.state { locked = Some call }) o)
+satisfy rules call (op.Read db key) o = reply call (answer.Read (value_of o.state.copy)) o
+satisfy rules call (op.Write db key v) o = reply call answer.Written (keeps (record o.state { copy = with_value v o.state.copy }) o)
+satisfy rules call (op.Apply db key f arg) o = applies call o (applied f (value_of o.state.copy) arg rules)
+satisfy rules call _ o = o
+
+-- REVOKE: all read-only copies are called in
+unfoldable pub revoke : Place → Moving → Moving
+revoke at o = send_all o.state.tracking.tracked (msg.Revoke at.db at.key (rsn_of o.state.copy)) (keeps (record o.state {
+  copy = with_flags being_revoked o.state.copy;
+  tracking = begun (rsn_of o.state.copy) o.state.tracking;
+}) o)
+
+-- GIVE: the record goes back to its location master
+unfoldable pub give : Place → Moving → Moving
+give at o = send at.lmaster (msg.Give at.db at.key (rsn_of o.state.copy) (value_of o.state.copy)) (keeps (record o.state {
+  copy = given o.state.copy;
+  waiting = [];
+}) o)
+
+-- HANDLE a recall of kind Read at a free holder: another node gets a read-only copy, the own wish its answer, and the
+-- location master learns that the request was served
+unfoldable pub read_here : Place → ℕ → Moving → Option Wish → Moving
+read_here at request o None = o
+read_here at request o (Some w) =
+    if is_wished at.readonly request kind.Read (Some w)
+    then reply w.call (answer.Read (value_of o.state.copy)) (keeps (record o.state { wish = None }) o)
+    else o
+
+unfoldable pub delegate : Place → ℕ → ℕ → Moving → Moving
+delegate at node request o = send node (msg.Grant at.db at.key request (rsn_of o.state.copy) (value_of o.state.copy)) (keeps (record o.state {
+  copy = with_flags delegated o.state.copy;
+  tracking = added node o.state.tracking;
+}) o)
+
+unfoldable pub grant : Place → ℕ → ℕ → Moving → Moving
+grant at node request o = send at.lmaster (msg.Done at.db at.key node request)
+    (if nat_eq node at.me then read_here at request o o.state.wish else delegate at node request o)
+
+-- HANDLE a recall of kind Lock at a free holder, the recall being the first of those that wait: while read-only copies
+-- are out they are called in, and else the record is given
+unfoldable pub yield_record : Place → Moving → Moving
+yield_record at o = if is_nil o.state.tracking.tracked then give at o else revoke at o
+
+-- DRAIN: while the node is a free holder and a recall waits, the first one is taken off and handled, which ends a vacuum
+unfoldable pub drain : Place → List RecallNote → Moving → Moving
+drain at [] o = keeps (record o.state { waiting = [] }) o
+drain at (r ∷ rs) o =
+    if is_free at.me o.state
+    then (if is_read_kind r.kind
+    then drain at rs (grant at r.node r.request (end_vacuum o))
+    else yield_record at (keeps (record o.state { waiting = r ∷ rs; vacuum = None }) o))
+    else keeps (record o.state { waiting = r ∷ rs }) o
+
+unfoldable pub drained : Place → Moving → Moving
+drained at o = drain at o.state.waiting o
+
+-- END OF REVOCATION: the next RSN, no flags, nothing tracked; a wish of the holder's own is satisfied; then DRAIN
+unfoldable pub satisfy_own : Rules → Moving → Option Wish → Moving
+satisfy_own rules o None = o
+satisfy_own rules o (Some w) = if w.request == 0 then satisfy rules w.call w.op (keeps (record o.state { wish = None }) o) else o
+
+unfoldable pub raise : Moving → Moving
+raise o = makes (rsn_of o.state.copy + 1) (keeps (record o.state { copy = raised o.state.copy; tracking = untracked }) o)
+
+unfoldable pub end_revocation : Place → Rules → Moving → Moving
+end_revocation at rules o = drained at (satisfy_own rules (raise o) o.state.wish)
+
+-- NEXT: the location master asks the node that it sent the record to for the first request that waits
+unfoldable pub next_of : Place → Moving → Option Entry → List Waiter → Moving
+next_of at o None ws = o
+next_of at o (Some e) [] = o
+next_of at o (Some e) (w ∷ ws) = send e.holder (msg.Recall at.db at.key e.least w.node w.request w.kind) o
+
+unfoldable pub next : Place → Moving → Moving
+next at o = next_of at o o.state.entry o.state.queue
+
+-- KEEP: the location master keeps the record itself
+unfoldable pub keep : Place → ℕ → List ℕ → Moving → Moving
+keep at rsn value o = next at (makes rsn (keeps (record o.state {
+  entry = Some (record { holder = at.lmaster; least = rsn; request = 0; value = value });
+  copy = Some (a_copy rsn at.lmaster plain value);
+}) o))
+
+-- the location master is called for the record, under the next request number
+unfoldable pub call_for : Place → ℕ → ClientOp → Moving → Moving
+call_for at call o_p o = send at.lmaster (msg.Call at.db at.key o.next (kind_of at.readonly o_p)) (makes (o.next + 1) (record o {
+  state = record o.state { wish = Some (record { call = call; request = o.next; op = o_p }) };
+  next = o.next + 1;
+}))
+
+-- the holder's own wish waits for the end of a revocation, which begins unless it runs
+unfoldable pub wait_for_copies : Place → ℕ → ClientOp → Moving → Moving
+wait_for_copies at call o_p o =
+    let o' = keeps (record o.state { wish = Some (record { call = call; request = 0; op = o_p }) }) o in
+    if is_quiet o.state.tracking then revoke at o' else o'
+
+-- WANT, once the location master has an entry
+unfoldable pub want_of : Place → Rules → ℕ → ClientOp → Moving → Moving
+want_of at rules call o_p o =
+    if is_read_op o_p && (is_mastered at.me o.state.copy || is_for_reading o.state.copy)
+    then reply call (answer.Read (value_of o.state.copy)) o
+    else (if is_mastered at.me o.state.copy
+    then (if is_nil o.state.tracking.tracked then satisfy rules call o_p o else wait_for_copies at call o_p o)
+    else call_for at call o_p o)
+
+-- the location master makes the record that it knows nothing of, and a vacuum ends, unless the record is locked here
+unfoldable pub opened_at_home : Place → Moving → Moving
+opened_at_home at o = if nat_eq at.me at.lmaster && is_none o.state.locked then end_vacuum (opened at o) else o
+
+-- WANT: a client's lock, read, write or function wants the record
+unfoldable pub want : Place → Rules → ℕ → ClientOp → Moving → Moving
+want at rules call o_p o = want_of at rules call o_p (opened_at_home at o)
