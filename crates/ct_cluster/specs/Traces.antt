@@ -82,21 +82,29 @@ labels w s lines = own_labels w s lines ++ line_labels s (calls_of w s) lines
 
 -- ---- runs
 
--- the cluster after some steps and what they told; a step that is refused, or is none, changes and tells nothing
+-- the cluster after some steps, what they printed and what they told; a step that is refused, or that is none, changes
+-- nothing and tells nothing
 pub record Ran : Type 0 where
   pub cluster : Cluster
+  pub lines : List Line
   pub trace : List Label
 
+-- nothing happened
+unfoldable pub idle : Cluster → Ran
+idle w = record { cluster = w; lines = []; trace = [] }
+
 unfoldable pub taken : Cluster → Step → Result Stepped StepFault → Ran
-taken w s (Ok x) = record { cluster = x.cluster; trace = labels w s x.lines }
-taken w s (Err f) = record { cluster = w; trace = [] }
+taken w s (Ok x) = record { cluster = x.cluster; lines = x.lines; trace = labels w s x.lines }
+taken w s (Err f) = idle w
 
 unfoldable pub ran_one : Config → Rules → Cluster → Step → Ran
-ran_one c rules w s = if is_allowed s then taken w s (applied c rules w s) else record { cluster = w; trace = [] }
+ran_one c rules w s = if is_allowed s then taken w s (applied c rules w s) else idle w
 
-unfoldable pub after : List Label → Ran → Ran
-after told r = record r { trace = told ++ r.trace }
+-- a run after another one
+unfoldable pub after : Ran → Ran → Ran
+after q r = record { cluster = r.cluster; lines = q.lines ++ r.lines; trace = q.trace ++ r.trace }
 
+-- all steps, one after the other
 unfoldable pub ran : Config → Rules → Cluster → List Step → Ran
-ran c rules w [] = record { cluster = w; trace = [] }
-ran c rules w (s ∷ ss) = after (ran_one c rules w s).trace (ran c rules (ran_one c rules w s).cluster ss)
+ran c rules w [] = idle w
+ran c rules w (s ∷ ss) = let q = ran_one c rules w s in after q (ran c rules q.cluster ss)
