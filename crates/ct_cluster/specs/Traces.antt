@@ -31,10 +31,10 @@ answered call a [] = []
 answered call a (x ∷ xs) = if nat_eq x.call call then Answered x.node x.op a ∷ [] else answered call a xs
 
 -- a push and a take that are sent are labels
-unfoldable pub sent_label : ℕ → Msg → List Label
-sent_label g (msg.Push members table ptables assigned) = Pushed g assigned ∷ []
-sent_label g (msg.Take number assigned) = Taken g number assigned ∷ []
-sent_label g _ = []
+unfoldable pub sent_label : ℕ → ℕ → Msg → List Label
+sent_label n g (msg.Push members table ptables assigned) = Pushed g assigned ∷ []
+sent_label n g (msg.Take number assigned) = Taken n g number assigned ∷ []
+sent_label n g _ = []
 
 -- a ticket's label has the members of the step that it was given in
 unfoldable pub members_of : Step → List ℕ
@@ -42,7 +42,7 @@ members_of (step.Recover n members) = members
 members_of _ = []
 
 unfoldable pub label_of : Step → List PendingCall → Line → List Label
-label_of s calls (line.Sent k f) = sent_label f.generation f.msg
+label_of s calls (line.Sent k f) = sent_label f.sender f.generation f.msg
 label_of s calls (line.Answered call a) = answered call a calls
 label_of s calls (line.Noted n x) = Noted n x ∷ []
 label_of s calls (line.Ticket t n) = Ticket t n (members_of s) ∷ []
