@@ -59,12 +59,14 @@ lead_from g (Pulls h members missing x) = if nat_lt h g then Nothing else Pulls 
 lead_from g (Installs h members missing body) = if nat_lt h g then Nothing else Installs h members missing body
 lead_from g (Completed h members x) = if nat_lt h g then Nothing else Completed h members x
 
--- a pending commit is unsure, and the lock that it stands under ends
+-- the lock that a commit stands under ends
+unfoldable pub ends_lock : List ℕ → Turn → Turn
+ends_lock name t = notes (note.Ended 0 name) (with_node (with_state 0 name (record (state_at 0 name t.node) { locked = None }) t.node) t)
+
+-- a pending commit is unsure, and its lock ends
 unfoldable pub ends_commit : ℕ → List ℕ → Turn → Option Committing → Turn
 ends_commit db name t None = t
-ends_commit db name t (Some c) =
-    notes (note.Ended 0 name) (with_node (with_state 0 name (record (state_at 0 name t.node) { locked = None }) t.node)
-    (with_commit db None (answers c.call (answer.Unsure c.pending.seq c.pending.missing) t)))
+ends_commit db name t (Some x) = ends_lock name (with_commit db None (answers x.call (answer.Unsure x.pending.seq x.pending.missing) t))
 
 -- every pending commit, by database; the place i is that of the first of these
 unfoldable pub ends_commits : Config → ℕ → List Database → Turn → Turn
