@@ -18,7 +18,7 @@ use Rattle.ct_rules.specs.Parts.{want}
 use Rattle.ct_rules.specs.declared.state.RecState.{RecState}
 use Rattle.ct_rules.specs.declared.state.Wish.{Wish}
 use Rattle.ct_rules_node.specs.Node.{Node, Phase, Freezing, Frozen, Database, Committing, is_serving, is_freezing, is_persistent, db_at, state_at, kind_at, name_of}
-use Rattle.ct_rules_node.specs.Turn.{Turn, with_phase, answers, posts}
+use Rattle.ct_rules_node.specs.Turn.{Turn, with_phase, makes, answers, posts}
 use Rattle.ct_rules_node.specs.Records.{at_record}
 use Rattle.ct_rules_node.specs.Databases.{commit, read_pair}
 
@@ -55,7 +55,7 @@ unfoldable pub is_unlock : ClientOp → Bool
 is_unlock (op.Unlock db key) = true
 is_unlock _ = false
 
--- a lock, a write or a function wants a record that nobody has locked
+-- a lock, a write or a function: it is refused while the node has the record locked
 unfoldable pub wants_change : ClientOp → Bool
 wants_change (op.Lock db key) = true
 wants_change (op.Write db key v) = true
@@ -178,6 +178,6 @@ unfoldable pub serves_or : Config → Rules → ℕ → ℕ → ClientOp → Tur
 serves_or c rules me call o t (Some w) = answers call (answer.Refused w) t
 serves_or c rules me call o t None = serves c rules me call t o
 
--- a client's call
+-- a client's call of this number
 unfoldable pub client : Config → Rules → ℕ → ℕ → ClientOp → Turn → Turn
-client c rules me call o t = serves_or c rules me call o t (refusal c rules t.node o)
+client c rules me call o t = serves_or c rules me call o (makes call t) (refusal c rules t.node o)

@@ -40,12 +40,13 @@ retry_records c me t =
     then update_in me 0 t.node.dbs (revoke_in c me 0 t.node.dbs (call_all c me (pending_calls t.node) t))
     else t
 
--- the leader's messages of its stage go again to those that are missing, and Thaw to all members
+-- the messages of a takeover run: Release to those that are missing, or Take to all
 unfoldable pub retry_run : ℕ → ℕ → List ℕ → Takeover → Turn → Run → Turn
 retry_run me g members x t NoRun = t
 retry_run me g members x t (Releasing placement missing) = send_releases me g x.number placement missing t
 retry_run me g members x t (Taking placement) = posts_all g me members (msg.Take x.number (assigned_in placement)) t
 
+-- the leader's messages of its stage go again to those that are missing, and Thaw to all members
 unfoldable pub retry_lead : ℕ → Turn → Lead → Turn
 retry_lead me t Nothing = t
 retry_lead me t (Freezes g members missing) = posts_all g me missing (msg.Freeze members) t

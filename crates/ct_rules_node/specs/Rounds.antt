@@ -1,5 +1,5 @@
 -- Rounds of recovery: a leader freezes the members, pulls what they hold, pushes what is made of it, and thaws them.
-use Rattle.std.specs.Prelude.{ℕ, ◌+◌, ◌==◌, nat_eq, nat_lt, Bool, true, false, not, ◌&&◌, if◌then◌else◌, List, [], ◌∷◌, ◌++◌, map, Option, None, Some, is_none}
+use Rattle.std.specs.Prelude.{ℕ, ◌+◌, ◌==◌, nat_eq, nat_lt, Bool, true, false, not, ◌&&◌, ◌||◌, if◌then◌else◌, List, [], ◌∷◌, ◌++◌, map, Option, None, Some, is_none}
 use Rattle.std.specs.List.{filter}
 use Rattle.ct_bytes.specs.declared.address.Address.{Address}
 use Rattle.ct_msg.specs.declared.client.Answer.TheVariants as answer
@@ -31,11 +31,11 @@ use Rattle.ct_rules_node.specs.Records.{with_state, at_record}
 use Rattle.ct_rules_node.specs.Databases.{with_commit}
 use Rattle.ct_rules_node.specs.Clients.{frozen_if_unlocked}
 
--- ---- BeginRound: who is given a ticket leads its round, unless it promised a later one
+-- ---- BeginRound: who is given a ticket leads its round, unless it promised this one or a later one
 
 unfoldable pub begin_round : ℕ → ℕ → List ℕ → Turn → Turn
 begin_round me g members t =
-    if nat_lt t.node.promise g then posts_all g me members (msg.Freeze members) (with_lead (Freezes g members members) t) else t
+    if nat_lt t.node.promise g then posts_all g me members (msg.Freeze members) (with_lead (Freezes g members members) (makes g t)) else t
 
 -- ---- Freeze
 
@@ -76,7 +76,7 @@ ends_commits c i (d ∷ ds) t = ends_commits c (i + 1) ds (ends_commit i (name_o
 unfoldable pub freezes : ℕ → ℕ → Turn → Turn
 freezes g h t = with_node (record t.node { promise = g; phase = Freezing g h; dbs = map frozen_db t.node.dbs; lead = lead_from g t.node.lead }) t
 
--- a Freeze of a generation that is above the promise is followed, one that was is acknowledged again
+-- a Freeze of a generation that is above the promise is followed; a node that is frozen in it acknowledges it again
 unfoldable pub on_freeze : Config → ℕ → ℕ → ℕ → Turn → Turn
 on_freeze c me h g t =
     if nat_lt t.node.promise g
@@ -235,10 +235,16 @@ installed_node c me h g members table ptables assigned n = record n {
   last_run = 0;
 }
 
+-- the numbers that an installation makes: of a row that the node is data master or location master of, one RSN more
+unfoldable pub makes_rows : ℕ → List ℕ → List TableRow → Turn → Turn
+makes_rows me members [] t = t
+makes_rows me members (row ∷ rows) t =
+    makes_rows me members rows (if nat_eq me (row_master row) || nat_eq me (master_of members row.key) then makes (row.rsn + 1) t else t)
+
 unfoldable pub installs : Config → ℕ → ℕ → ℕ → List ℕ → List TableRow → List PTable → List Assigned → Turn → Turn
 installs c me h g members table ptables assigned t =
     releases (filter (λ a. not (is_own me assigned a)) t.node.held)
-    (notes (note.Installed g) (with_node (installed_node c me h g members table ptables assigned t.node) t))
+    (notes (note.Installed g) (with_node (installed_node c me h g members table ptables assigned t.node) (makes_rows me members table t)))
 
 unfoldable pub on_push : Config → ℕ → ℕ → ℕ → List ℕ → List TableRow → List PTable → List Assigned → Turn → Turn
 on_push c me h g members table ptables assigned t =
