@@ -1,0 +1,6 @@
+pub mod Answers
+pub mod Laws
+pub mod Rules
+pub mod Seen
+pub mod Shown
+pub mod Table

@@ -1,0 +1,11 @@
+//! Functions that a call may apply to a record's value, each beside the rule that its answers keep.
+#![tactic(auto)]
+
+pub mod calls;
+pub mod entry;
+pub mod fault;
+pub mod laws;
+pub mod rule;
+pub mod table;
+#[cfg(test)]
+mod tests;

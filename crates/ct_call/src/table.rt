@@ -1,0 +1,13 @@
+//! The call functions of a cluster.
+ghost use Rattle.std.specs.Prelude.{IsTrue, map};
+ghost use Rattle.ct_call.specs.Rules.{are_distinct};
+ghost use Rattle.ct_call.specs.Seen.{seen};
+
+use crate::entry::Entry;
+
+/// The call functions, each with its number and its rule, in the order in which they were added. No number stands twice.
+#[derive(Drop)]
+pub struct CallTable {
+    pub(crate) calls: Vec<Entry>,
+    ghost distinct: { IsTrue (are_distinct (map (λ e. (e.id, seen e.rule)) calls.items)) },
+}
