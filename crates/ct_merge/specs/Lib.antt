@@ -1,0 +1,5 @@
+pub mod Placing
+pub mod Held
+pub mod Gathered
+pub mod Rule
+pub mod Code

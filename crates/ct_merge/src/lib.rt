@@ -1,0 +1,5 @@
+//! What a round of recovery makes of what its members hold.
+#![tactic(auto)]
+
+pub mod held;
+pub mod merged;
