@@ -18,7 +18,7 @@ use Rattle.ct_merge.specs.declared.merged.Merged.{Merged}
 use Rattle.ct_merge.specs.declared.merged.MergedAll.{MergedAll}
 use Rattle.ct_merge.specs.declared.merged.PMerged.{PMerged}
 use Rattle.ct_merge.specs.Placing.{best}
-use Rattle.ct_merge.specs.Held.{is_in_order, is_row_at, row_order, row_rank, ptable_order, ptable_rank, address_order, address_rank, rows_of, ptables_of, addresses_of}
+use Rattle.ct_merge.specs.Held.{is_in_order, is_row_at, row_rank, ptable_rank, address_rank, rows_of, ptables_of, addresses_of}
 use Rattle.ct_merge.specs.Gathered.{greater, assigned_to}
 
 abbrev pub are_in_order : List Pull → Bool
@@ -47,7 +47,7 @@ row_at db key table = find (is_row_at db key) table
 
 -- the parent is the greatest base, and at each database and key the table has the best of the rows there
 abbrev pub IsVolatileMerge : List Pull → Merged → Type 0
-IsVolatileMerge pulls m = (m.parent ≡ vparent pulls) × (ascends row_before m.table ≡ true) × ((db : ℕ) (key : List ℕ) → row_at db key m.table ≡ option_map (λ h. h.row) (best row_order row_rank (rows_at db key pulls)))
+IsVolatileMerge pulls m = (m.parent ≡ vparent pulls) × (ascends row_before m.table ≡ true) × ((db : ℕ) (key : List ℕ) → row_at db key m.table ≡ option_map (λ h. h.row) (best row_rank (rows_at db key pulls)))
 
 abbrev pub pparent : List Pull → ℕ
 pparent pulls = greatest (λ p. p.pbase) pulls
@@ -64,7 +64,7 @@ ptable_at db ptables = find (is_ptable_at db) ptables
 
 -- the parent is the greatest base, and at each place stands the best of the databases there
 abbrev pub IsPersistentMerge : List Pull → PMerged → Type 0
-IsPersistentMerge pulls m = (m.parent ≡ pparent pulls) × (ascends ptable_before m.ptables ≡ true) × ((db : ℕ) → ptable_at db m.ptables ≡ option_map (λ h. h.ptable) (best ptable_order ptable_rank (ptables_at db pulls)))
+IsPersistentMerge pulls m = (m.parent ≡ pparent pulls) × (ascends ptable_before m.ptables ≡ true) × ((db : ℕ) → ptable_at db m.ptables ≡ option_map (λ h. h.ptable) (best ptable_rank (ptables_at db pulls)))
 
 -- what all pulls hold of an address
 abbrev pub addresses_at : Address → List Pull → List HeldAddress
@@ -75,7 +75,7 @@ assigned_at address assigned = find (λ a. is_at (address_cmp address) a.address
 
 -- each address that some pull holds goes to the lowest such node
 abbrev pub IsAddressMerge : List Pull → List Assigned → Type 0
-IsAddressMerge pulls assigned = (ascends assigned_before assigned ≡ true) × ((address : Address) → assigned_at address assigned ≡ option_map assigned_to (best address_order address_rank (addresses_at address pulls)))
+IsAddressMerge pulls assigned = (ascends assigned_before assigned ≡ true) × ((address : Address) → assigned_at address assigned ≡ option_map assigned_to (best address_rank (addresses_at address pulls)))
 
 -- all three
 abbrev pub IsMerge : List Pull → MergedAll → Type 0

@@ -3,3 +3,5 @@
 
 pub mod held;
 pub mod merged;
+pub mod merging;
+mod placing;
