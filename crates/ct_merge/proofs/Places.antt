@@ -1,10 +1,10 @@
 -- Lists with one item at each place: what stands there after one more item, and that they stay in order.
-use Rattle.std.proofs.Common.{◌≡◌, ◌≢◌, ℕ, ◌+◌, suc, Bool, true, false, cond, ◌&&◌, List, [], ◌∷◌, ◌++◌, length, Option, Some, None, refl, sym, ◌∙◌, ap, subst, arith}
+use Rattle.std.proofs.Common.{◌≡◌, Bool, true, false, cond, List, [], ◌∷◌, ◌++◌, Option, Some, None, refl, sym, ◌∙◌, ap, subst}
 use Rattle.std.specs.Prelude.{if◌then◌else◌, drop, slice_index_or, IfSome, option_to_list}
 use Rattle.std.specs.declared.cmp.Ordering.{Ordering}
 use Rattle.std.specs.declared.cmp.Ordering.TheVariants.{Less, Equal, Greater}
 use Rattle.std.specs.Ordering.{is_lt, match_ordering, ordering_reverse}
-use Rattle.std.specs.Cmp.{IsTotalOrder, alike_right, tied_back, tied_itself}
+use Rattle.std.specs.Cmp.{IsTotalOrder, tied_back}
 use Rattle.std.specs.List.{AllByRecursion, filter, find}
 use Rattle.std.specs.List.Sorted.{IsStrictlySortedBy}
 use Rattle.ct_merge.specs.Placing.{better, better_of, best_from, best, placed, all_placed, turn}
@@ -106,12 +106,12 @@ module _ {X : Type 0} (order rank : X → X → Ordering) (o : IsTotalOrder orde
             | false ↦ λ q. refl
           ] refl
           | Equal ↦ λ p. let same = alike x y p in
-            elim (at x) as (λ b. at x ≡ b → cond (at (better rank x y)) (Some (better rank x y)) (find at ys) ≡ cond b (Some (better_of rank x (find at (y ∷ ys)))) (find at (y ∷ ys))) [
-              | true ↦ λ q. ap (λ b. cond b (Some (better rank x y)) (find at ys)) (better_is rank (λ w. at w ≡ true) x y q (sym same ∙ q))
-                  ∙ ap (λ b. Some (better_of rank x (cond b (Some y) (find at ys)))) (sym q ∙ same)
-              | false ↦ λ q. ap (λ b. cond b (Some (better rank x y)) (find at ys)) (better_is rank (λ w. at w ≡ false) x y q (sym same ∙ q))
-                  ∙ ap (λ b. cond b (Some y) (find at ys)) (sym q ∙ same)
-            ] refl
+              elim (at x) as (λ b. at x ≡ b → cond (at (better rank x y)) (Some (better rank x y)) (find at ys) ≡ cond b (Some (better_of rank x (find at (y ∷ ys)))) (find at (y ∷ ys))) [
+                | true ↦ λ q. ap (λ b. cond b (Some (better rank x y)) (find at ys)) (better_is rank (λ w. at w ≡ true) x y q (sym same ∙ q))
+                    ∙ ap (λ b. Some (better_of rank x (cond b (Some y) (find at ys)))) (sym q ∙ same)
+                | false ↦ λ q. ap (λ b. cond b (Some (better rank x y)) (find at ys)) (better_is rank (λ w. at w ≡ false) x y q (sym same ∙ q))
+                    ∙ ap (λ b. cond b (Some y) (find at ys)) (sym q ∙ same)
+              ] refl
           | Greater ↦ λ p. ap (cond (at y) (Some y)) (find_placed x ys h.1)
               ∙ elim (at x) as (λ b. at x ≡ b → cond (at y) (Some y) (cond b (Some (better_of rank x (find at ys))) (find at ys)) ≡ cond b (Some (better_of rank x (find at (y ∷ ys)))) (find at (y ∷ ys))) [
                 | true ↦ λ q. elim (at y) as (λ c. at y ≡ c → cond c (Some y) (Some (better_of rank x (find at ys))) ≡ Some (better_of rank x (cond c (Some y) (find at ys)))) [

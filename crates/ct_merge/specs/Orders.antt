@@ -2,15 +2,12 @@
 use Rattle.std.specs.Prelude.{◌≡◌, refl}
 use Rattle.std.proofs.Common.{ap, true≢false}
 use Rattle.std.specs.declared.cmp.Ordering.TheVariants.{Less, Equal, Greater}
-use Rattle.std.specs.Ordering.{nat_cmp, bool_cmp, on, flip_args, ordering_reverse, is_lt, is_gt}
+use Rattle.std.specs.Ordering.{ordering_reverse, is_lt, is_gt}
 use Rattle.std.specs.Cmp.{IsTotalOrder, nat_cmp_total, bool_cmp_total, on_total, back_total, then_total}
 use Rattle.std.specs.Cmp.Lexicographic.{nat_list_cmp_total}
 use Rattle.ct_bytes.specs.Address.{address_cmp}
 use Rattle.ct_bytes.specs.declared.address.Address.{Address}
 use Rattle.ct_bytes.specs.declared.address.Address.TheVariants.{V4, V6}
-use Rattle.ct_merge.specs.declared.held.HeldRow.{HeldRow}
-use Rattle.ct_merge.specs.declared.held.HeldPTable.{HeldPTable}
-use Rattle.ct_merge.specs.declared.held.HeldAddress.{HeldAddress}
 use Rattle.ct_merge.specs.Held.{is_own, row_order, row_rank, ptable_order, ptable_rank, address_order, address_rank}
 
 pub row_order_total : IsTotalOrder row_order

@@ -69,7 +69,10 @@ impl Candidate for HeldRow {
     ghost rank = { row_rank };
 
     fn order(&self, other: &HeldRow) -> Ordering {
-        self.row.db.cmp(&other.row.db).then(self.row.key.cmp(&other.row.key))
+        self.row
+            .db
+            .cmp(&other.row.db)
+            .then(self.row.key.cmp(&other.row.key))
     }
 
     fn rank(&self, other: &HeldRow) -> Ordering {

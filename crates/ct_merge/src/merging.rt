@@ -125,7 +125,14 @@ impl Merging {
         let addresses_room = room_for(alloc, &self.addresses, &addresses)?;
         join(alloc, 0, &mut self.nodes, 0, nodes, nodes_room);
         join(alloc, self.vbase, &mut self.rows, vbase, rows, rows_room);
-        join(alloc, self.pbase, &mut self.ptables, pbase, ptables, ptables_room);
+        join(
+            alloc,
+            self.pbase,
+            &mut self.ptables,
+            pbase,
+            ptables,
+            ptables_room,
+        );
         join(alloc, 0, &mut self.addresses, 0, addresses, addresses_room);
         self.vbase = greater(self.vbase, vbase);
         self.pbase = greater(self.pbase, pbase);

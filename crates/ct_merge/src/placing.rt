@@ -85,11 +85,7 @@ fn merge<T: Candidate>(more: Vec<T>, kept: Vec<T>, room: Vec<T>) -> Vec<T>
 }
 
 /// An empty list that has room for all items of both.
-pub(crate) fn room_for<T>(
-    alloc: Global,
-    kept: &Vec<T>,
-    more: &Vec<T>,
-) -> Result<Vec<T>, NoMemory>
+pub(crate) fn room_for<T>(alloc: Global, kept: &Vec<T>, more: &Vec<T>) -> Result<Vec<T>, NoMemory>
     ensures empty { IfOk result (λ room. room.items ≡ []) }
     ensures fits { IfOk result (λ room. vec_len more.now + vec_len kept.now ≤ vec_capacity room) }
 {
@@ -115,8 +111,7 @@ pub(crate) fn join<T: Candidate>(
 {
     if base < new {
         *kept = more;
-    } else if new < base {
-    } else {
+    } else if new < base {} else {
         let old = mem::replace(kept, Vec::new(alloc));
         *kept = merge(more, old, room);
     }

@@ -1,6 +1,5 @@
 use Rattle.std.proofs.Common.{◌≡◌, take}
 use Rattle.std.specs.Prelude.{map}
-use Rattle.ct_merge.specs.Gathered.{assigned_to}
 use Rattle.ct_merge.proofs.merging.ptables_of.Given as goal
 
 abbrev pub invariant-loop-h : goal.invariant-loop-h
