@@ -1,5 +1,5 @@
 -- The items of the greatest base, pull by pull, against the best of all items of that base.
-use Rattle.std.proofs.Common.{◌≡◌, ◌<◌, ◌≤◌, ℕ, Bool, true, false, nat_lt, ◌==◌, List, [], ◌∷◌, ◌++◌, Option, Some, None, true≢false, refl, sym, ◌∙◌, ap, arith}
+use Rattle.std.proofs.Common.{subst, ◌≡◌, ◌<◌, ◌≤◌, ℕ, Bool, true, false, nat_lt, ◌==◌, List, [], ◌∷◌, ◌++◌, Option, Some, None, length, get_or, true≢false, refl, sym, ◌∙◌, ap, arith}
 use Rattle.std.specs.Prelude.{if◌then◌else◌}
 use Rattle.std.specs.declared.cmp.Ordering.{Ordering}
 use Rattle.std.specs.declared.cmp.Ordering.TheVariants.{Equal}
@@ -7,6 +7,7 @@ use Rattle.std.specs.Cmp.{IsTotalOrder}
 use Rattle.std.specs.List.{filter, find}
 use Rattle.std.specs.List.Sorted.{IsStrictlySortedBy}
 use Rattle.std.proofs.lemmas.List.Elements.{filter-append}
+use Rattle.std.proofs.lemmas.List.Folds.{list_all_at}
 use Rattle.ct_frame.specs.declared.round.Pull.{Pull}
 use Rattle.ct_merge.specs.Placing.{better_of, best_from, all_placed}
 use Rattle.ct_merge.specs.Gathered.{greater, joined}
@@ -107,3 +108,12 @@ module _ {X : Type 0} (order rank : X → X → Ordering) (o : IsTotalOrder orde
         find_all_joined pulls (greater b (base pull)) (joined order rank b items (base pull) (held pull)) (second _ _ k) (joined_ascends order rank o b items (base pull) (held pull) h (holds pull (first _ _ k))) p e
         ∙ step p b (base pull) items (held pull) (filter at (told base held p pulls)) h (holds pull (first _ _ k)) (greater_le (greater b (base pull)) (greatest base pulls) p (e ∙ based_is base pulls (greater b (base pull))))
         ∙ ap (λ l. best_from rank (if b == p then find at items else None) l) (sym (filter_told pull pulls p))
+
+-- each of some pulls in order is in order
+pub each_in_order : (pulls : List Pull) (i : ℕ) (pull : Pull) → i < length pulls → pull ≡ get_or pulls i pull → are_in_order pulls ≡ true → is_in_order pull ≡ true
+each_in_order pulls i pull l at h =
+    subst (λ p. is_in_order p ≡ true) (sym at)
+    (elim (is_in_order (get_or pulls i pull)) as (λ b. is_in_order (get_or pulls i pull) ≡ b → b ≡ true) [
+      | true ↦ λ e. refl
+      | false ↦ λ e. absurd (true≢false (sym h ∙ list_all_at is_in_order pulls i pull l e))
+    ] refl)

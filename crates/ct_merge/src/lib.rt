@@ -2,6 +2,8 @@
 #![tactic(auto)]
 
 pub mod held;
+pub mod laws;
 pub mod merged;
+pub mod merges;
 pub mod merging;
 mod placing;
