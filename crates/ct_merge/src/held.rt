@@ -8,6 +8,7 @@ ghost use Rattle.ct_merge.specs.Orders.{row_order_total, ptable_order_total, add
 
 use crate::placing::Candidate;
 use ct_bytes::address::Address;
+use ct_bytes::copies::Duplicate;
 use ct_bytes::items::Items;
 use ct_bytes::memory::NoMemory;
 use ct_frame::frame::{PTable, TableRow};
@@ -33,6 +34,30 @@ pub struct HeldPTable {
 pub struct HeldAddress {
     pub node: u32,
     pub address: Address,
+}
+
+impl Duplicate for HeldRow {
+    fn duplicate(&self) -> Result<HeldRow, NoMemory> {
+        Ok(HeldRow {
+            node: self.node,
+            row: self.row.copy()?,
+        })
+    }
+}
+
+impl Duplicate for HeldPTable {
+    fn duplicate(&self) -> Result<HeldPTable, NoMemory> {
+        Ok(HeldPTable {
+            node: self.node,
+            ptable: self.ptable.copy()?,
+        })
+    }
+}
+
+impl Duplicate for HeldAddress {
+    fn duplicate(&self) -> Result<HeldAddress, NoMemory> {
+        Ok(*self)
+    }
 }
 
 impl HeldRow {

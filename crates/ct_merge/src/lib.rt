@@ -6,4 +6,7 @@ pub mod laws;
 pub mod merged;
 pub mod merges;
 pub mod merging;
+pub mod order;
 mod placing;
+#[cfg(test)]
+mod tests;

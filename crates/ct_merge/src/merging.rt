@@ -82,6 +82,16 @@ pub(crate) fn assigned_of(alloc: Global, held: &[HeldAddress]) -> Result<Items<A
     Ok(Items::new(assigned))
 }
 
+fn copied<T: Duplicate>(alloc: Global, items: &[T]) -> Result<Vec<T>, NoMemory>
+    ensures { IfOk result (λ copies. copies.items ≡ items.now) }
+{
+    let mut copies = Vec::with_capacity(alloc, items.len())?;
+    for item in items {
+        copies.push(item.duplicate()?)?;
+    }
+    Ok(copies)
+}
+
 impl Merging {
     /// Nothing is gathered. It takes no memory.
     pub fn new(alloc: Global) -> Merging
@@ -162,5 +172,26 @@ impl Merging {
         ensures { result ≡ length self.now.rows }
     {
         self.rows.len()
+    }
+
+    /// A copy that equals it.
+    pub fn copy(&self) -> Result<Merging, NoMemory>
+        ensures { IfOk result (λ m. m ≡ self.now) }
+    {
+        Ok(Merging {
+            alloc: self.alloc,
+            nodes: copied(self.alloc, self.nodes.as_slice())?,
+            vbase: self.vbase,
+            rows: copied(self.alloc, self.rows.as_slice())?,
+            pbase: self.pbase,
+            ptables: copied(self.alloc, self.ptables.as_slice())?,
+            addresses: copied(self.alloc, self.addresses.as_slice())?,
+        })
+    }
+}
+
+impl Duplicate for Merging {
+    fn duplicate(&self) -> Result<Merging, NoMemory> {
+        self.copy()
     }
 }
