@@ -13,7 +13,7 @@ use Rattle.ct_merge.specs.Placing.{better, better_of, best_from, best, placed, a
 pub better_is : {X : Type 0} (rank : X → X → Ordering) (P : X → Type 0) (x y : X) → P x → P y → P (better rank x y)
 better_is rank P x y p q = elim (is_lt (rank x y)) as (λ b. P (if b then x else y)) [ true ↦ p | false ↦ q ]
 
-less_not : {A : Type 0} (o : Ordering) → o ≡ Less → o ≡ Equal → A
+pub less_not : {A : Type 0} (o : Ordering) → o ≡ Less → o ≡ Equal → A
 less_not Less p q = absurd (cc)
 less_not Equal p q = absurd (cc)
 less_not Greater p q = absurd (cc)

@@ -28,7 +28,7 @@ use Rattle.ct_merge.specs.Rule.{are_in_order, vparent, pparent, is_ptable_at, ro
 use Rattle.ct_merge.proofs.Ordered.{rows_ascend, ptables_ascend, addresses_ascend, chained, row_is, ptable_is, assigned_is, no_items}
 use Rattle.ct_merge.proofs.Folding.{based, based_is, all_joined, all_joined_ascends, find_all_joined}
 
-equal : (r : Ordering) → is_eq r ≡ true → r ≡ Equal
+pub equal : (r : Ordering) → is_eq r ≡ true → r ≡ Equal
 equal Less h = absurd (cc)
 equal Equal h = refl
 equal Greater h = absurd (cc)
@@ -45,11 +45,11 @@ find_map : {X Y : Type 0} (f : X → Y) (test : Y → Bool) (xs : List X) → fi
 find_map f test [] = refl
 find_map f test (x ∷ xs) = elim (test (f x)) as (λ b. cond b (Some (f x)) (find test (map f xs)) ≡ option_map f (cond b (Some x) (find (λ x. test (f x)) xs))) [ true ↦ refl | false ↦ find_map f test xs ]
 
-none_yet : {X : Type 0} (b : Bool) (test : X → Bool) → (if b then find test [] else None) ≡ None
+pub none_yet : {X : Type 0} (b : Bool) (test : X → Bool) → (if b then find test [] else None) ≡ None
 none_yet true test = refl
 none_yet false test = refl
 
-from_zero : (n : ℕ) → greater 0 n ≡ n
+pub from_zero : (n : ℕ) → greater 0 n ≡ n
 from_zero n = grind arith
 
 -- rows by database and key

@@ -1,5 +1,5 @@
 -- What a round makes of the pulls of its members, by key, place and address.
-use Rattle.std.specs.Prelude.{◌≡◌, ℕ, Bool, true, ◌==◌, List, [], ◌∷◌, ◌++◌, Option, if◌then◌else◌}
+use Rattle.std.specs.Prelude.{◌≡◌, ℕ, Bool, true, ◌==◌, List, [], ◌∷◌, ◌++◌, Option, if◌then◌else◌, Contains}
 use Rattle.std.specs.List.{filter, find, list_all}
 use Rattle.std.specs.Option.{option_map}
 use Rattle.std.specs.Ordering.{nat_cmp}
@@ -80,3 +80,7 @@ IsAddressMerge pulls assigned = (ascends assigned_before assigned ≡ true) × (
 -- all three
 abbrev pub IsMerge : List Pull → MergedAll → Type 0
 IsMerge pulls m = IsVolatileMerge pulls m.table × IsPersistentMerge pulls m.ptables × IsAddressMerge pulls m.assigned
+
+-- pulls of one node are one pull
+abbrev pub HasOneOfEach : List Pull → Type 0
+HasOneOfEach pulls = (p q : Pull) → Contains pulls p → Contains pulls q → p.node ≡ q.node → p ≡ q

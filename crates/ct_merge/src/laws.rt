@@ -1,10 +1,39 @@
 //! What follows for every list of pulls.
-ghost use Rattle.std.specs.Prelude.{◌≡◌, true, List};
+ghost use Rattle.std.specs.Prelude.{ℕ, ◌≡◌, ◌↔◌, true, false, Bool, List, Some, Contains, All};
+ghost use Rattle.std.specs.declared.cmp.Ordering.{Ordering};
+ghost use Rattle.std.specs.Ordering.{is_lt};
+ghost use Rattle.std.specs.Cmp.{IsTotalOrder};
 ghost use Rattle.ct_frame.specs.declared.round.Pull.{Pull};
+ghost use Rattle.ct_frame.specs.declared.frame.Msg.{Msg};
+ghost use Rattle.ct_frame.specs.Fields.{is_message};
+ghost use Rattle.ct_merge.specs.Placing.{best};
+ghost use Rattle.ct_merge.specs.Held.{is_in_order, row_rank, ptable_rank, address_rank};
 ghost use Rattle.ct_merge.specs.Gathered.{nothing, gathered_all, finished};
-ghost use Rattle.ct_merge.specs.Rule.{are_in_order, IsMerge};
+ghost use Rattle.ct_merge.specs.Rule.{are_in_order, HasOneOfEach, IsMerge};
 
 /// What is made of all that was gathered of pulls, one after the other, is what the three merges make of them.
 pub fn gathered_pulls_are_merged()
     ensures { (pulls : List Pull) → are_in_order pulls ≡ true → IsMerge pulls (finished (gathered_all pulls nothing)) }
+{}
+
+/// What is gathered of the pulls of different members is the same in whatever order they come.
+pub fn order_does_not_matter()
+    ensures { (pulls others : List Pull) → are_in_order pulls ≡ true → HasOneOfEach pulls → ((p : Pull) → Contains pulls p ↔ Contains others p) → gathered_all pulls nothing ≡ gathered_all others nothing }
+{}
+
+/// The best of several is one of them, and none comes before it.
+pub fn best_is_first<T>()
+    ensures { (rank : T → T → Ordering) → IsTotalOrder rank → (xs : List T) (x : T) → best rank xs ≡ Some x → Contains xs x × All (λ y. is_lt (rank y x) ≡ false) xs }
+{}
+
+/// The orders by which one of several is kept are total.
+pub fn ranks_are_total()
+    ensures rows { IsTotalOrder row_rank }
+    ensures ptables { IsTotalOrder ptable_rank }
+    ensures addresses { IsTotalOrder address_rank }
+{}
+
+/// A reply that keeps its rules is in order as a pull.
+pub fn replies_are_in_order()
+    ensures { (node : ℕ) (p : Pull) → is_message node (Msg.PullReply p.vbase p.pbase p.table p.ptables p.addresses) ≡ true → is_in_order p ≡ true }
 {}
