@@ -148,7 +148,7 @@ impl Candidate for HeldAddress {
     }
 
     fn rank(&self, other: &HeldAddress) -> Ordering {
-        self.node.cmp(&other.node)
+        self.node.rank(&other.node)
     }
 
     ghost total = { address_order_total };

@@ -111,7 +111,7 @@ pub(crate) fn join<T: Candidate>(
 {
     if base < new {
         *kept = more;
-    } else if new < base {} else {
+    } else if base == new {
         let old = mem::replace(kept, Vec::new(alloc));
         *kept = merge(more, old, room);
     }
