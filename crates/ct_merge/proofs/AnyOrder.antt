@@ -57,19 +57,21 @@ no_more base (q ∷ qs) m h = greater_most (base q) (greatest base qs) m (h q (i
 same_greatest : (base : Pull → ℕ) (pulls others : List Pull) → ((p : Pull) → In p pulls → In p others) → ((p : Pull) → In p others → In p pulls) → greatest base pulls ≡ greatest base others
 same_greatest base pulls others there back = one_number _ _ (no_more base pulls _ (λ p i. at_most base others p (there p i))) (no_more base others _ (λ p i. at_most base pulls p (back p i)))
 
+module _ {X : Type 0} (order rank : X → X → Ordering) (o : IsTotalOrder order) (base : Pull → ℕ) (held : Pull → List X) (holds : (pull : Pull) → is_in_order pull ≡ true → IsStrictlySortedBy order (held pull)) where
+  -- at each place stands the best of what the pulls of the greatest base hold there
+  pub found_at : (z : X) (ps : List Pull) → are_in_order ps ≡ true → find (λ x. is_eq (order z x)) (all_joined order rank base held ps 0 []) ≡ best rank (filter (λ x. is_eq (order z x)) (told base held (greatest base ps) ps))
+  found_at z ps k =
+      find_all_joined order rank o base held holds (λ x. is_eq (order z x)) (λ x y h. ap is_eq (alike_right o x y z h)) (λ x y p q. sym (o.congr z x y (equal _ p)) ∙ equal _ q) ps 0 [] k (no_items order) (greatest base ps) (sym (based_is base ps 0 ∙ from_zero _))
+      ∙ ap (λ f. best_from rank f (filter (λ x. is_eq (order z x)) (told base held (greatest base ps) ps))) (none_yet (0 == greatest base ps) (λ x. is_eq (order z x)))
+
 module _ {X : Type 0} (order rank : X → X → Ordering) (o : IsTotalOrder order) (r : IsTotalOrder rank) (node : X → ℕ) (by_node : (x y : X) → rank x y ≡ Equal → node x ≡ node y)
     (base : Pull → ℕ) (held : Pull → List X) (holds : (pull : Pull) → is_in_order pull ≡ true → IsStrictlySortedBy order (held pull)) (at_node : (pull : Pull) (x : X) → In x (held pull) → node x ≡ pull.node) where
   same_items : (pulls others : List Pull) → are_in_order pulls ≡ true → are_in_order others ≡ true → ((p q : Pull) → In p pulls → In q pulls → p.node ≡ q.node → p ≡ q)
       → ((p : Pull) → In p pulls → In p others) → ((p : Pull) → In p others → In p pulls) → all_joined order rank base held pulls 0 [] ≡ all_joined order rank base held others 0 []
   same_items pulls others k l apart there back =
       same_list order o _ _ (all_joined_ascends order rank o base held holds pulls 0 [] k (no_items order)) (all_joined_ascends order rank o base held holds others 0 [] l (no_items order))
-      (λ z. found z pulls k ∙ same_best rank r _ _ (over z pulls others there) (over z others pulls back) (alone z) ∙ ap (λ p. best rank (filter (λ x. is_eq (order z x)) (told base held p others))) (same_greatest base pulls others there back) ∙ sym (found z others l))
+      (λ z. found_at order rank o base held holds z pulls k ∙ same_best rank r _ _ (over z pulls others there) (over z others pulls back) (alone z) ∙ ap (λ p. best rank (filter (λ x. is_eq (order z x)) (told base held p others))) (same_greatest base pulls others there back) ∙ sym (found_at order rank o base held holds z others l))
     where
-      found : (z : X) (ps : List Pull) → are_in_order ps ≡ true → find (λ x. is_eq (order z x)) (all_joined order rank base held ps 0 []) ≡ best rank (filter (λ x. is_eq (order z x)) (told base held (greatest base ps) ps))
-      found z ps k =
-          find_all_joined order rank o base held holds (λ x. is_eq (order z x)) (λ x y h. ap is_eq (alike_right o x y z h)) (λ x y p q. sym (o.congr z x y (equal _ p)) ∙ equal _ q) ps 0 [] k (no_items order) (greatest base ps) (sym (based_is base ps 0 ∙ from_zero _))
-          ∙ ap (λ f. best_from rank f (filter (λ x. is_eq (order z x)) (told base held (greatest base ps) ps))) (none_yet (0 == greatest base ps) (λ x. is_eq (order z x)))
-
       over : (z : X) (ps qs : List Pull) → ((p : Pull) → In p ps → In p qs) → (x : X) → In x (filter (λ x. is_eq (order z x)) (told base held (greatest base pulls) ps)) → In x (filter (λ x. is_eq (order z x)) (told base held (greatest base pulls) qs))
       over z ps qs h x i =
           let j = in_filter (λ x. is_eq (order z x)) (told base held (greatest base pulls) ps) x i in

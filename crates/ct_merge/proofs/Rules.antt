@@ -53,16 +53,16 @@ pub from_zero : (n : ℕ) → greater 0 n ≡ n
 from_zero n = grind arith
 
 -- rows by database and key
-abbrev place_cmp : (ℕ × List ℕ) → (ℕ × List ℕ) → Ordering
+abbrev pub place_cmp : (ℕ × List ℕ) → (ℕ × List ℕ) → Ordering
 place_cmp a b = ordering_then (nat_cmp a.0 b.0) (slice_cmp nat_cmp a.1 b.1)
 
 place_total : IsTotalOrder place_cmp
 place_total = then_total (on_total (λ a. a.0) nat_cmp_total) (on_total (λ a. a.1) nat_list_cmp_total)
 
-abbrev row_place : HeldRow → (ℕ × List ℕ)
+abbrev pub row_place : HeldRow → (ℕ × List ℕ)
 row_place h = (h.row.db, h.row.key)
 
-row_test : (db : ℕ) (key : List ℕ) (h : HeldRow) → is_row_at db key h.row ≡ is_eq (place_cmp (db, key) (row_place h))
+pub row_test : (db : ℕ) (key : List ℕ) (h : HeldRow) → is_row_at db key h.row ≡ is_eq (place_cmp (db, key) (row_place h))
 row_test db key h = tied_then (nat_cmp db h.row.db) (slice_cmp nat_cmp key h.row.key)
 
 pub rows_alike : (db : ℕ) (key : List ℕ) (x y : HeldRow) → row_order x y ≡ Equal → is_row_at db key x.row ≡ is_row_at db key y.row

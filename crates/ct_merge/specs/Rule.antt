@@ -1,6 +1,6 @@
 -- What a round makes of the pulls of its members, by key, place and address.
-use Rattle.std.specs.Prelude.{◌≡◌, ℕ, Bool, true, ◌==◌, List, [], ◌∷◌, ◌++◌, Option, if◌then◌else◌, Contains}
-use Rattle.std.specs.List.{filter, find, list_all}
+use Rattle.std.specs.Prelude.{◌≡◌, ◌≤◌, ◌+◌, ℕ, Bool, true, ◌==◌, List, [], ◌∷◌, ◌++◌, Option, if◌then◌else◌, Contains}
+use Rattle.std.specs.List.{filter, find, list_all, list_any}
 use Rattle.std.specs.Option.{option_map}
 use Rattle.std.specs.Ordering.{nat_cmp}
 use Rattle.std.specs.BTreeMap.{is_at}
@@ -18,7 +18,7 @@ use Rattle.ct_merge.specs.declared.merged.Merged.{Merged}
 use Rattle.ct_merge.specs.declared.merged.MergedAll.{MergedAll}
 use Rattle.ct_merge.specs.declared.merged.PMerged.{PMerged}
 use Rattle.ct_merge.specs.Placing.{best}
-use Rattle.ct_merge.specs.Held.{is_in_order, is_row_at, row_rank, ptable_rank, address_rank, rows_of, ptables_of, addresses_of}
+use Rattle.ct_merge.specs.Held.{is_in_order, is_own, is_row_at, row_rank, ptable_rank, address_rank, rows_of, ptables_of, addresses_of}
 use Rattle.ct_merge.specs.Gathered.{greater, assigned_to}
 
 abbrev pub are_in_order : List Pull → Bool
@@ -84,3 +84,17 @@ IsMerge pulls m = IsVolatileMerge pulls m.table × IsPersistentMerge pulls m.pta
 -- pulls of one node are one pull
 abbrev pub HasOneOfEach : List Pull → Type 0
 HasOneOfEach pulls = (p q : Pull) → Contains pulls p → Contains pulls q → p.node ≡ q.node → p ≡ q
+
+-- how many of these differ
+abbrev pub different : {X : Type 0} → (X → X → Bool) → List X → ℕ
+different same [] = 0
+different same (x ∷ xs) = if list_any (same x) xs then different same xs else different same xs + 1
+
+-- rows of one database and key
+abbrev pub is_same_place : HeldRow → HeldRow → Bool
+is_same_place a b = is_row_at a.row.db a.row.key b.row
+
+-- of two rows at a key the first is kept rather than the second: its RSN is no smaller; where they have one RSN and the
+-- second names its own node as data master, so does the first; and where both do or both do not, its node is no higher
+abbrev pub IsKeptRather : HeldRow → HeldRow → Type 0
+IsKeptRather x y = (y.row.rsn ≤ x.row.rsn) × (y.row.rsn ≡ x.row.rsn → is_own y ≡ true → is_own x ≡ true) × (y.row.rsn ≡ x.row.rsn → is_own y ≡ is_own x → x.node ≤ y.node)
