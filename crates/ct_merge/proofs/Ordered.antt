@@ -68,12 +68,12 @@ module _ {X Y : Type 0} (order : X → X → Ordering) (before : Y → Y → Boo
   chained [] h = refl
   chained (x ∷ xs) h = chain_after x xs h
 
-is_lt_then : (lt eq : Bool) (c : Ordering) → is_lt (ordering_then (cond lt Less (cond eq Equal Greater)) c) ≡ (lt || (eq && is_lt c))
+pub is_lt_then : (lt eq : Bool) (c : Ordering) → is_lt (ordering_then (cond lt Less (cond eq Equal Greater)) c) ≡ (lt || (eq && is_lt c))
 is_lt_then true eq c = refl
 is_lt_then false true c = refl
 is_lt_then false false c = refl
 
-is_lt_nat : (lt eq : Bool) → is_lt (cond lt Less (cond eq Equal Greater)) ≡ lt
+pub is_lt_nat : (lt eq : Bool) → is_lt (cond lt Less (cond eq Equal Greater)) ≡ lt
 is_lt_nat true eq = refl
 is_lt_nat false true = refl
 is_lt_nat false false = refl

@@ -56,7 +56,7 @@ from_zero n = grind arith
 abbrev pub place_cmp : (ℕ × List ℕ) → (ℕ × List ℕ) → Ordering
 place_cmp a b = ordering_then (nat_cmp a.0 b.0) (slice_cmp nat_cmp a.1 b.1)
 
-place_total : IsTotalOrder place_cmp
+pub place_total : IsTotalOrder place_cmp
 place_total = then_total (on_total (λ a. a.0) nat_cmp_total) (on_total (λ a. a.1) nat_list_cmp_total)
 
 abbrev pub row_place : HeldRow → (ℕ × List ℕ)

@@ -6,6 +6,7 @@ ghost use Rattle.std.specs.Cmp.{IsTotalOrder};
 ghost use Rattle.ct_frame.specs.declared.round.Pull.{Pull};
 ghost use Rattle.ct_frame.specs.declared.frame.Msg.{Msg};
 ghost use Rattle.ct_frame.specs.Fields.{is_message};
+ghost use Rattle.ct_merge.specs.declared.merged.MergedAll.{MergedAll};
 ghost use Rattle.ct_merge.specs.declared.held.HeldRow.{HeldRow};
 ghost use Rattle.ct_merge.specs.Placing.{best};
 ghost use Rattle.ct_merge.specs.Held.{is_in_order, rows_of, row_rank, ptable_rank, address_rank};
@@ -20,6 +21,11 @@ pub fn gathered_pulls_are_merged()
 /// What is gathered of the pulls of different members is the same in whatever order they come.
 pub fn order_does_not_matter()
     ensures { (pulls others : List Pull) → are_in_order pulls ≡ true → HasOneOfEach pulls → ((p : Pull) → Contains pulls p ↔ Contains others p) → gathered_all pulls nothing ≡ gathered_all others nothing }
+{}
+
+/// The rule of the three merges gives one answer.
+pub fn merges_have_one_answer()
+    ensures { (pulls : List Pull) (m n : MergedAll) → IsMerge pulls m → IsMerge pulls n → m ≡ n }
 {}
 
 /// The best of several is one of them, and none comes before it.
