@@ -1,0 +1,5 @@
+pub mod Choices
+pub mod Distances
+pub mod Repeats
+pub mod Standing
+pub mod Steps

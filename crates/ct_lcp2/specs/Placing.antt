@@ -1,6 +1,6 @@
 -- LCP2: which node holds which address, in three steps. Addresses leave the nodes that are not able; addresses with no
 -- node are placed where they are farthest from the others; addresses fail back to nodes that held none at first.
-use Rattle.std.specs.Prelude.{ℕ, zero, suc, ◌+◌, Bool, true, false, not, ◌&&◌, ◌||◌, ◌==◌, nat_lt, nat_eq, is_some, if◌then◌else◌, List, [], ◌∷◌, ◌++◌, map, Option, None, Some}
+use Rattle.std.specs.Prelude.{ℕ, zero, suc, ◌+◌, Bool, true, false, not, ◌&&◌, ◌||◌, ◌==◌, nat_lt, nat_eq, is_some, if◌then◌else◌, List, [], ◌∷◌, ◌++◌, map, Option, None, Some, option_map}
 use Rattle.std.specs.List.{filter, list_any}
 use Rattle.std.specs.List.Sorted.{IsStrictlySortedBy}
 use Rattle.ct_bytes.specs.Address.{address_cmp}
@@ -47,10 +47,15 @@ sent a node xs = map (seated a node) xs
 abbrev pub moved : Address → Option ℕ → ℕ → Placement → Placement
 moved a source target p = record { at = sent a target p.at; moves = p.moves ++ record { address = a; source = source; target = Some target } ∷ [] }
 
--- where there is something, what it makes of the placement, and else the placement
-abbrev pub if_some : {X : Type 0} → Option X → (X → Placement) → Placement → Placement
-if_some None f p = p
-if_some (Some x) f p = f x
+-- where there is a step, what it makes of the placement goes on, and else the placement stays
+abbrev pub if_some : Option Placement → (Placement → Placement) → Placement → Placement
+if_some None more p = p
+if_some (Some q) more p = more q
+
+-- the step is taken while there is one, and so many times at most
+unfoldable pub repeated : ℕ → (Placement → Option Placement) → Placement → Placement
+repeated zero next p = p
+repeated (suc n) next p = if_some (next p) (repeated n next) p
 
 -- ---- choices: a sum, and then an address and a node
 
@@ -101,14 +106,13 @@ unfoldable pub homeless : List Assigned → ℕ
 homeless [] = 0
 homeless (x ∷ xs) = if is_some x.node then homeless xs else suc (homeless xs)
 
--- the best pair is placed, so many times at most
-unfoldable pub filled_in : ℕ → List ℕ → Placement → Placement
-filled_in zero able p = p
-filled_in (suc n) able p = if_some (next_place able p.at) (λ c. filled_in n able (moved c.address None c.node p)) p
+-- the best pair is placed
+abbrev pub one_placed : List ℕ → Placement → Option Placement
+one_placed able p = option_map (λ c. moved c.address None c.node p) (next_place able p.at)
 
 -- while an address has no node and a node is able, the best pair is placed
 abbrev pub filled : List ℕ → Placement → Placement
-filled able p = filled_in (homeless p.at) able p
+filled able p = repeated (homeless p.at) (one_placed able) p
 
 -- ---- step three: failback
 
@@ -160,15 +164,13 @@ unfoldable pub total : List Assigned → ℕ
 total [] = 0
 total (x ∷ xs) = sum_to x.address (beside x.node xs) + total xs
 
--- the best move of the first source that has one is made, so many times at most
-unfoldable pub failed_back_in : ℕ → List ℕ → List ℕ → Placement → Placement
-failed_back_in zero able targets p = p
-failed_back_in (suc n) able targets p =
-    if_some (next_failback able targets p.at) (λ s. failed_back_in n able targets (moved s.choice.address (Some s.node) s.choice.node p)) p
+-- the best move of the first source that has one is made
+abbrev pub one_failed_back : List ℕ → List ℕ → Placement → Option Placement
+one_failed_back able targets p = option_map (λ s. moved s.choice.address (Some s.node) s.choice.node p) (next_failback able targets p.at)
 
 -- while a source has a move, the best move of the first such source is made
 abbrev pub failed_back : List ℕ → List ℕ → Placement → Placement
-failed_back able targets p = failed_back_in (total p.at) able targets p
+failed_back able targets p = repeated (total p.at) (one_failed_back able targets) p
 
 -- ---- the whole
 

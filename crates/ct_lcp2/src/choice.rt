@@ -71,3 +71,27 @@ impl Choice {
         }
     }
 }
+
+impl Source {
+    /// Sources are tried by falling imbalance, and of equal ones the lower node first.
+    fn comes_before(&self, other: &Source) -> bool
+        ensures { result ≡ source_before self.now other.now }
+    {
+        self.imbalance > other.imbalance
+            || (self.imbalance == other.imbalance && self.node < other.node)
+    }
+
+    /// This one where it comes before the best so far.
+    pub fn or_better(self, best: Option<Source>) -> Option<Source>
+        ensures { result ≡ better source_before best self }
+    {
+        match best {
+            None => Some(self),
+            Some(other) => if self.comes_before(&other) {
+                Some(self)
+            } else {
+                Some(other)
+            },
+        }
+    }
+}

@@ -7,14 +7,16 @@ use ct_bytes::address::Address;
 
 /// How many of their first 32 bits two numbers have in common.
 fn agreed_of_32(a: u32, b: u32) -> u32
-    ensures { result ≡ agreed 32 a b }
+    ensures exact { result ≡ agreed 32 a b }
+    ensures in_range { result ≤ 32 }
 {
     (a ^ b).leading_zeros()
 }
 
 /// How many of their first 128 bits two numbers have in common.
 fn agreed_of_128(a: u128, b: u128) -> u32
-    ensures { result ≡ agreed 128 a b }
+    ensures exact { result ≡ agreed 128 a b }
+    ensures in_range { result ≤ 128 }
 {
     (a ^ b).leading_zeros()
 }
@@ -34,6 +36,7 @@ pub fn distance(a: Address, b: Address) -> u32
 }
 
 /// The sum of squared distances of an address to others.
+#[tactic(auto, unfolding(crate::specs::Distance::sum_to), using(crate::proofs::Distances::sum_within))]
 pub fn sum_to(address: Address, others: &[Address]) -> u64
     requires { length others.now ≤ 256 }
     ensures { result ≡ sum_to address others.now }
@@ -47,6 +50,7 @@ pub fn sum_to(address: Address, others: &[Address]) -> u64
 }
 
 /// The sum of squared distances over the unordered pairs of at most 256 addresses. It takes no memory.
+#[tactic(auto, unfolding(crate::specs::Distance::imbalance), using(crate::proofs::Distances::imbalance_within))]
 pub fn imbalance(addresses: &[Address]) -> u64
     requires { length addresses.now ≤ 256 }
     ensures { result ≡ imbalance addresses.now }

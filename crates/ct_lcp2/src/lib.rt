@@ -3,6 +3,10 @@
 
 pub mod choice;
 pub mod distance;
+mod failback;
+pub mod laws;
 pub mod placement;
+mod start;
 #[cfg(test)]
 mod tests;
+mod vacant;

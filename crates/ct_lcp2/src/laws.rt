@@ -1,0 +1,12 @@
+//! What follows from the rules.
+ghost use Rattle.std.specs.Prelude.{ℕ, ◌≡◌, ◌<◌, ◌^◌, None};
+ghost use Rattle.ct_bytes.specs.declared.address.Address.TheVariants.{V4, V6};
+ghost use Rattle.ct_lcp2.specs.Distance.{distance, IsAgreed};
+
+/// The distance of two addresses of one family is the greatest number of first bits in which they agree, and 0 across
+/// the families.
+pub fn distance_is_greatest()
+    ensures of_ipv4 { (a b : ℕ) → a < 2 ^ 32 → b < 2 ^ 32 → IsAgreed 32 a b (distance (V4 a) (V4 b)) }
+    ensures of_ipv6 { (a b : ℕ) → a < 2 ^ 128 → b < 2 ^ 128 → IsAgreed 128 a b (distance (V6 a) (V6 b)) }
+    ensures across { (a b : ℕ) → (distance (V4 a) (V6 b) ≡ 0) × (distance (V6 a) (V4 b) ≡ 0) }
+{}
