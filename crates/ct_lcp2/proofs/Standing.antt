@@ -1,10 +1,12 @@
 -- Addresses at their nodes, before and after one of them is sent to another.
 use Rattle.std.proofs.Common.{◌≡◌, ℕ, zero, suc, ◌+◌, ◌*◌, ◌<◌, ◌≤◌, Bool, true, false, nat_eq, nat_lt, List, [], ◌∷◌, ◌++◌, length, get_or, take, drop, Option, Some, None, refl, sym, ap, ◌∙◌, subst, arith}
-use Rattle.std.specs.Prelude.{if◌then◌else◌, is_some, not, ◌==◌}
+use Rattle.std.specs.Prelude.{if◌then◌else◌, is_some, not, ◌==◌, ◌&&◌, ◌↔◌, IsTrue}
 use Rattle.std.specs.List.{AllByRecursion}
 use Rattle.std.specs.List.Sorted.{IsStrictlySortedBy}
-use Rattle.std.specs.Ordering.{nat_cmp}
-use Rattle.std.specs.declared.cmp.Ordering.TheVariants.{Less}
+use Rattle.std.specs.Ordering.{nat_cmp, is_lt}
+use Rattle.ct_frame.specs.Fields.{ascends, ascends_after, assigned_before}
+use Rattle.std.specs.declared.cmp.Ordering.{Ordering}
+use Rattle.std.specs.declared.cmp.Ordering.TheVariants.{Less, Equal, Greater}
 use Rattle.std.proofs.lemmas.Bool.Decides.{nat_tests}
 use Rattle.ct_bytes.specs.Address.{address_cmp}
 use Rattle.ct_bytes.specs.declared.address.Address.{Address}
@@ -322,3 +324,58 @@ total_falls xs s t a h split d near =
     let away = away_from a (Some s) split.0 split.1 (subst Ascend split.2 h) in
     let e = subst (λ ys. total (sent a t ys) + sum_to a (others a (held s ys)) ≡ total ys + sum_to a (held t ys)) (sym split.2) (total_split a s t split.0 split.1 d away.0 away.1) in
     omega (arith, e, near)
+
+-- ---- neighbours in order are in order
+
+number_rises : (a b c : ℕ) → nat_cmp a b ≡ Less → nat_cmp b c ≡ Less → nat_cmp a c ≡ Less
+number_rises a b c h k = grind (arith, nat_tests)
+
+rises : (a b c : Address) → address_cmp a b ≡ Less → address_cmp b c ≡ Less → address_cmp a c ≡ Less
+rises (V4 a) (V4 b) (V4 c) h k = number_rises a b c h k
+rises (V4 a) (V4 b) (V6 c) h k = refl
+rises (V4 a) (V6 b) (V6 c) h k = refl
+rises (V4 a) (V6 b) (V4 c) h k = absurd (cc)
+rises (V6 a) (V4 b) c h k = absurd (cc)
+rises (V6 a) (V6 b) (V4 c) h k = absurd (cc)
+rises (V6 a) (V6 b) (V6 c) h k = number_rises a b c h k
+
+is_less : (o : Ordering) → is_lt o ≡ true → o ≡ Less
+is_less Less h = refl
+is_less Equal h = absurd (cc)
+is_less Greater h = absurd (cc)
+
+first_of : (s t : Bool) → (s && t) ≡ true → (s ≡ true) × (t ≡ true)
+first_of true t h = (refl, h)
+first_of false t h = absurd (cc)
+
+ascend_after : (x : Assigned) (xs : List Assigned) → ascends_after assigned_before x xs ≡ true → Ascend (x ∷ xs)
+unfolding IsStrictlySortedBy
+ascend_after x [] h = (tt, tt)
+ascend_after x (y ∷ ys) h =
+    let p = first_of (assigned_before x y) (ascends_after assigned_before y ys) h in
+    let less = is_less (address_cmp x.address y.address) p.0 in
+    let more = ascend_after y ys p.1 in
+    ((less, all_weaken (λ b. address_cmp y.address b ≡ Less) (λ b. address_cmp x.address b ≡ Less) (λ b k. rises x.address y.address b less k) (addresses ys) more.0), more)
+
+pub ascend_from : (xs : List Assigned) → ascends assigned_before xs ≡ true → Ascend xs
+unfolding IsStrictlySortedBy
+ascend_from [] h = tt
+ascend_from (x ∷ xs) h = ascend_after x xs h
+
+ascends_from : (x : Assigned) (xs : List Assigned) → Ascend (x ∷ xs) → ascends_after assigned_before x xs ≡ true
+unfolding IsStrictlySortedBy
+ascends_from x [] h = refl
+ascends_from x (y ∷ ys) h = ap (λ o. is_lt o && ascends_after assigned_before y ys) h.0.0 ∙ ascends_from y ys h.1
+
+pub ascend_to : (xs : List Assigned) → Ascend xs → ascends assigned_before xs ≡ true
+ascend_to [] h = refl
+ascend_to (x ∷ xs) h = ascends_from x xs h
+
+pub ascend_iff : (r : Bool) (xs : List Assigned) → r ≡ ascends assigned_before xs → IsTrue r ↔ Ascend xs
+ascend_iff r xs e = (λ t. ascend_from xs (sym e ∙ true_is r t), λ a. is_true r (e ∙ ascend_to xs a))
+  where
+    true_is : (b : Bool) → IsTrue b → b ≡ true
+    true_is b t = grind arith
+
+    is_true : (b : Bool) → b ≡ true → IsTrue b
+    is_true b t = grind arith

@@ -9,7 +9,7 @@ use Rattle.ct_msg.specs.Config.{same_address}
 use Rattle.ct_frame.specs.Fields.{address_before}
 use Rattle.ct_frame.specs.declared.frame.Assigned.{Assigned}
 use Rattle.ct_lcp2.specs.Distance.{sum_to, imbalance}
-use Rattle.ct_lcp2.specs.Best.{best}
+use Rattle.ct_lcp2.specs.Best.{best, better}
 use Rattle.ct_lcp2.specs.declared.choice.Choice.{Choice}
 use Rattle.ct_lcp2.specs.declared.choice.Source.{Source}
 use Rattle.ct_lcp2.specs.declared.placement.Move.{Move}
@@ -149,6 +149,16 @@ sources (node ∷ nodes) targets xs =
 -- sources are tried by falling imbalance, and of equal ones the lower node first
 abbrev pub source_before : Source → Source → Bool
 source_before s t = nat_lt t.imbalance s.imbalance || (s.imbalance == t.imbalance && nat_lt s.node t.node)
+
+-- the first of the best source so far and a node with this imbalance and this best move, if it has one
+abbrev pub with_source : ℕ → ℕ → Option Choice → Option Source → Option Source
+with_source node imbalance None so_far = so_far
+with_source node imbalance (Some c) so_far = better source_before so_far (record { imbalance = imbalance; node = node; choice = c })
+
+-- a node with this imbalance comes after the best source so far, whatever its moves are
+abbrev pub is_behind : ℕ → ℕ → Option Source → Bool
+is_behind node imbalance None = false
+is_behind node imbalance (Some s) = not (nat_lt s.imbalance imbalance || (imbalance == s.imbalance && nat_lt node s.node))
 
 -- the first source that has a move, and its best move
 abbrev pub next_failback : List ℕ → List ℕ → List Assigned → Option Source

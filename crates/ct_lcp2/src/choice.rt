@@ -35,7 +35,7 @@ pub fn is_same(a: Address, b: Address) -> bool
     }
 }
 
-fn is_before(a: Address, b: Address) -> bool
+pub fn is_before(a: Address, b: Address) -> bool
     ensures { result ≡ address_before a b }
 {
     match (a, b) {

@@ -1,10 +1,10 @@
 //! Addresses fail back to nodes that held none.
 ghost use Rattle.std.specs.Prelude.{ℕ, ◌≡◌, ◌≤◌, IfOk, OnOk, length, map};
-ghost use Rattle.std.specs.List.{IsDistinct};
-ghost use Rattle.ct_msg.specs.Config.{same_address};
+ghost use Rattle.std.specs.List.Sorted.{IsStrictlySortedBy};
+ghost use Rattle.ct_bytes.specs.Address.{address_cmp};
 ghost use Rattle.ct_lcp2.specs.Best.{best, best_from};
 ghost use Rattle.ct_lcp2.specs.Distance.{imbalance, sum_to};
-ghost use Rattle.ct_lcp2.specs.Placing.{Ascend, choice_before, failbacks, failbacks_of, failed_back, held, next_failback, others};
+ghost use Rattle.ct_lcp2.specs.Placing.{Ascend, choice_before, failbacks, failbacks_of, failed_back, held, is_behind, next_failback, others, with_source};
 
 use crate::choice::{Choice, Source, is_same};
 use crate::distance::{distance, imbalance, sum_to};
@@ -44,6 +44,7 @@ fn sums_to_others(alloc: Global, here: &[Address]) -> Result<Vec<u64>, NoMemory>
 }
 
 /// The best so far, and the moves from a node that holds the first list to a target that holds the second.
+#[tactic(auto, unfolding(crate::specs::Placing::failbacks_of, crate::specs::Best::best_from, crate::specs::Distance::imbalance), using(crate::proofs::Distances::sum_within, crate::proofs::Distances::imbalance_within))]
 fn best_failback_to(
     target: u32,
     here: &[Address],
@@ -54,7 +55,7 @@ fn best_failback_to(
 ) -> Option<Choice>
     requires few { length here.now ≤ 256 }
     requires few_there { length there.now ≤ 256 }
-    requires apart { IsDistinct same_address here.now }
+    requires ascending { IsStrictlySortedBy address_cmp here.now }
     requires sums { sums.now ≡ map (λ a. sum_to a (others a here.now)) here.now }
     requires weight { weight ≡ imbalance here.now }
     ensures { result ≡ best_from choice_before best (failbacks_of target here.now there.now here.now) }
@@ -77,6 +78,7 @@ fn best_failback_to(
 }
 
 /// The best move from a node to another of the targets.
+#[tactic(auto, unfolding(crate::specs::Best::best_from, crate::specs::Placing::failbacks), using(crate::proofs::Standing::held_length, crate::proofs::Standing::held_ascends))]
 fn best_failback(
     alloc: Global,
     source: u32,
@@ -102,7 +104,50 @@ fn best_failback(
     Ok(best)
 }
 
+/// Does a node with this imbalance come after the best source so far, whatever its moves are?
+fn is_behind(node: u32, weight: u64, so_far: Option<Source>) -> bool
+    ensures { result ≡ is_behind node weight so_far }
+{
+    match so_far {
+        None => false,
+        Some(source) => !(source.imbalance < weight
+            || (weight == source.imbalance && node < source.node)),
+    }
+}
+
+/// The first of the best source so far and a node, if that has a move.
+#[tactic(auto, using(crate::proofs::Standing::held_length, crate::proofs::Loops::behind))]
+fn with_source(
+    alloc: Global,
+    node: u32,
+    targets: &[u32],
+    at: &[Assigned],
+    so_far: Option<Source>,
+) -> Result<Option<Source>, NoMemory>
+    requires few { length at.now ≤ 256 }
+    requires ascending { Ascend at.now }
+    ensures { IfOk result (λ s. s ≡ with_source node (imbalance (held node at.now)) (best choice_before (failbacks node targets.now at.now)) so_far) }
+{
+    let here = held(alloc, node, at)?;
+    let weight = imbalance(&here);
+    if is_behind(node, weight, so_far) {
+        return Ok(so_far);
+    }
+    match best_failback(alloc, node, &here, weight, targets, at)? {
+        None => Ok(so_far),
+        Some(choice) => {
+            let source = Source {
+                imbalance: weight,
+                node,
+                choice,
+            };
+            Ok(source.or_better(so_far))
+        }
+    }
+}
+
 /// The first source that has a move, and its best move.
+#[tactic(auto, unfolding(crate::specs::Best::best_from, crate::specs::Placing::sources))]
 fn next_failback(
     alloc: Global,
     able: &[u32],
@@ -113,23 +158,15 @@ fn next_failback(
     requires ascending { Ascend at.now }
     ensures { IfOk result (λ s. s ≡ next_failback able.now targets.now at.now) }
 {
-    let mut best: Option<Source> = None;
+    let mut best = None;
     for node in able {
-        let here = held(alloc, *node, at)?;
-        let weight = imbalance(&here);
-        if let Some(choice) = best_failback(alloc, *node, &here, weight, targets, at)? {
-            let source = Source {
-                imbalance: weight,
-                node: *node,
-                choice,
-            };
-            best = source.or_better(best);
-        }
+        best = with_source(alloc, *node, targets, at, best)?;
     }
     Ok(best)
 }
 
 /// While a source has a move, the best move of the first such source is made.
+#[tactic(auto, using(crate::proofs::Steps::failback_end))]
 pub fn fail_back(
     alloc: Global,
     able: &[u32],

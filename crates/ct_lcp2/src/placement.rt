@@ -1,8 +1,9 @@
 //! Placements of addresses on nodes.
-ghost use Rattle.std.specs.Prelude.{◌≡◌, ◌≤◌, IfOk, OnOk, length};
+ghost use Rattle.std.specs.Prelude.{◌≡◌, ◌≤◌, ◌↔◌, IfOk, IsTrue, OnOk, length};
+ghost use Rattle.ct_frame.specs.Fields.{ascends, assigned_before};
 ghost use Rattle.ct_lcp2.specs.Placing.{moved, placement, sent, seated, Ascend};
 
-use crate::choice::is_same;
+use crate::choice::{is_before, is_same};
 use crate::failback::fail_back;
 use crate::start::{begin, targets_of};
 use crate::vacant::fill;
@@ -85,6 +86,30 @@ impl Placement {
         self.at = Items::new(at);
         Ok(())
     }
+}
+
+/// Does each address come before the next?
+fn neighbours_ascend(at: &[Assigned]) -> bool
+    ensures { result ≡ ascends assigned_before at.now }
+{
+    let Some((first, rest)) = at.split_first() else {
+        return true;
+    };
+    let mut last = first;
+    for x in rest {
+        if !is_before(last.address, x.address) {
+            return false;
+        }
+        last = x;
+    }
+    true
+}
+
+/// Do the addresses ascend, none twice?
+pub fn do_ascend(at: &[Assigned]) -> bool
+    ensures { IsTrue result ↔ Ascend at.now }
+{
+    neighbours_ascend(at)
 }
 
 /// The placement that is made of the given one.
