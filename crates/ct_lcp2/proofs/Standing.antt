@@ -1,6 +1,6 @@
 -- Addresses at their nodes, before and after one of them is sent to another.
 use Rattle.std.proofs.Common.{◌≡◌, ℕ, zero, suc, ◌+◌, ◌*◌, ◌<◌, ◌≤◌, Bool, true, false, nat_eq, nat_lt, List, [], ◌∷◌, ◌++◌, length, get_or, take, drop, Option, Some, None, refl, sym, ap, ◌∙◌, subst, arith}
-use Rattle.std.specs.Prelude.{if◌then◌else◌, is_some, not, ◌==◌, ◌&&◌, ◌↔◌, IsTrue}
+use Rattle.std.specs.Prelude.{if◌then◌else◌, is_some, map, not, ◌==◌, ◌&&◌, ◌↔◌, IsTrue}
 use Rattle.std.specs.List.{AllByRecursion}
 use Rattle.std.specs.List.Sorted.{IsStrictlySortedBy}
 use Rattle.std.specs.Ordering.{nat_cmp, is_lt}
@@ -14,7 +14,7 @@ use Rattle.ct_bytes.specs.declared.address.Address.TheVariants.{V4, V6}
 use Rattle.ct_msg.specs.Config.{same_address}
 use Rattle.ct_frame.specs.declared.frame.Assigned.{Assigned}
 use Rattle.ct_lcp2.specs.Distance.{squared, sum_to, imbalance}
-use Rattle.ct_lcp2.specs.Placing.{addresses, Ascend, is_at, held, others, seated, sent, beside, total, homeless}
+use Rattle.ct_lcp2.specs.Placing.{addresses, Ascend, freed, must_leave, is_at, held, others, seated, sent, beside, total, homeless}
 use Rattle.ct_lcp2.proofs.Distances.{squared_symmetric, sum_within}
 use Rattle.ct_lcp2.proofs.Choices.{all_weaken}
 
@@ -379,3 +379,11 @@ ascend_iff r xs e = (λ t. ascend_from xs (sym e ∙ true_is r t), λ a. is_true
 
     is_true : (b : Bool) → b ≡ true → IsTrue b
     is_true b t = grind arith
+
+pub addresses_begun : (able : List ℕ) (xs : List Assigned) → addresses (map (freed able) xs) ≡ addresses xs
+addresses_begun able [] = refl
+addresses_begun able (x ∷ xs) = by (must_leave able x.node) (addresses_begun able xs)
+  where
+    by : (b : Bool) → addresses (map (freed able) xs) ≡ addresses xs → addresses ((if b then record { address = x.address; node = None } else x) ∷ map (freed able) xs) ≡ x.address ∷ addresses xs
+    by true h = ap (λ cs. x.address ∷ cs) h
+    by false h = ap (λ cs. x.address ∷ cs) h
