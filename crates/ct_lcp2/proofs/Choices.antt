@@ -1,5 +1,5 @@
 -- The first of a list in an order, and what holds of each item of the lists of choices.
-use Rattle.std.proofs.Common.{◌≡◌, ℕ, suc, ◌+◌, ◌<◌, Bool, true, false, nat_eq, nat_lt, List, [], ◌∷◌, ◌++◌, length, get_or, drop, drop-cons, Option, Some, None, refl, sym, ap, ◌∙◌, subst, add-one}
+use Rattle.std.proofs.Common.{◌≡◌, ℕ, suc, ◌+◌, ◌<◌, Bool, true, false, nat_eq, List, [], ◌∷◌, ◌++◌, length, get_or, drop, drop-cons, Option, Some, None, refl, sym, ap, ◌∙◌, subst, add-one}
 use Rattle.std.specs.Prelude.{if◌then◌else◌, is_some}
 use Rattle.std.specs.List.{AllByRecursion}
 use Rattle.std.specs.Option.{IfSome}
@@ -7,7 +7,7 @@ use Rattle.ct_bytes.specs.declared.address.Address.{Address}
 use Rattle.ct_frame.specs.declared.frame.Assigned.{Assigned}
 use Rattle.ct_lcp2.specs.Best.{better, best_from, best}
 use Rattle.ct_lcp2.specs.Distance.{sum_to, imbalance}
-use Rattle.ct_lcp2.specs.Placing.{choice_before, source_before, places_at, places, held, others, failbacks_of, failbacks, may_fail_back, source_of, sources}
+use Rattle.ct_lcp2.specs.Placing.{choice_before, places_at, places, held, others, failbacks_of, failbacks, may_fail_back, source_of, sources}
 use Rattle.ct_lcp2.specs.declared.choice.Choice.{Choice}
 use Rattle.ct_lcp2.specs.declared.choice.Source.{Source}
 

@@ -1,5 +1,5 @@
 -- A step that is taken while there is one, where a number falls at each.
-use Rattle.std.proofs.Common.{◌≡◌, ℕ, zero, suc, ◌<◌, ◌≤◌, Option, Some, None, refl, sym, ap, ◌∙◌, subst, arith}
+use Rattle.std.proofs.Common.{◌≡◌, ℕ, zero, suc, ◌<◌, ◌≤◌, Option, Some, None, refl, sym, ap, ◌∙◌, arith}
 use Rattle.ct_lcp2.specs.declared.placement.Placement.{Placement}
 use Rattle.ct_lcp2.specs.Placing.{if_some, repeated}
 

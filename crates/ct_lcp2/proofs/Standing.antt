@@ -1,5 +1,5 @@
 -- Addresses at their nodes, before and after one of them is sent to another.
-use Rattle.std.proofs.Common.{◌≡◌, ℕ, zero, suc, ◌+◌, ◌*◌, ◌<◌, ◌≤◌, Bool, true, false, nat_eq, nat_lt, List, [], ◌∷◌, ◌++◌, length, get_or, take, drop, Option, Some, None, refl, sym, ap, ◌∙◌, subst, arith}
+use Rattle.std.proofs.Common.{◌≡◌, ℕ, suc, ◌+◌, ◌*◌, ◌<◌, ◌≤◌, Bool, true, false, nat_eq, List, [], ◌∷◌, ◌++◌, length, Option, Some, None, refl, sym, ap, ◌∙◌, subst, arith}
 use Rattle.std.specs.Prelude.{if◌then◌else◌, is_some, map, not, ◌==◌, ◌&&◌, ◌↔◌, IsTrue}
 use Rattle.std.specs.List.{AllByRecursion}
 use Rattle.std.specs.List.Sorted.{IsStrictlySortedBy}
@@ -14,7 +14,7 @@ use Rattle.ct_bytes.specs.declared.address.Address.TheVariants.{V4, V6}
 use Rattle.ct_msg.specs.Config.{same_address}
 use Rattle.ct_frame.specs.declared.frame.Assigned.{Assigned}
 use Rattle.ct_lcp2.specs.Distance.{squared, sum_to, imbalance}
-use Rattle.ct_lcp2.specs.Placing.{addresses, Ascend, freed, must_leave, is_at, held, others, seated, sent, beside, total, homeless}
+use Rattle.ct_lcp2.specs.Placing.{addresses, Ascend, freed, must_leave, is_at, held, others, sent, beside, total, homeless}
 use Rattle.ct_lcp2.proofs.Distances.{squared_symmetric, sum_within}
 use Rattle.ct_lcp2.proofs.Choices.{all_weaken}
 

@@ -1,5 +1,5 @@
 -- The second and the third step, each of which comes to an end.
-use Rattle.std.proofs.Common.{◌≡◌, ℕ, zero, suc, ◌<◌, ◌≤◌, Bool, true, false, nat_eq, nat_lt, ◌&&◌, List, [], ◌∷◌, ◌++◌, length, Option, Some, None, refl, sym, ap, ◌∙◌, subst, arith}
+use Rattle.std.proofs.Common.{◌≡◌, ℕ, zero, suc, ◌<◌, Bool, true, false, nat_lt, ◌&&◌, List, [], ◌∷◌, ◌++◌, Option, Some, None, refl, sym, ap, ◌∙◌, subst, arith}
 use native.Mathlib.Nat.{le_refl}
 use Rattle.std.specs.Prelude.{if◌then◌else◌, is_some, option_map}
 use Rattle.std.specs.List.{AllByRecursion}
@@ -9,7 +9,7 @@ use Rattle.ct_bytes.specs.declared.address.Address.{Address}
 use Rattle.ct_frame.specs.declared.frame.Assigned.{Assigned}
 use Rattle.ct_lcp2.specs.Distance.{sum_to, imbalance}
 use Rattle.ct_lcp2.specs.Best.{best, best_from}
-use Rattle.ct_lcp2.specs.Placing.{addresses, Ascend, sent, moved, homeless, total, held, others, may_fail_back, failbacks, choice_before, source_before, places, sources, next_place, next_failback, one_placed, one_failed_back, filled, failed_back, repeated, if_some, begun, targets_of, placement, placed, source_of}
+use Rattle.ct_lcp2.specs.Placing.{Ascend, sent, moved, homeless, total, held, others, may_fail_back, failbacks, choice_before, source_before, places, sources, next_place, next_failback, one_placed, one_failed_back, filled, failed_back, repeated, if_some, begun, targets_of, placement, placed, source_of}
 use Rattle.ct_lcp2.specs.declared.choice.Choice.{Choice}
 use Rattle.ct_lcp2.specs.declared.choice.Source.{Source}
 use Rattle.ct_lcp2.specs.declared.placement.Placement.{Placement}

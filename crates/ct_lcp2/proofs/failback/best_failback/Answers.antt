@@ -1,4 +1,4 @@
-use Rattle.std.proofs.Common.{◌≡◌, ◌∙◌, sym, ap, true, false, get_or, nat_eq, arith}
+use Rattle.std.proofs.Common.{◌≡◌, ◌∙◌, ap, true, false, get_or, nat_eq, arith}
 use Rattle.ct_lcp2.specs.Best.{best_from}
 use Rattle.ct_lcp2.specs.Placing.{choice_before, failbacks_of, held}
 use Rattle.ct_lcp2.proofs.Loops.{target_more}

@@ -1,11 +1,8 @@
-use Rattle.std.proofs.Common.{◌∙◌, ◌≡◌, ap, true, false, get_or, arith}
-use Rattle.std.specs.Prelude.{◌+◌, ◌-◌}
-use Rattle.ct_lcp2.specs.Distance.{sum_to, imbalance}
-use Rattle.ct_lcp2.specs.Placing.{choice_before, others}
+use Rattle.std.proofs.Common.{◌∙◌, ap, true, false, get_or, arith}
+use Rattle.ct_lcp2.specs.Placing.{choice_before}
 use Rattle.ct_lcp2.specs.Best.{better}
-use Rattle.ct_lcp2.specs.declared.choice.Choice.{Choice}
 use Rattle.ct_lcp2.proofs.Distances.{sum_within, imbalance_within}
-use Rattle.ct_lcp2.proofs.Loops.{at, left_at, own_at, may, may_not_by_weight, may_not_by_sum, new_sum, address_more, back}
+use Rattle.ct_lcp2.proofs.Loops.{at, left_at, own_at, may, may_not_by_weight, may_not_by_sum, new_sum, address_more}
 use Rattle.ct_lcp2.proofs.failback.best_failback_to.Goals as goal
 use Rattle.ct_lcp2.proofs.failback.best_failback_to.Goals.{then-sum-weight_there+then-sum-own, else-sum-weight_there, else-sum-weight_there-via-then-sum-weight_there+else-sum-own, else-sum-weight_there-via-else-sum-weight_there}
 

@@ -1,7 +1,7 @@
 use Rattle.std.proofs.Common.{◌∙◌, sym, ap, subst, ◌<◌}
 use Rattle.std.specs.List.Sorted.{IsStrictlySortedBy}
 use Rattle.ct_bytes.specs.Address.{address_cmp}
-use Rattle.ct_lcp2.specs.Placing.{addresses, Ascend, total, next_failback}
+use Rattle.ct_lcp2.specs.Placing.{addresses, total, next_failback}
 use Rattle.ct_lcp2.proofs.Steps.{failback_less, failback_more}
 use Rattle.ct_lcp2.proofs.Standing.{addresses_sent}
 use Rattle.ct_lcp2.proofs.failback.fail_back.Goals as goal
