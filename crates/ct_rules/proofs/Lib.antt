@@ -1,0 +1,4 @@
+pub mod Formed
+pub mod Arriving
+pub mod Events
+pub mod Growing
