@@ -10,7 +10,7 @@ use Rattle.ct_frame.specs.declared.frame.CallKind.{CallKind}
 use Rattle.ct_frame.specs.declared.frame.CallKind.TheVariants as kind
 use Rattle.ct_rules.specs.State.{is_nil, a_copy, plain, rsn_of, is_mastered, is_quiet, is_free, is_wished}
 use Rattle.ct_rules.specs.Parts.{Moving, acts, send, reply, keeps, makes, opened, end_vacuum, keep}
-use Rattle.ct_rules.specs.Frames.{enqueue, on_call_of, called, on_call, wait, handle, recalled, on_recall, hand_on, on_give_of, on_give, satisfy_wish, become, take, refuse, on_pass, on_refuse_of, on_refuse, reads, on_grant, on_done_of, on_done, called_in, acknowledge, on_revoke_of, on_revoke, acknowledged, on_revokeack, stored_copy, deleted_copy, on_vstore, on_vdelete, finish, greater, on_vstored_of, on_vstored, on_vdeleted_of, on_vdeleted}
+use Rattle.ct_rules.specs.Frames.{enqueue, on_call_of, called, on_call, wait, handle, recalled, on_recall, hand_on, on_give_of, on_give, satisfy_wish, becomes, take, refuse, on_pass, on_refuse_of, on_refuse, reads, on_grant, on_done_of, on_done, called_in, acknowledge, on_revoke_of, on_revoke, acknowledged, on_revokeack, stored_copy, deleted_copy, on_vstore, on_vdelete, finish, greater, on_vstored_of, on_vstored, on_vdeleted_of, on_vdeleted}
 use Rattle.ct_rules.specs.Form.{least_of, sent_for, revoked_rsn, vacuumed_rsn, wished_as, wants_record, is_asked, is_recalled}
 use Rattle.ct_rules.specs.declared.event.Place.{Place}
 use Rattle.ct_rules.specs.declared.state.RecallNote.{RecallNote}
@@ -117,8 +117,8 @@ on_refuse_formed at n request rsn o home h = refuse_of_formed at n request rsn o
 
 -- ---- Pass
 
-become_formed : (at : Place) (rsn : ℕ) (value : List ℕ) (o : Moving) → is_none o.state.wish ≡ false → Formed at o → Formed at (become at rsn value o)
-unfolding Formed become keeps makes is_mastered is_quiet rsn_of least_of sent_for revoked_rsn vacuumed_rsn wished_as
+become_formed : (at : Place) (rsn : ℕ) (value : List ℕ) (o : Moving) → is_none o.state.wish ≡ false → Formed at o → Formed at (becomes at rsn value o)
+unfolding Formed becomes keeps makes is_mastered is_quiet rsn_of least_of sent_for revoked_rsn vacuumed_rsn wished_as
 become_formed at rsn value o wished h = grind arith
 
 take_of_formed : (at : Place) (rules : Rules) (o : Moving) (w : Option Wish) → o.state.wish ≡ w → is_mastered at.me o.state.copy ≡ true → is_quiet o.state.tracking ≡ true → Formed at o → Formed at (satisfy_wish rules o w)
@@ -126,17 +126,17 @@ unfolding satisfy_wish
 take_of_formed at rules o None is held quiet h = h
 take_of_formed at rules o (Some w) is held quiet h = satisfied_formed at rules o w is held quiet h
 
-become_held : (at : Place) (rsn : ℕ) (value : List ℕ) (o : Moving) → is_mastered at.me (become at rsn value o).state.copy ≡ true
-unfolding become keeps makes is_mastered
+become_held : (at : Place) (rsn : ℕ) (value : List ℕ) (o : Moving) → is_mastered at.me (becomes at rsn value o).state.copy ≡ true
+unfolding becomes keeps makes is_mastered
 become_held at rsn value o = grind arith
 
-become_rest : (at : Place) (rsn : ℕ) (value : List ℕ) (o : Moving) → ((become at rsn value o).state.wish ≡ o.state.wish) × (is_quiet (become at rsn value o).state.tracking ≡ true)
-unfolding become keeps makes is_quiet
+become_rest : (at : Place) (rsn : ℕ) (value : List ℕ) (o : Moving) → ((becomes at rsn value o).state.wish ≡ o.state.wish) × (is_quiet (becomes at rsn value o).state.tracking ≡ true)
+unfolding becomes keeps makes is_quiet
 become_rest at rsn value o = (refl, refl)
 
 take_formed : (at : Place) (rules : Rules) (rsn : ℕ) (value : List ℕ) (o : Moving) → is_none o.state.wish ≡ false → Formed at o → Formed at (take at rules rsn value o)
 unfolding take
-take_formed at rules rsn value o wished h = drained_formed at _ (take_of_formed at rules (become at (rsn + 1) value o) o.state.wish (become_rest at (rsn + 1) value o).0 (become_held at (rsn + 1) value o) (become_rest at (rsn + 1) value o).1 (become_formed at (rsn + 1) value o wished h))
+take_formed at rules rsn value o wished h = drained_formed at _ (take_of_formed at rules (becomes at (rsn + 1) value o) o.state.wish (become_rest at (rsn + 1) value o).0 (become_held at (rsn + 1) value o) (become_rest at (rsn + 1) value o).1 (become_formed at (rsn + 1) value o wished h))
 
 refuse_formed : (at : Place) (request rsn : ℕ) (o : Moving) → Formed at o → Formed at (refuse at request rsn o)
 unfolding refuse

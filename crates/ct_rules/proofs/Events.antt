@@ -166,7 +166,6 @@ arrive_formed at rules n _ o keeps h = h
 -- ---- every event
 
 pub move_formed : (at : Place) (rules : Rules) (e : MoveEvent) (o : Moving) → MayCome at o.state e → Formed at o → Formed at (move at rules e o)
-unfolding move
 move_formed at rules (event.Want call o_p) o may h = want_formed at rules call o_p o may.0 may.1 may.2 h
 move_formed at rules (event.Store call v) o may h = store_formed at call v o h
 move_formed at rules (event.Unlock call) o may h = unlock_formed at call o h

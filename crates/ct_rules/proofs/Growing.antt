@@ -6,7 +6,7 @@ use Rattle.ct_frame.specs.declared.frame.Msg.{Msg}
 use Rattle.ct_frame.specs.declared.frame.Msg.TheVariants as msg
 use Rattle.ct_msg.specs.declared.client.ClientOp.{ClientOp}
 use Rattle.ct_rules.specs.Parts.{Moving, acts, send, send_all, reply, keeps, makes, opened, open_of, end_vacuum, give, applies, satisfy, revoke, read_here, delegate, grant, yield_record, drain, drained, satisfy_own, raise, end_revocation, next, next_of, keep, call_for, wait_for_copies, want_of, opened_at_home, want}
-use Rattle.ct_rules.specs.Frames.{pass_again, enqueue, on_call_of, called, on_call, wait, handle, recalled, on_recall, hand_on, on_give_of, on_give, satisfy_wish, become, take, refuse, on_pass, on_refuse_of, on_refuse, reads, on_grant, on_done_of, on_done, acknowledge, on_revoke_of, on_revoke, acknowledged, on_revokeack, on_vstore, on_vdelete, finish, greater, on_vstored_of, on_vstored, on_vdeleted_of, on_vdeleted}
+use Rattle.ct_rules.specs.Frames.{pass_again, enqueue, on_call_of, called, on_call, wait, handle, recalled, on_recall, hand_on, on_give_of, on_give, satisfy_wish, becomes, take, refuse, on_pass, on_refuse_of, on_refuse, reads, on_grant, on_done_of, on_done, acknowledge, on_revoke_of, on_revoke, acknowledged, on_revokeack, on_vstore, on_vdelete, finish, greater, on_vstored_of, on_vstored, on_vdeleted_of, on_vdeleted}
 use Rattle.ct_rules.specs.declared.event.Place.{Place}
 use Rattle.ct_rules.specs.declared.state.RecallNote.{RecallNote}
 use Rattle.ct_rules.specs.declared.state.Entry.{Entry}
@@ -149,7 +149,7 @@ unfolding send acts reply keeps makes on_give on_give_of
 on_give_grows at x rsn value o = grind (arith, front_same, front_more, front_after, hand_on_grows)
 
 take_grows : (at : Place) (rules : Rules) (rsn : ℕ) (value : List ℕ) (o : Moving) → Grows o (take at rules rsn value o)
-unfolding send acts reply keeps makes take become satisfy_wish
+unfolding send acts reply keeps makes take becomes satisfy_wish
 take_grows at rules rsn value o = grind (arith, front_same, front_more, front_after, satisfy_grows, drained_grows)
 
 pass_grows : (at : Place) (rules : Rules) (request rsn : ℕ) (value : List ℕ) (o : Moving) → Grows o (on_pass at rules request rsn value o)
@@ -262,7 +262,7 @@ arrive_grows at rules n (msg.VDeleted db key rsn) o = home_grows at o _ (on_vdel
 arrive_grows at rules n _ o = grows_same o
 
 pub move_grows : (at : Place) (rules : Rules) (e : MoveEvent) (o : Moving) → Grows o (move at rules e o)
-unfolding move store keeps reply acts
+unfolding store keeps reply acts
 move_grows at rules (event.Want call o_p) o = want_grows at rules call o_p o
 move_grows at rules (event.Store call v) o = grind (arith, front_same, front_more)
 move_grows at rules (event.Unlock call) o = unlock_grows at call o

@@ -108,11 +108,11 @@ satisfy_wish rules o None = o
 satisfy_wish rules o (Some w) = satisfy rules w.call w.op (keeps (record o.state { wish = None }) o)
 
 -- the node becomes data master, and its wish is satisfied
-unfoldable pub become : Place → ℕ → List ℕ → Moving → Moving
-become at rsn value o = makes rsn (keeps (record o.state { copy = Some (a_copy rsn at.me plain value); tracking = untracked }) o)
+unfoldable pub becomes : Place → ℕ → List ℕ → Moving → Moving
+becomes at rsn value o = makes rsn (keeps (record o.state { copy = Some (a_copy rsn at.me plain value); tracking = untracked }) o)
 
 unfoldable pub take : Place → Rules → ℕ → List ℕ → Moving → Moving
-take at rules rsn value o = drained at (satisfy_wish rules (become at (rsn + 1) value o) o.state.wish)
+take at rules rsn value o = drained at (satisfy_wish rules (becomes at (rsn + 1) value o) o.state.wish)
 
 -- a record that nobody here wishes for any more is refused
 unfoldable pub refuse : Place → ℕ → ℕ → Moving → Moving

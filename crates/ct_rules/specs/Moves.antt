@@ -109,7 +109,7 @@ arrive at rules n _ o = o
 -- ---- every event
 
 -- the rule of one record
-unfoldable pub move : Place → Rules → MoveEvent → Moving → Moving
+abbrev pub move : Place → Rules → MoveEvent → Moving → Moving
 move at rules (event.Want call o_p) o = want at rules call o_p o
 move at rules (event.Store call v) o = store call v o
 move at rules (event.Unlock call) o = unlock at call o
