@@ -4,3 +4,4 @@ pub mod Frames
 pub mod Moves
 pub mod Form
 pub mod Laws
+pub mod Runs

@@ -7,4 +7,5 @@
 
 pub mod event;
 pub mod laws;
+pub mod runs;
 pub mod state;
