@@ -2,3 +2,5 @@ pub mod Formed
 pub mod Arriving
 pub mod Events
 pub mod Growing
+pub mod Tracking
+pub mod Names

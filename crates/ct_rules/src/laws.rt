@@ -1,5 +1,5 @@
 //! What follows for the rules of every record.
-ghost use Rattle.ct_rules.specs.Laws.{GrowsAlone, KeepsForm, StartsInForm};
+ghost use Rattle.ct_rules.specs.Laws.{GrowsAlone, KeepsForm, KeepsTracking, ReadsNoNames, StartsInForm};
 
 /// A state in which nothing is kept is in form at every place.
 pub fn starts_in_form()
@@ -16,4 +16,14 @@ pub fn keeps_form()
 /// before stays before what it does now.
 pub fn grows_alone()
     ensures { GrowsAlone }
+{}
+
+/// Only a holder tracks nodes, and none while a vacuum runs: whatever comes, this stays so.
+pub fn keeps_tracking()
+    ensures { KeepsTracking }
+{}
+
+/// What comes of a message at a record does not depend on the database and the key that the message names.
+pub fn reads_no_names()
+    ensures { ReadsNoNames }
 {}
