@@ -101,7 +101,27 @@ stayed = record nothing_kept {
   entry = Some (record { holder = 1; least = 4; request = 0; value = x });
 }
 
+-- at the location master: the record was passed to node 0 for its request 1, under RSN 0
+abbrev pub passed_on : RecState
+passed_on = record nothing_kept {
+  copy = Some (a_copy 0 nobody plain []);
+  entry = Some (record { holder = 0; least = 1; request = 1; value = [] });
+}
+
 -- ---- copies for reading
+
+-- at the location master: reads of the nodes 0 and 2 wait
+abbrev pub reads_wait : RecState
+reads_wait = record nothing_kept {
+  copy = Some (a_copy 0 1 delegated x);
+  entry = Some (record { holder = 1; least = 0; request = 0; value = [] });
+  queue = record { node = 0; request = 1; kind = kind.Read } ∷ record { node = 2; request = 1; kind = kind.Read } ∷ [];
+  tracking = record { tracked = 0 ∷ []; revoking = None };
+}
+
+-- the read of node 2 alone waits
+abbrev pub one_read_waits : RecState
+one_read_waits = record reads_wait { queue = record { node = 2; request = 1; kind = kind.Read } ∷ [] }
 
 -- at the holder, which is the location master: nodes 0 and 2 have copies for reading
 abbrev pub delegating : RecState

@@ -9,7 +9,7 @@ ghost use Rattle.ct_msg.specs.declared.client.Answer.TheVariants as answer;
 ghost use Rattle.ct_msg.specs.declared.client.ClientOp.TheVariants as op;
 ghost use Rattle.ct_msg.specs.declared.client.Why.TheVariants as why;
 ghost use Rattle.ct_rules.specs.Moves.{moved};
-ghost use Rattle.ct_rules.specs.Runs.{a, a_at, appending, asked, b, b_at, comes, delegating, deleted, deleting, full, gave, given_up, happens, leaves, leaves_asked, locked, made_anew, old_copy, passed, passed_back, r_at, read_only, reading, revoked, revoking, revoking_for_write, revoking_one, stayed, stored_copy, storing, wishing, x, y};
+ghost use Rattle.ct_rules.specs.Runs.{a, a_at, appending, asked, b, b_at, comes, delegating, deleted, deleting, full, gave, given_up, happens, leaves, leaves_asked, locked, made_anew, old_copy, one_read_waits, passed, passed_back, passed_on, r_at, read_only, reading, reads_wait, revoked, revoking, revoking_for_write, revoking_one, stayed, stored_copy, storing, wishing, x, y};
 ghost use Rattle.ct_rules.specs.State.{a_copy, nobody, nothing_kept, plain};
 ghost use Rattle.ct_deleg.specs.Tracked.{untracked};
 ghost use Rattle.ct_rules.specs.declared.event.Act.TheVariants as act;
@@ -80,6 +80,31 @@ pub fn refused_record_stays()
     ensures { comes (a_at 1 0) 0 (msg.Refuse 1 a 1 2) passed_back ≡ leaves (a_at 1 0) stayed [] }
 {}
 
+/// A gift that no request waits for stays at the location master under the next RSN.
+pub fn unasked_gift_is_kept()
+    ensures { comes (a_at 1 0) 0 (msg.Give 1 a 1 []) passed_on ≡ leaves (a_at 1 0) deleted [] }
+{}
+
+/// So does one that a read waits for, and the location master asks itself for the copy.
+pub fn gift_before_a_read_is_kept()
+    ensures { comes (r_at 1) 0 (msg.Give 1 a 1 []) (record passed_on { queue = record { node = 2; request = 5; kind = kind.Read } ∷ [] }) ≡ leaves (r_at 1) (record deleted { queue = record { node = 2; request = 5; kind = kind.Read } ∷ [] }) (act.Send 1 (msg.Recall 1 a 2 2 5 kind.Read) ∷ []) }
+{}
+
+/// What is not answered is called for again, under the same number.
+pub fn resend_calls_again()
+    ensures { happens (b_at 1) event.Resend wishing ≡ leaves (b_at 1) wishing (act.Send 0 (msg.Call 1 b 1 kind.Lock) ∷ []) }
+{}
+
+/// Once a read is served the next request that waits is asked for.
+pub fn served_read_asks_for_the_next()
+    ensures { comes (r_at 1) 1 (msg.Done 1 a 0 1) reads_wait ≡ leaves (r_at 1) one_read_waits (act.Send 1 (msg.Recall 1 a 0 2 1 kind.Read) ∷ []) }
+{}
+
+/// A revocation asks those again that have not acknowledged it.
+pub fn resend_revokes_again()
+    ensures { happens (r_at 1) event.Resend revoking_one ≡ leaves (r_at 1) revoking_one (act.Send 2 (msg.Revoke 1 a 0) ∷ []) }
+{}
+
 /// A recall for reading hands out a copy, and the location master learns that the request was served.
 pub fn read_is_delegated()
     ensures { comes (r_at 1) 1 (msg.Recall 1 a 0 2 1 kind.Read) (record delegating { tracking = record { tracked = 0 ∷ []; revoking = None } }) ≡ leaves (r_at 1) delegating (act.Send 2 (msg.Grant 1 a 1 0 x) ∷ act.Send 1 (msg.Done 1 a 2 1) ∷ []) }
@@ -128,6 +153,11 @@ pub fn revoke_ends_a_copy()
 /// A vacuum begins at the location master, which asks all others to store the deleted record.
 pub fn vacuum_begins()
     ensures { happens (a_at 1 0) (event.Vacuum (0 ∷ 2 ∷ [])) deleted ≡ leaves (a_at 1 0) (storing (0 ∷ 2 ∷ [])) (act.Send 0 (msg.VStore 1 a 2) ∷ act.Send 2 (msg.VStore 1 a 2) ∷ []) }
+{}
+
+/// A vacuum that runs asks those again that are missing.
+pub fn vacuum_again_asks_the_missing()
+    ensures { happens (a_at 1 0) (event.Vacuum (0 ∷ 2 ∷ [])) (storing (2 ∷ [])) ≡ leaves (a_at 1 0) (storing (2 ∷ [])) (act.Send 2 (msg.VStore 1 a 2) ∷ []) }
 {}
 
 /// A vacuum at another node gives the deleted record to its location master.
