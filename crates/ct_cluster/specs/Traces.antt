@@ -25,22 +25,23 @@ unfoldable pub calls_of : Cluster → Step → List PendingCall
 calls_of w (step.Client n o) = record { call = w.calls + 1; node = n; op = o; seq = 0 } ∷ pending w
 calls_of w _ = pending w
 
--- the label of an answer has the node and the operation of its call
+-- Labels: an answer, with the node of its call and what that asked
 unfoldable pub answered : ℕ → Answer → List PendingCall → List Label
 answered call a [] = []
 answered call a (x ∷ xs) = if nat_eq x.call call then Answered x.node x.op a ∷ [] else answered call a xs
 
--- a push and a take that are sent are labels
+-- Labels: a Push or a Take that is sent by node n in generation g
 unfoldable pub sent_label : ℕ → ℕ → Msg → List Label
 sent_label n g (msg.Push members table ptables assigned) = Pushed g assigned ∷ []
 sent_label n g (msg.Take number assigned) = Taken n g number assigned ∷ []
 sent_label n g _ = []
 
--- a ticket's label has the members of the step that it was given in
+-- the members of a recovery
 unfoldable pub members_of : Step → List ℕ
 members_of (step.Recover n members) = members
 members_of _ = []
 
+-- Labels: that of a line, if it is one
 unfoldable pub label_of : Step → List PendingCall → Line → List Label
 label_of s calls (line.Sent k f) = sent_label f.sender f.generation f.msg
 label_of s calls (line.Answered call a) = answered call a calls
@@ -52,59 +53,62 @@ label_of s calls (line.Started n) = Started n ∷ []
 label_of s calls (line.Gone call) = []
 label_of s calls (line.Lost k) = []
 
+-- Labels: those of these lines, in order
 unfoldable pub line_labels : Step → List PendingCall → List Line → List Label
 line_labels s calls [] = []
 line_labels s calls (x ∷ xs) = label_of s calls x ++ line_labels s calls xs
 
--- is a commit's first line its refusal?
+-- is the answer a refusal?
 unfoldable pub is_refusal : Answer → Bool
 is_refusal (answer.Refused w) = true
 is_refusal _ = false
 
+-- is the first of these lines a refusal?
 unfoldable pub is_refused : List Line → Bool
 is_refused (line.Answered call a ∷ xs) = is_refusal a
 is_refused _ = false
 
--- a commit that is not refused begins before its lines
+-- Labels: a commit that is not refused begins, before the lines of its step
 unfoldable pub begun_by : ℕ → ClientOp → List Line → List Label
 begun_by n (op.Commit db writes) lines = if is_refused lines then [] else Begun n db writes ∷ []
 begun_by n _ lines = []
 
--- what a step tells before its lines
+-- Labels: what a step tells before its lines
 unfoldable pub own_labels : Cluster → Step → List Line → List Label
 own_labels w (step.Client n o) lines = begun_by n o lines
 own_labels w (step.Takeover n) lines = Takeover n (able_from 0 w.able) ∷ []
 own_labels w _ lines = []
 
--- the labels of a step that was accepted with these lines
+-- Labels: those of a step that was taken and printed these lines
 unfoldable pub labels : Cluster → Step → List Line → List Label
 labels w s lines = own_labels w s lines ++ line_labels s (calls_of w s) lines
 
 -- ---- runs
 
--- the cluster after some steps, what they printed and what they told; a step that is refused, or that is none, changes
--- nothing and tells nothing
+-- Runs: the cluster after some steps, the lines that they printed and the labels that they told
 pub record Ran : Type 0 where
   pub cluster : Cluster
   pub lines : List Line
   pub trace : List Label
 
--- nothing happened
+-- Runs: nothing happened
 unfoldable pub idle : Cluster → Ran
 idle w = record { cluster = w; lines = []; trace = [] }
 
+-- Runs: after a step that was taken; one that is refused changes nothing and tells nothing
 unfoldable pub taken : Cluster → Step → Result Stepped StepFault → Ran
 taken w s (Ok x) = record { cluster = x.cluster; lines = x.lines; trace = labels w s x.lines }
 taken w s (Err f) = idle w
 
+-- Runs: after one step; one that is not as it is asked to be changes nothing and tells nothing
 unfoldable pub ran_one : Config → Rules → Cluster → Step → Ran
 ran_one c rules w s = if is_allowed s then taken w s (applied c rules w s) else idle w
 
--- a run after another one
+-- Runs: one run and then another
 unfoldable pub after : Ran → Ran → Ran
 after q r = record { cluster = r.cluster; lines = q.lines ++ r.lines; trace = q.trace ++ r.trace }
 
--- all steps, one after the other
+-- Runs: all steps, one after the other
 unfoldable pub ran : Config → Rules → Cluster → List Step → Ran
 ran c rules w [] = idle w
 ran c rules w (s ∷ ss) = let q = ran_one c rules w s in after q (ran c rules q.cluster ss)

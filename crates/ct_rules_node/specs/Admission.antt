@@ -34,19 +34,22 @@ record_in (msg.VDelete db key rsn) = Some (db, key)
 record_in (msg.VDeleted db key rsn) = Some (db, key)
 record_in _ = None
 
+-- the number, if there is one, as a list
 unfoldable pub some_of : Option ℕ → List ℕ
 some_of None = []
 some_of (Some n) = n ∷ []
 
+-- the nodes that rows name as data masters
 unfoldable pub masters_in : List TableRow → List ℕ
 masters_in [] = []
 masters_in (row ∷ rows) = some_of row.master ++ masters_in rows
 
+-- the nodes that addresses are assigned to
 unfoldable pub nodes_in : List Assigned → List ℕ
 nodes_in [] = []
 nodes_in (x ∷ xs) = some_of x.node ++ nodes_in xs
 
--- the nodes that a message names
+-- Which messages are dropped: the nodes that a message names
 unfoldable pub named_in : Msg → List ℕ
 named_in (msg.Recall db key least node request k) = node ∷ []
 named_in (msg.Done db key node request) = node ∷ []
@@ -62,16 +65,19 @@ members_in (msg.Freeze members) = Some members
 members_in (msg.Push members table ptables assigned) = Some members
 members_in _ = None
 
+-- the rows that a message has
 unfoldable pub table_in : Msg → List TableRow
 table_in (msg.PullReply vbase pbase table ptables addresses) = table
 table_in (msg.Push members table ptables assigned) = table
 table_in _ = []
 
+-- the persistent tables that a message has
 unfoldable pub ptables_in : Msg → Option (List PTable)
 ptables_in (msg.PullReply vbase pbase table ptables addresses) = Some ptables
 ptables_in (msg.Push members table ptables assigned) = Some ptables
 ptables_in _ = None
 
+-- the addresses that a message names
 unfoldable pub addresses_in : Msg → List Address
 addresses_in (msg.PullReply vbase pbase table ptables addresses) = addresses
 addresses_in (msg.Push members table ptables assigned) = map (λ x. x.address) assigned
@@ -81,25 +87,26 @@ addresses_in _ = []
 
 -- ---- the conditions
 
--- a message of the node's own generation, in which the sender and every node that is named are members
+-- Which messages are dropped: is this one current?
 unfoldable pub is_current : Frame → Node → Bool
 is_current f n = is_present_in f.generation n && is_among f.sender n.members && list_all (λ m. is_among m n.members) (named_in f.msg)
 
--- the places of the persistent databases; i is the place of the first of these
+-- the numbers of the persistent databases; i is the number of the first of these databases
 unfoldable pub persistent_from : ℕ → List DbDecl → List ℕ
 persistent_from i [] = []
 persistent_from i (d ∷ ds) = if is_persistent (Some d.kind) then i ∷ persistent_from (i + 1) ds else persistent_from (i + 1) ds
 
+-- are the sender and the receiver among the members, where the message lists any?
 unfoldable pub is_listed : Frame → Option (List ℕ) → Bool
 is_listed f None = true
 is_listed f (Some members) = is_among f.sender members && is_among f.receiver members
 
+-- are these exactly the persistent databases, where the message has any?
 unfoldable pub are_all : Config → Option (List PTable) → Bool
 are_all c None = true
 are_all c (Some ptables) = pointwise nat_eq (map (λ x. x.db) ptables) (persistent_from 0 c.dbs)
 
--- a message of a round or a takeover speaks of nodes of the configuration alone, has sender and receiver among its
--- members, rows of volatile and read-only databases, all persistent databases, and addresses of the configuration
+-- Which messages are dropped: is this one of a round or a run sound?
 unfoldable pub is_sound : Config → Frame → Bool
 is_sound c f =
     nat_lt f.sender c.nodes && list_all (λ n. nat_lt n c.nodes) (named_in f.msg) && is_listed f (members_in f.msg)

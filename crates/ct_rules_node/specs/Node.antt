@@ -18,8 +18,7 @@ use Rattle.ct_merge.specs.Gathered.{Gathered}
 use Rattle.ct_rules.specs.State.{nothing_kept}
 use Rattle.ct_rules.specs.declared.state.RecState.{RecState}
 
--- where a node stands: it belongs to no generation, serves clients, holds what a round pushed and does not serve yet,
--- waits for its last locks to end in a round of this generation and leader, or holds still in one
+-- Phase: idle; serving; installed; freezing, for a round and its leader, while locks last; or frozen, for a round
 pub data Phase : Type 0 where
   Idle : Phase
   Serving : Phase
@@ -27,35 +26,32 @@ pub data Phase : Type 0 where
   Freezing : (generation leader : ℕ) → Phase
   Frozen : (generation : ℕ) → Phase
 
--- a commit that waits for the other members: the client call, and what was written
+-- a commit that waits for other members: the client's call, its writes, and its number with the missing members
 pub record Committing : Type 0 where
   pub call : ℕ
   pub writes : List Pair
   pub pending : Pending
 
--- what a node keeps of one database: the records of a volatile or read-only one with the RSN that a new record gets, or
--- the contents of a persistent one and the commit that waits
+-- State of a database: keys and floor of one with records; contents and the waiting commit of a persistent one
 pub record Database : Type 0 where
   pub records : Pairs RecState
   pub floor : ℕ
   pub store : Persisted
   pub commit : Option Committing
 
--- a takeover run: none yet, waiting for these members to release what they do not keep, or handed out
+-- where a takeover run is: there is none yet, it waits for the releases of the missing members, or it is handed out
 pub data Run : Type 0 where
   NoRun : Run
   Releasing : (placement : List Assigned) (missing : List ℕ) → Run
   Taking : (placement : List Assigned) → Run
 
--- what the leader of a round makes of the addresses: the last placement that the round or a take made, the number of
--- the last run, and where this run is
+-- what a completed round knows of addresses: the last placement made, the last run's number, and where that run is
 pub record Takeover : Type 0 where
   pub made : List Assigned
   pub number : ℕ
   pub run : Run
 
--- what a node leads: nothing, or a round of this generation and members that waits for some of them to freeze, to tell
--- what they hold, or to install what they are pushed; or one that is completed
+-- What a node leads: nothing, or a round of this generation and these members, by what it waits for; or a completed one
 pub data Lead : Type 0 where
   Nothing : Lead
   Freezes : (generation : ℕ) (members missing : List ℕ) → Lead
@@ -63,6 +59,7 @@ pub data Lead : Type 0 where
   Installs : (generation : ℕ) (members missing : List ℕ) (body : PushBody) → Lead
   Completed : (generation : ℕ) (members : List ℕ) (takeover : Takeover) → Lead
 
+-- State of a node
 pub record Node : Type 0 where
   pub promise : ℕ  -- no Freeze of this generation or an older one is followed any more; kept over a stop
   pub pbase : ℕ  -- the generation whose persistent databases the node has; kept over a stop, as they are
@@ -79,27 +76,32 @@ pub record Node : Type 0 where
 
 -- ---- small words
 
+-- does a node of this phase serve clients?
 unfoldable pub is_serving : Phase → Bool
 is_serving Serving = true
 is_serving _ = false
 
+-- is a node of this phase present in its generation?
 unfoldable pub is_present : Phase → Bool
 is_present Serving = true
 is_present Installed = true
 is_present _ = false
 
+-- does a node of this phase wait for its locks to end?
 unfoldable pub is_freezing : Phase → Bool
 is_freezing (Freezing g leader) = true
 is_freezing _ = false
 
+-- is a node of this phase frozen for the round of this generation?
 unfoldable pub is_frozen_in : ℕ → Phase → Bool
 is_frozen_in g (Frozen h) = nat_eq h g
 is_frozen_in g _ = false
 
--- a node is present in its generation while it serves or has installed it
+-- is the node present in this generation, serving in it or with it installed?
 unfoldable pub is_present_in : ℕ → Node → Bool
 is_present_in g n = is_present n.phase && nat_eq n.generation g
 
+-- is the node in the list?
 unfoldable pub is_among : ℕ → List ℕ → Bool
 is_among n ns = list_any (nat_eq n) ns
 
@@ -107,6 +109,7 @@ is_among n ns = list_any (nat_eq n) ns
 unfoldable pub without : ℕ → List ℕ → List ℕ
 without n ns = filter (λ m. not (nat_eq m n)) ns
 
+-- the number, and 0 where there is none
 unfoldable pub or_zero : Option ℕ → ℕ
 or_zero None = 0
 or_zero (Some n) = n
@@ -115,50 +118,60 @@ or_zero (Some n) = n
 unfoldable pub master_of : List ℕ → List ℕ → ℕ
 master_of members key = or_zero (member_of members key)
 
+-- a database of which nothing is kept
 unfoldable pub untouched : Database
 untouched = record { records = []; floor = 0; store = unwritten; commit = None }
 
+-- the database, and one of which nothing is kept where there is none
 unfoldable pub or_untouched : Option Database → Database
 or_untouched None = untouched
 or_untouched (Some d) = d
 
+-- State of a database: that of this number at the node
 unfoldable pub db_at : ℕ → Node → Database
 db_at db n = or_untouched (slice_get n.dbs db)
 
+-- the node with another state of a database
 unfoldable pub with_db : ℕ → Database → Node → Node
 with_db db d n = record n { dbs = slice_set n.dbs db d }
 
+-- the state of a key, and the blank one where nothing is kept of it
 unfoldable pub or_nothing : Option RecState → RecState
 or_nothing None = nothing_kept
 or_nothing (Some s) = s
 
--- what the node keeps of a record
+-- State of a key: what the node keeps of this record
 unfoldable pub state_at : ℕ → List ℕ → Node → RecState
 state_at db key n = or_nothing (look key (db_at db n).records)
 
 -- ---- the configuration
 
+-- the kind of a declared database
 unfoldable pub kind_in : Option DbDecl → Option DbKind
 kind_in None = None
 kind_in (Some d) = Some d.kind
 
+-- the kind of the database of this number, where there is one
 unfoldable pub kind_at : Config → ℕ → Option DbKind
 kind_at c db = kind_in (slice_get c.dbs db)
 
+-- does the database hand out copies for reading?
 unfoldable pub is_readonly : Option DbKind → Bool
 is_readonly (Some ReadOnly) = true
 is_readonly _ = false
 
+-- is the database a persistent one?
 unfoldable pub is_persistent : Option DbKind → Bool
 is_persistent (Some Persistent) = true
 is_persistent _ = false
 
--- a volatile or a read-only database, whose records migrate
+-- is the database a volatile or a read-only one, whose records migrate?
 unfoldable pub has_records : Option DbKind → Bool
 has_records (Some Volatile) = true
 has_records (Some ReadOnly) = true
 has_records _ = false
 
+-- the name of a declared database, and no bytes where there is none
 unfoldable pub name_in : Option DbDecl → List ℕ
 name_in None = []
 name_in (Some d) = d.name
@@ -167,23 +180,24 @@ name_in (Some d) = d.name
 unfoldable pub name_of : Config → ℕ → List ℕ
 name_of c db = name_in (slice_get c.dbs db)
 
--- the node that a list assigns an address to
+-- the node that a list assigns an address to, if it does
 unfoldable pub holder_in : Address → List Assigned → Option ℕ
 holder_in a [] = None
 holder_in a (x ∷ xs) = if same_address a x.address then x.node else holder_in a xs
 
--- each of these addresses with the node that a list assigns it to, or none
+-- each of these addresses with the node that a list assigns it to, or with none
 unfoldable pub assigned_all : List Address → List Assigned → List Assigned
 assigned_all [] xs = []
 assigned_all (a ∷ rest) xs = record { address = a; node = holder_in a xs } ∷ assigned_all rest xs
 
 -- ---- the opening, and what a start leaves
 
+-- as many databases as there are items, and nothing is kept of any
 unfoldable pub untouched_all : {X : Type 0} → List X → List Database
 untouched_all [] = []
 untouched_all (x ∷ xs) = untouched ∷ untouched_all xs
 
--- the opening: generation 1 of all nodes, in which every node serves
+-- Opening: a node in generation 1 of all nodes, which serves; nothing is kept of any key and nothing is led
 unfoldable pub opening : Config → List ℕ → Node
 opening c members = record {
   promise = 1;
@@ -200,11 +214,11 @@ opening c members = record {
   lead = Nothing;
 }
 
--- a database after a stop: the persistent contents alone stay
+-- What a stop leaves of a database: the contents of a persistent one
 unfoldable pub restarted_db : Database → Database
 restarted_db d = record untouched { store = d.store }
 
--- a node after a stop and a start: the promise, the persistent databases and their base stay
+-- What a stop leaves of a node: the promise, the persistent databases and their base
 unfoldable pub restarted : Config → Node → Node
 restarted c n = record {
   promise = n.promise;

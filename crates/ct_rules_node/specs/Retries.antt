@@ -11,42 +11,45 @@ use Rattle.ct_rules_node.specs.Records.{at_record}
 use Rattle.ct_rules_node.specs.Rounds.{Called, pending_calls, push_of}
 use Rattle.ct_rules_node.specs.Takeovers.{send_releases, assigned_in}
 
--- the location masters are called again for every wish that was called for, by call number
+-- Retry: the Call of each wish that has a request, for these calls in order
 unfoldable pub call_all : Config → ℕ → List Called → Turn → Turn
 call_all c me [] t = t
 call_all c me (x ∷ xs) t = call_all c me xs (at_record c me x.db x.key call_again t)
 
--- the read-only copies of every revocation that runs are called in again, by database and key
+-- Retry: the Revoke of each revocation in a database, by key
 unfoldable pub revoke_all : Config → ℕ → ℕ → Pairs RecState → Turn → Turn
 revoke_all c me db [] t = t
 revoke_all c me db (e ∷ m) t = revoke_all c me db m (at_record c me db e.0 revoke_again t)
 
+-- Retry: the Revoke of each revocation, by database and key; i is the number of the first of these
 unfoldable pub revoke_in : Config → ℕ → ℕ → List Database → Turn → Turn
 revoke_in c me i [] t = t
 revoke_in c me i (d ∷ ds) t = revoke_in c me (i + 1) ds (revoke_all c me i d.records t)
 
--- every pending commit is sent again to those that have not acknowledged it, by database
+-- Retry: the PUpdate of a commit that waits
 unfoldable pub update_again : ℕ → ℕ → Turn → Option Committing → Turn
 update_again me db t None = t
 update_again me db t (Some x) = posts_all t.node.generation me x.pending.missing (msg.PUpdate db x.pending.seq x.writes) t
 
+-- Retry: the PUpdate of each commit that waits, by database; i is the number of the first of these
 unfoldable pub update_in : ℕ → ℕ → List Database → Turn → Turn
 update_in me i [] t = t
 update_in me i (d ∷ ds) t = update_in me (i + 1) ds (update_again me i t d.commit)
 
+-- Retry, where the node is present: Calls, then Revokes, then PUpdates
 unfoldable pub retry_records : Config → ℕ → Turn → Turn
 retry_records c me t =
     if is_present t.node.phase
     then update_in me 0 t.node.dbs (revoke_in c me 0 t.node.dbs (call_all c me (pending_calls t.node) t))
     else t
 
--- the messages of a takeover run: Release to those that are missing, or Take to all
+-- Retry, where a run was begun: the Releases of the missing members, or the Take to all
 unfoldable pub retry_run : ℕ → ℕ → List ℕ → Takeover → Turn → Run → Turn
 retry_run me g members x t NoRun = t
 retry_run me g members x t (Releasing placement missing) = send_releases me g x.number placement missing t
 retry_run me g members x t (Taking placement) = posts_all g me members (msg.Take x.number (assigned_in placement)) t
 
--- the leader's messages of its stage go again to those that are missing, and Thaw to all members
+-- Retry, where the node leads: what it waits for, from those that are missing; then Thaw and the run
 unfoldable pub retry_lead : ℕ → Turn → Lead → Turn
 retry_lead me t Nothing = t
 retry_lead me t (Freezes g members missing) = posts_all g me missing (msg.Freeze members) t
@@ -56,5 +59,6 @@ retry_lead me t (Completed g members x) =
     let t' = posts_all g me members msg.Thaw t in
     if is_present_in g t.node then retry_run me g members x t' x.run else t'
 
+-- Retry: first of records and commits, then of the round and of the run
 unfoldable pub retry : Config → ℕ → Turn → Turn
 retry c me t = let t' = retry_records c me t in retry_lead me t' t'.node.lead

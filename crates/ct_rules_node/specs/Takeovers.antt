@@ -18,22 +18,23 @@ unfoldable pub share : ℕ → List Assigned → List Address
 share n [] = []
 share n (x ∷ xs) = if is_at n x.node then x.address ∷ share n xs else share n xs
 
--- what a placement assigns: the addresses that have a node
+-- the addresses that have a node in a placement
 unfoldable pub assigned_in : List Assigned → List Assigned
 assigned_in xs = filter (λ x. is_some x.node) xs
 
 -- ---- BeginTakeover
 
--- each of these members is told what it keeps
+-- each of these members gets a Release with the addresses that it keeps
 unfoldable pub send_releases : ℕ → ℕ → ℕ → List Assigned → List ℕ → Turn → Turn
 send_releases me g number placement [] t = t
 send_releases me g number placement (n ∷ ns) t = send_releases me g number placement ns (posts g me n (msg.Release number (share n placement)) t)
 
+-- Begin of a takeover: the run gets this number and placement, and the members get their Releases
 unfoldable pub runs : ℕ → ℕ → List ℕ → Takeover → ℕ → List Assigned → Turn → Turn
 runs me g members x number placement t =
     send_releases me g number placement members (makes number (with_lead (Completed g members (record x { number = number; run = Releasing placement members })) t))
 
--- the next run of the leader, over the able nodes that are members, from the last placement that was made
+-- Begin of a takeover: by the leader of its generation, once the round is completed, over able members
 unfoldable pub begin_takeover : ℕ → List ℕ → Turn → Lead → Turn
 begin_takeover me able t (Completed g members x) =
     if is_serving t.node.phase && nat_eq t.node.generation g
@@ -43,9 +44,11 @@ begin_takeover me able t _ = t
 
 -- ---- Release: what is not kept is released, unless a later run is known
 
+-- is the address in the list?
 unfoldable pub has_address : List Address → Address → Bool
 has_address keep a = list_any (same_address a) keep
 
+-- Release: what is not kept is given up and noted, unless a later run was followed
 unfoldable pub on_release : ℕ → ℕ → ℕ → List Address → Turn → Turn
 on_release me h number keep t =
     if nat_lt number t.node.last_run then t
@@ -55,15 +58,18 @@ on_release me h number keep t =
 
 -- ---- ReleaseAck: once all have released, the placement is made and they take
 
+-- ReleaseAck: these are missing still; where nobody is, the run is handed out and all members get a Take
 unfoldable pub all_released : ℕ → ℕ → List ℕ → Takeover → List Assigned → Turn → List ℕ → Turn
 all_released me g members x placement t [] =
     posts_all g me members (msg.Take x.number (assigned_in placement)) (with_lead (Completed g members (record x { made = placement; run = Taking placement })) t)
 all_released me g members x placement t (m ∷ ms) = with_lead (Completed g members (record x { run = Releasing placement (m ∷ ms) })) t
 
+-- ReleaseAck: a run that waits for its sender strikes it off
 unfoldable pub released_by : ℕ → ℕ → ℕ → List ℕ → Takeover → Turn → Run → Turn
 released_by me n g members x t (Releasing placement missing) = if is_among n missing then all_released me g members x placement t (without n missing) else t
 released_by me n g members x t _ = t
 
+-- ReleaseAck: only of the last run of the leader of this generation
 unfoldable pub on_releaseack : ℕ → ℕ → ℕ → ℕ → Turn → Lead → Turn
 on_releaseack me n g number t (Completed h members x) = if nat_eq h g && nat_eq x.number number then released_by me n g members x t x.run else t
 on_releaseack me n g number t _ = t
@@ -75,12 +81,12 @@ unfoldable pub held_with : Address → List Address → List Address
 held_with a [] = a ∷ []
 held_with a (b ∷ bs) = if address_before b a then b ∷ held_with a bs else a ∷ b ∷ bs
 
--- each address is held and noted
+-- Take: each of these addresses is held and noted
 unfoldable pub takes : List Address → Turn → Turn
 takes [] t = t
 takes (a ∷ rest) t = takes rest (notes (note.Took a) (with_node (record t.node { held = held_with a t.node.held }) t))
 
--- the placement is known, and what it gives to this node and is not held yet is taken, unless the run is another one
+-- Take: the placement is known, and what it gives to this node is held; only of the last run that was followed
 unfoldable pub on_take : Config → ℕ → ℕ → List Assigned → Turn → Turn
 on_take c me number assigned t =
     if nat_eq number t.node.last_run
