@@ -214,7 +214,7 @@ formed_limits at o unspent h = (h.next_limit unspent, h.floor_limit unspent)
 after_step : (at : Place) (next : ℕ) (o : Moving) → o.spent ≡ false → Formed at o → next ≤ o.next → at.floor ≤ o.floor → IsAfter at next o
 after_step at next o unspent h rises floor = (let l = formed_limits at o unspent h in record { form = formed_form at o unspent h; next_rises = rises; next_limit = l.0; floor_rises = floor; floor_limit = l.1 })
 
-unspent_same : (m o : Moving) → unless_spent m ≡ Some o → (m.spent ≡ false) × (m ≡ o)
+pub unspent_same : (m o : Moving) → unless_spent m ≡ Some o → (m.spent ≡ false) × (m ≡ o)
 unspent_same m o e = (grind arith, grind arith)
 
 pub form_kept : KeepsForm
