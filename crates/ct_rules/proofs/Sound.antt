@@ -297,7 +297,7 @@ want_of_sent at rules call o_p o h = if_sent at (is_read_op o_p && (is_mastered 
     (if_sent at (is_nil o.state.tracking.tracked) _ _ (satisfy_sent at rules call o_p o h) (wait_for_sent at call o_p o h))
     (call_for_sent at call o_p o h))
 
-want_sent : (at : Place) (rules : Rules) (call : ℕ) (o_p : ClientOp) (o : Moving) → Sent at o → Sent at (want at rules call o_p o)
+pub want_sent : (at : Place) (rules : Rules) (call : ℕ) (o_p : ClientOp) (o : Moving) → Sent at o → Sent at (want at rules call o_p o)
 unfolding want opened_at_home
 want_sent at rules call o_p o h = want_of_sent at rules call o_p _ (if_sent at _ _ _ (ended_sent at _ (opened_sent at o h)) h)
 
@@ -328,7 +328,7 @@ unfolding vacuum_at_home
 home_sent at others o None is h = begin_sent at o others h
 home_sent at others o (Some v) is h = send_all_sent at _ _ o (λ u. phase_sound at v.rsn v.phase (db_of at o h) (vacuum_of at o v is h u)) h
 
-vacuum_sent : (at : Place) (others : List ℕ) (o : Moving) → Sent at o → Sent at (vacuum at others o)
+pub vacuum_sent : (at : Place) (others : List ℕ) (o : Moving) → Sent at o → Sent at (vacuum at others o)
 unfolding vacuum
 vacuum_sent at others o h = if_sent at _ _ _ (if_sent at _ _ _ (home_sent at others o o.state.vacuum refl h) (give_sent at o h)) h
 
@@ -336,7 +336,7 @@ wish_of : (at : Place) (o : Moving) (w : Wish) → o.state.wish ≡ Some w → S
 unfolding Sent wished_as
 wish_of at o w is h u = grind arith
 
-call_again_sent : (at : Place) (o : Moving) (w : Option Wish) → o.state.wish ≡ w → Sent at o → Sent at (call_again_of at o w)
+pub call_again_sent : (at : Place) (o : Moving) (w : Option Wish) → o.state.wish ≡ w → Sent at o → Sent at (call_again_of at o w)
 unfolding call_again_of
 call_again_sent at o None is h = h
 call_again_sent at o (Some w) is h = cond_both (w.request == 0) _ _ (Sent at) (λ _. h) (λ t. send_sent at _ _ o (λ u. call_sound at.me at.db w.request at.key (kind_of at.readonly w.op) (db_of at o h) (some_request w.request t (wish_of at o w is h u))) h)
@@ -345,7 +345,7 @@ revoking_of : (at : Place) (o : Moving) (r : Revocation) → o.state.tracking.re
 unfolding Sent revoked_rsn
 revoking_of at o r is h u = grind arith
 
-revoke_again_sent : (at : Place) (o : Moving) (r : Option Revocation) → o.state.tracking.revoking ≡ r → Sent at o → Sent at (revoke_again_of at o r)
+pub revoke_again_sent : (at : Place) (o : Moving) (r : Option Revocation) → o.state.tracking.revoking ≡ r → Sent at o → Sent at (revoke_again_of at o r)
 unfolding revoke_again_of
 revoke_again_sent at o None is h = h
 revoke_again_sent at o (Some r) is h = send_all_sent at _ _ o (λ u. (rsn_sound at.me at.db r.rsn at.key [] (db_of at o h) (revoking_of at o r is h u)).1) h
@@ -360,7 +360,7 @@ from_only : (at : Place) (n : ℕ) (o p : Moving) → Sent at o → Sent at p �
 unfolding from_home
 from_only at n o p h k = if_sent at _ _ _ k h
 
-arrive_sent : (at : Place) (rules : Rules) (n : ℕ) (m : Msg) (o : Moving) → is_message n m ≡ true → is_node n ≡ true → Sent at o → Sent at (arrive at rules n m o)
+pub arrive_sent : (at : Place) (rules : Rules) (n : ℕ) (m : Msg) (o : Moving) → is_message n m ≡ true → is_node n ≡ true → Sent at o → Sent at (arrive at rules n m o)
 unfolding arrive on_give on_refuse on_done on_revoke on_vstored on_vdeleted is_recalled is_for_node
 arrive_sent at rules n (msg.Call db key request k) o keeps node h = home_only at o _ h (call_sent at n request k o (grind arith) node h)
 arrive_sent at rules n (msg.Recall db key least for request k) o keeps node h = from_only at n o _ h (recall_sent at (record { least = least; node = for; request = request; kind = k }) o (grind arith) (grind arith) h)
@@ -377,11 +377,11 @@ arrive_sent at rules n (msg.VDelete db key rsn) o keeps node h = from_only at n 
 arrive_sent at rules n (msg.VDeleted db key rsn) o keeps node h = home_only at o _ h (vdeleted_of_sent at n rsn o o.state.vacuum refl h)
 arrive_sent at rules n _ o keeps node h = h
 
-resend_sent : (at : Place) (o : Moving) → Sent at o → Sent at (revoke_again at (call_again at o))
+pub resend_sent : (at : Place) (o : Moving) → Sent at o → Sent at (revoke_again at (call_again at o))
 unfolding revoke_again call_again
 resend_sent at o h = revoke_again_sent at (call_again_of at o o.state.wish) _ refl (call_again_sent at o o.state.wish refl h)
 
-move_sent : (at : Place) (rules : Rules) (e : MoveEvent) (o : Moving) → MayCome at o.state e → is_from_node e ≡ true → Sent at o → Sent at (move at rules e o)
+pub move_sent : (at : Place) (rules : Rules) (e : MoveEvent) (o : Moving) → MayCome at o.state e → is_from_node e ≡ true → Sent at o → Sent at (move at rules e o)
 unfolding store unlock release
 move_sent at rules (event.Want call o_p) o may node h = want_sent at rules call o_p o h
 move_sent at rules (event.Store call v) o may node h = reply_sent at _ _ _ (valued_sent at v o h)
@@ -390,7 +390,7 @@ move_sent at rules (event.Arrive sender m) o may node h = arrive_sent at rules s
 move_sent at rules (event.Vacuum others) o may node h = vacuum_sent at others o h
 move_sent at rules event.Resend o may node h = resend_sent at o h
 
-begins_sent : (at : Place) (s : RecState) (next : ℕ) → is_db at.db ≡ true → IsInForm at s → waits_for_nodes s ≡ true → 1 ≤ next → next < 2 ^ 62 → at.floor < 2 ^ 62 → Sent at (begins s next at.floor)
+pub begins_sent : (at : Place) (s : RecState) (next : ℕ) → is_db at.db ≡ true → IsInForm at s → waits_for_nodes s ≡ true → 1 ≤ next → next < 2 ^ 62 → at.floor < 2 ^ 62 → Sent at (begins s next at.floor)
 unfolding Sent
 begins_sent at s next d f nodes one below low = (let p = and_parts (list_all is_of_node s.queue) (list_all is_for_node s.waiting) nodes in record {
   db = d;
@@ -410,7 +410,7 @@ begins_sent at s next d f nodes one below low = (let p = and_parts (list_all is_
   floor_limit = λ _. low;
 })
 
-sent_sound : (at : Place) (o : Moving) → o.spent ≡ false → Sent at o → (list_all (is_sound at.me) o.acts ≡ true) × (waits_for_nodes o.state ≡ true)
+pub sent_sound : (at : Place) (o : Moving) → o.spent ≡ false → Sent at o → (list_all (is_sound at.me) o.acts ≡ true) × (waits_for_nodes o.state ≡ true)
 unfolding Sent
 sent_sound at o u h = (h.sound u, and_from _ _ h.queue_nodes h.waiting_nodes)
 
