@@ -217,10 +217,10 @@ vacuuming_formed : (at : Place) (v w : Vacuuming) (o : Moving) → o.state.vacuu
 unfolding Formed keeps vacuumed_rsn
 vacuuming_formed at v w o running same h = grind arith
 
-stored_rsn : (n rsn : ℕ) (v : Vacuuming) → (stored n rsn v).rsn ≡ v.rsn
+pub stored_rsn : (n rsn : ℕ) (v : Vacuuming) → (stored n rsn v).rsn ≡ v.rsn
 stored_rsn n rsn v = grind arith
 
-deleted_rsn : (n rsn : ℕ) (v : Vacuuming) → (deleted n rsn v).rsn ≡ v.rsn
+pub deleted_rsn : (n rsn : ℕ) (v : Vacuuming) → (deleted n rsn v).rsn ≡ v.rsn
 deleted_rsn n rsn v = grind arith
 
 vstored_of_formed : (at : Place) (n rsn : ℕ) (o : Moving) (v : Option Vacuuming) → o.state.vacuum ≡ v → Formed at o → Formed at (on_vstored_of at n rsn o v)

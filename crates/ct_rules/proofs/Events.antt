@@ -70,21 +70,21 @@ want_of_formed at rules call o_p o wanting unwished still unlocked h = cond_both
     (λ tracked. wait_formed at call o_p o wanting still (unlocked (not_read _ _ _ t held)) held tracked h))
     (λ other. call_for_formed at call o_p o wanting still other h))
 
-want_formed : (at : Place) (rules : Rules) (call : ℕ) (o_p : ClientOp) (o : Moving) → is_wanting o_p ≡ true → o.state.wish ≡ None → (is_read_op o_p ≡ false → o.state.locked ≡ None) → Formed at o → Formed at (want at rules call o_p o)
+pub want_formed : (at : Place) (rules : Rules) (call : ℕ) (o_p : ClientOp) (o : Moving) → is_wanting o_p ≡ true → o.state.wish ≡ None → (is_read_op o_p ≡ false → o.state.locked ≡ None) → Formed at o → Formed at (want at rules call o_p o)
 unfolding want
 want_formed at rules call o_p o wanting unwished unlocked h = (let r = opened_home_rest at o in want_of_formed at rules call o_p (opened_at_home at o) wanting (ap (λ (x : Option Wish). is_none x) (r.0 ∙ unwished)) (opened_home_still at o h) (λ n. ap (λ (x : Option ℕ). is_none x) (r.1 ∙ unlocked n)) (opened_home_formed at o h))
 
 -- ---- Store and Unlock
 
-store_formed : (at : Place) (call : ℕ) (v : List ℕ) (o : Moving) → Formed at o → Formed at (store call v o)
+pub store_formed : (at : Place) (call : ℕ) (v : List ℕ) (o : Moving) → Formed at o → Formed at (store call v o)
 unfolding Formed store reply acts keeps with_value is_mastered rsn_of
 store_formed at call v o h = grind arith
 
-release_formed : (at : Place) (call : ℕ) (o : Moving) → Formed at o → Formed at (release call o)
+pub release_formed : (at : Place) (call : ℕ) (o : Moving) → Formed at o → Formed at (release call o)
 unfolding Formed release reply acts keeps
 release_formed at call o h = grind arith
 
-unlock_formed : (at : Place) (call : ℕ) (o : Moving) → Formed at o → Formed at (unlock at call o)
+pub unlock_formed : (at : Place) (call : ℕ) (o : Moving) → Formed at o → Formed at (unlock at call o)
 unfolding unlock
 unlock_formed at call o h = drained_formed at _ (release_formed at call o h)
 
@@ -112,7 +112,7 @@ unfolding vacuum_at_home
 home_formed at others o None home t h = begin_formed at o others home t h
 home_formed at others o (Some v) home t h = send_all_formed at _ _ o h
 
-vacuum_formed : (at : Place) (others : List ℕ) (o : Moving) → Formed at o → Formed at (vacuum at others o)
+pub vacuum_formed : (at : Place) (others : List ℕ) (o : Moving) → Formed at o → Formed at (vacuum at others o)
 unfolding vacuum
 vacuum_formed at others o h = cond_both (is_vacuumed at.me o.state) _ _ (Formed at)
     (λ t. cond_both (nat_eq at.me at.lmaster) _ _ (Formed at)
@@ -122,17 +122,17 @@ vacuum_formed at others o h = cond_both (is_vacuumed at.me o.state) _ _ (Formed 
 
 -- ---- sending again
 
-call_again_formed : (at : Place) (o : Moving) (w : Option Wish) → Formed at o → Formed at (call_again_of at o w)
+pub call_again_formed : (at : Place) (o : Moving) (w : Option Wish) → Formed at o → Formed at (call_again_of at o w)
 unfolding call_again_of
 call_again_formed at o None h = h
 call_again_formed at o (Some w) h = if_formed at _ _ _ h (send_formed at _ _ o h)
 
-revoke_again_formed : (at : Place) (o : Moving) (r : Option Revocation) → Formed at o → Formed at (revoke_again_of at o r)
+pub revoke_again_formed : (at : Place) (o : Moving) (r : Option Revocation) → Formed at o → Formed at (revoke_again_of at o r)
 unfolding revoke_again_of
 revoke_again_formed at o None h = h
 revoke_again_formed at o (Some r) h = send_all_formed at _ _ o h
 
-resend_formed : (at : Place) (o : Moving) → Formed at o → Formed at (revoke_again at (call_again at o))
+pub resend_formed : (at : Place) (o : Moving) → Formed at o → Formed at (revoke_again at (call_again at o))
 unfolding revoke_again call_again
 resend_formed at o h = revoke_again_formed at _ _ (call_again_formed at o o.state.wish h)
 
@@ -146,7 +146,7 @@ from_only : (at : Place) (n : ℕ) (o p : Moving) → Formed at o → Formed at 
 unfolding from_home
 from_only at n o p h k = if_formed at _ _ _ k h
 
-arrive_formed : (at : Place) (rules : Rules) (n : ℕ) (m : Msg) (o : Moving) → is_message n m ≡ true → Formed at o → Formed at (arrive at rules n m o)
+pub arrive_formed : (at : Place) (rules : Rules) (n : ℕ) (m : Msg) (o : Moving) → is_message n m ≡ true → Formed at o → Formed at (arrive at rules n m o)
 unfolding arrive is_recalled
 arrive_formed at rules n (msg.Call db key request k) o keeps h = home_only at o _ h (λ home. call_formed at n request k o home (grind arith) h)
 arrive_formed at rules n (msg.Recall db key least node request k) o keeps h = from_only at n o _ h (recall_formed at (record { least = least; node = node; request = request; kind = k }) o (grind arith) h)
@@ -179,7 +179,7 @@ pub in_form_at_start : StartsInForm
 unfolding is_quiet least_of sent_for revoked_rsn vacuumed_rsn wished_as wants_record rsn_of
 in_form_at_start at = grind arith
 
-begins_formed : (at : Place) (s : RecState) (next : ℕ) → IsInForm at s → next < 2 ^ 62 → at.floor < 2 ^ 62 → Formed at (begins s next at.floor)
+pub begins_formed : (at : Place) (s : RecState) (next : ℕ) → IsInForm at s → next < 2 ^ 62 → at.floor < 2 ^ 62 → Formed at (begins s next at.floor)
 unfolding Formed
 begins_formed at s next f below low = record {
   shape = f.shape;
@@ -193,7 +193,7 @@ begins_formed at s next f below low = record {
   floor_limit = λ _. low;
 }
 
-formed_form : (at : Place) (o : Moving) → o.spent ≡ false → Formed at o → IsInForm at o.state
+pub formed_form : (at : Place) (o : Moving) → o.spent ≡ false → Formed at o → IsInForm at o.state
 unfolding Formed
 formed_form at o unspent h = record {
   shape = h.shape;
@@ -207,14 +207,14 @@ formed_form at o unspent h = record {
   };
 }
 
-formed_limits : (at : Place) (o : Moving) → o.spent ≡ false → Formed at o → (o.next < 2 ^ 62) × (o.floor < 2 ^ 62)
+pub formed_limits : (at : Place) (o : Moving) → o.spent ≡ false → Formed at o → (o.next < 2 ^ 62) × (o.floor < 2 ^ 62)
 unfolding Formed
 formed_limits at o unspent h = (h.next_limit unspent, h.floor_limit unspent)
 
-after_step : (at : Place) (next : ℕ) (o : Moving) → o.spent ≡ false → Formed at o → next ≤ o.next → at.floor ≤ o.floor → IsAfter at next o
+pub after_step : (at : Place) (next : ℕ) (o : Moving) → o.spent ≡ false → Formed at o → next ≤ o.next → at.floor ≤ o.floor → IsAfter at next o
 after_step at next o unspent h rises floor = (let l = formed_limits at o unspent h in record { form = formed_form at o unspent h; next_rises = rises; next_limit = l.0; floor_rises = floor; floor_limit = l.1 })
 
-unspent_same : (m o : Moving) → unless_spent m ≡ Some o → (m.spent ≡ false) × (m ≡ o)
+pub unspent_same : (m o : Moving) → unless_spent m ≡ Some o → (m.spent ≡ false) × (m ≡ o)
 unspent_same m o e = (grind arith, grind arith)
 
 pub form_kept : KeepsForm

@@ -34,10 +34,10 @@ front_after a b c f g = (f.0 ++ g.0, g.1 ∙ ap (λ (l : List Act). l ++ g.0) f.
 
 -- ---- the parts
 
-grows_same : (o : Moving) → Grows o o
+pub grows_same : (o : Moving) → Grows o o
 grows_same o = record { next = omega arith; floor = omega arith; spent = λ e. e; acts = front_same o.acts }
 
-grows_after : (o p q : Moving) → Grows o p → Grows p q → Grows o q
+pub grows_after : (o p q : Moving) → Grows o p → Grows p q → Grows o q
 grows_after o p q f g = record { next = omega arith; floor = omega arith; spent = λ e. g.spent (f.spent e); acts = front_after o.acts p.acts q.acts f.acts g.acts }
 
 if_grows : (o : Moving) (b : Bool) (x y : Moving) → Grows o x → Grows o y → Grows o (cond b x y)
@@ -208,15 +208,15 @@ want_of_grows : (at : Place) (rules : Rules) (call : ℕ) (o_p : ClientOp) (o : 
 unfolding send acts reply keeps makes want_of
 want_of_grows at rules call o_p o = grind (arith, front_same, front_more, front_after, satisfy_grows, wait_grows, call_for_grows)
 
-want_grows : (at : Place) (rules : Rules) (call : ℕ) (o_p : ClientOp) (o : Moving) → Grows o (want at rules call o_p o)
+pub want_grows : (at : Place) (rules : Rules) (call : ℕ) (o_p : ClientOp) (o : Moving) → Grows o (want at rules call o_p o)
 unfolding send acts reply keeps makes want opened_at_home end_vacuum
 want_grows at rules call o_p o = grind (arith, front_same, front_more, front_after, want_of_grows, opened_grows)
 
-release_grows : (at : Place) (call : ℕ) (o : Moving) → Grows o (release call o)
+pub release_grows : (at : Place) (call : ℕ) (o : Moving) → Grows o (release call o)
 unfolding release keeps reply acts
 release_grows at call o = grind (arith, front_same, front_more)
 
-unlock_grows : (at : Place) (call : ℕ) (o : Moving) → Grows o (unlock at call o)
+pub unlock_grows : (at : Place) (call : ℕ) (o : Moving) → Grows o (unlock at call o)
 unfolding unlock
 unlock_grows at call o = grows_after o _ _ (release_grows at call o) (drained_grows at (release call o))
 
@@ -224,15 +224,15 @@ begin_grows : (at : Place) (o : Moving) (ns : List ℕ) → Grows o (begin_vacuu
 unfolding send acts reply keeps makes begin_vacuum
 begin_grows at o ns = grind (arith, front_same, front_more, front_after, finish_grows, send_all_grows)
 
-vacuum_grows : (at : Place) (ns : List ℕ) (o : Moving) → Grows o (vacuum at ns o)
+pub vacuum_grows : (at : Place) (ns : List ℕ) (o : Moving) → Grows o (vacuum at ns o)
 unfolding send acts reply keeps makes vacuum vacuum_at_home
 vacuum_grows at ns o = grind (arith, front_same, front_more, front_after, begin_grows, send_all_grows, give_grows)
 
-call_again_grows : (at : Place) (o : Moving) → Grows o (call_again at o)
+pub call_again_grows : (at : Place) (o : Moving) → Grows o (call_again at o)
 unfolding send acts reply keeps makes call_again call_again_of
 call_again_grows at o = grind (arith, front_same, front_more, front_after)
 
-resend_grows : (at : Place) (o : Moving) → Grows o (revoke_again at o)
+pub resend_grows : (at : Place) (o : Moving) → Grows o (revoke_again at o)
 unfolding send acts reply keeps makes revoke_again revoke_again_of
 resend_grows at o = grind (arith, front_same, front_more, front_after, send_all_grows)
 
@@ -244,7 +244,7 @@ from_grows : (at : Place) (n : ℕ) (o p : Moving) → Grows o p → Grows o (fr
 unfolding from_home
 from_grows at n o p f = grind (arith, front_same)
 
-arrive_grows : (at : Place) (rules : Rules) (n : ℕ) (m : Msg) (o : Moving) → Grows o (arrive at rules n m o)
+pub arrive_grows : (at : Place) (rules : Rules) (n : ℕ) (m : Msg) (o : Moving) → Grows o (arrive at rules n m o)
 unfolding arrive
 arrive_grows at rules n (msg.Call db key request k) o = home_grows at o _ (call_grows at n request k o)
 arrive_grows at rules n (msg.Recall db key least node request k) o = from_grows at n o _ (recall_grows at (record { least = least; node = node; request = request; kind = k }) o)

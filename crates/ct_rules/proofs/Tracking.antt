@@ -102,7 +102,7 @@ drain_tracks at (r ∷ rs) o h = cond_both (is_free at.me o.state) _ _ (Tracks a
     (handle_tracks at (r ∷ rs) o h))
     (λ _. waiting_tracks at (r ∷ rs) o h)
 
-drained_tracks : (at : Place) (o : Moving) → Tracks at o → Tracks at (drained at o)
+pub drained_tracks : (at : Place) (o : Moving) → Tracks at o → Tracks at (drained at o)
 unfolding drained
 drained_tracks at o h = drain_tracks at o.state.waiting o h
 
@@ -300,15 +300,15 @@ opened_home_tracks at o h = cond_both (nat_eq at.me at.lmaster && is_none o.stat
     (λ t. ended_tracks at (opened at o) (opened_tracks at o (eqb-true at.me at.lmaster (and_parts (nat_eq at.me at.lmaster) (is_none o.state.locked) t).0) h))
     (λ _. h)
 
-want_tracks : (at : Place) (rules : Rules) (call : ℕ) (o_p : ClientOp) (o : Moving) → Tracks at o → Tracks at (want at rules call o_p o)
+pub want_tracks : (at : Place) (rules : Rules) (call : ℕ) (o_p : ClientOp) (o : Moving) → Tracks at o → Tracks at (want at rules call o_p o)
 unfolding want
 want_tracks at rules call o_p o h = want_of_tracks at rules call o_p _ (opened_home_tracks at o h)
 
-store_tracks : (at : Place) (call : ℕ) (v : List ℕ) (o : Moving) → Tracks at o → Tracks at (store call v o)
+pub store_tracks : (at : Place) (call : ℕ) (v : List ℕ) (o : Moving) → Tracks at o → Tracks at (store call v o)
 unfolding Tracks send acts reply keeps makes store is_mastered with_value
 store_tracks at call v o h = grind (arith)
 
-release_tracks : (at : Place) (call : ℕ) (o : Moving) → Tracks at o → Tracks at (release call o)
+pub release_tracks : (at : Place) (call : ℕ) (o : Moving) → Tracks at o → Tracks at (release call o)
 unfolding Tracks send acts reply keeps makes release
 release_tracks at call o h = grind (arith)
 
@@ -330,18 +330,18 @@ unfolding vacuum_at_home
 home_tracks at others o None none h = begin_tracks at o others none h
 home_tracks at others o (Some v) none h = send_all_tracks at _ _ o h
 
-vacuum_tracks : (at : Place) (others : List ℕ) (o : Moving) → Tracks at o → Tracks at (vacuum at others o)
+pub vacuum_tracks : (at : Place) (others : List ℕ) (o : Moving) → Tracks at o → Tracks at (vacuum at others o)
 unfolding vacuum
 vacuum_tracks at others o h = cond_both (is_vacuumed at.me o.state) _ _ (Tracks at)
     (λ t. (let none = (vacuumed_untracked at.me o.state t).0 in if_tracks at _ _ _ (home_tracks at others o o.state.vacuum none h) (give_tracks at o none h)))
     (λ _. h)
 
-call_again_tracks : (at : Place) (o : Moving) (w : Option Wish) → Tracks at o → Tracks at (call_again_of at o w)
+pub call_again_tracks : (at : Place) (o : Moving) (w : Option Wish) → Tracks at o → Tracks at (call_again_of at o w)
 unfolding call_again_of
 call_again_tracks at o None h = h
 call_again_tracks at o (Some w) h = if_tracks at _ _ _ h (send_tracks at _ _ o h)
 
-revoke_again_tracks : (at : Place) (o : Moving) (r : Option Revocation) → Tracks at o → Tracks at (revoke_again_of at o r)
+pub revoke_again_tracks : (at : Place) (o : Moving) (r : Option Revocation) → Tracks at o → Tracks at (revoke_again_of at o r)
 unfolding revoke_again_of
 revoke_again_tracks at o None h = h
 revoke_again_tracks at o (Some r) h = send_all_tracks at _ _ o h
@@ -354,7 +354,7 @@ from_only : (at : Place) (n : ℕ) (o p : Moving) → Tracks at o → Tracks at 
 unfolding from_home
 from_only at n o p h k = if_tracks at _ _ _ k h
 
-arrive_tracks : (at : Place) (rules : Rules) (n : ℕ) (m : Msg) (o : Moving) → Tracks at o → Tracks at (arrive at rules n m o)
+pub arrive_tracks : (at : Place) (rules : Rules) (n : ℕ) (m : Msg) (o : Moving) → Tracks at o → Tracks at (arrive at rules n m o)
 unfolding arrive on_vstored on_vdeleted
 arrive_tracks at rules n (msg.Call db key request k) o h = home_only at o _ h (λ home. call_tracks at n request k o home h)
 arrive_tracks at rules n (msg.Recall db key least node request k) o h = from_only at n o _ h (recall_tracks at (record { least = least; node = node; request = request; kind = k }) o h)
@@ -371,7 +371,7 @@ arrive_tracks at rules n (msg.VDelete db key rsn) o h = from_only at n o _ h (on
 arrive_tracks at rules n (msg.VDeleted db key rsn) o h = home_only at o _ h (λ _. vdeleted_of_tracks at n rsn o o.state.vacuum refl h)
 arrive_tracks at rules n _ o h = h
 
-move_tracks : (at : Place) (rules : Rules) (e : MoveEvent) (o : Moving) → Tracks at o → Tracks at (move at rules e o)
+pub move_tracks : (at : Place) (rules : Rules) (e : MoveEvent) (o : Moving) → Tracks at o → Tracks at (move at rules e o)
 unfolding unlock revoke_again call_again
 move_tracks at rules (event.Want call o_p) o h = want_tracks at rules call o_p o h
 move_tracks at rules (event.Store call v) o h = store_tracks at call v o h

@@ -5,3 +5,4 @@ pub mod Moves
 pub mod Form
 pub mod Laws
 pub mod Runs
+pub mod Sent

@@ -1,5 +1,6 @@
 //! What follows for the rules of every record.
 ghost use Rattle.ct_rules.specs.Laws.{GrowsAlone, KeepsForm, KeepsTracking, ReadsNoNames, StartsInForm};
+ghost use Rattle.ct_rules.specs.Sent.{SendsSound};
 
 /// A state in which nothing is kept is in form at every place.
 pub fn starts_in_form()
@@ -26,4 +27,10 @@ pub fn keeps_tracking()
 /// What comes of a message at a record does not depend on the database and the key that the message names.
 pub fn reads_no_names()
     ensures { ReadsNoNames }
+{}
+
+/// What a node sends about a record keeps the rules of its fields, and so may come to its receiver, where the state was in
+/// form, what came kept them too, and all that waits is of nodes. This stays so.
+pub fn sends_sound()
+    ensures { SendsSound }
 {}

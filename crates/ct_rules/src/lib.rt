@@ -9,3 +9,5 @@ pub mod event;
 pub mod laws;
 pub mod runs;
 pub mod state;
+#[cfg(test)]
+mod tests;
