@@ -1,19 +1,20 @@
 -- The second and the third step, each of which comes to an end.
-use Rattle.std.proofs.Common.{◌≡◌, ℕ, zero, suc, ◌<◌, Bool, true, false, nat_lt, ◌&&◌, List, [], ◌∷◌, ◌++◌, Option, Some, None, refl, sym, ap, ◌∙◌, subst, arith}
+use Rattle.std.proofs.Common.{◌≡◌, ℕ, zero, suc, ◌+◌, ◌<◌, Bool, true, false, nat_lt, ◌&&◌, List, [], ◌∷◌, ◌++◌, Option, Some, None, refl, sym, ap, ◌∙◌, subst, arith}
 use native.Mathlib.Nat.{le_refl}
-use Rattle.std.specs.Prelude.{if◌then◌else◌, is_some, option_map}
+use Rattle.std.specs.Prelude.{if◌then◌else◌, is_some, option_map, map, not, nat_eq, ◌||◌}
 use Rattle.std.specs.List.{AllByRecursion}
 use Rattle.std.specs.List.Sorted.{IsStrictlySortedBy}
 use Rattle.ct_bytes.specs.Address.{address_cmp}
 use Rattle.ct_bytes.specs.declared.address.Address.{Address}
+use Rattle.ct_msg.specs.Config.{same_address}
 use Rattle.ct_frame.specs.declared.frame.Assigned.{Assigned}
 use Rattle.ct_lcp2.specs.Distance.{sum_to, imbalance}
 use Rattle.ct_lcp2.specs.Best.{best, best_from}
-use Rattle.ct_lcp2.specs.Placing.{Ascend, sent, moved, homeless, total, held, others, may_fail_back, failbacks, choice_before, source_before, places, sources, next_place, next_failback, one_placed, one_failed_back, filled, failed_back, repeated, if_some, begun, targets_of, placement, placed, source_of}
+use Rattle.ct_lcp2.specs.Placing.{Ascend, sent, moved, homeless, total, held, others, may_fail_back, failbacks, choice_before, source_before, places, sources, next_place, next_failback, one_placed, one_failed_back, filled, failed_back, repeated, if_some, begun, targets_of, placement, placed, source_of, addresses, is_able, must_leave, freed, is_none, places_at, failbacks_of}
 use Rattle.ct_lcp2.specs.declared.choice.Choice.{Choice}
 use Rattle.ct_lcp2.specs.declared.choice.Source.{Source}
 use Rattle.ct_lcp2.specs.declared.placement.Placement.{Placement}
-use Rattle.ct_lcp2.proofs.Choices.{all_weaken, holds_of, all_places, all_failbacks, all_sources}
+use Rattle.ct_lcp2.proofs.Choices.{all_weaken, holds_of, all_places, all_failbacks, all_sources, all_append}
 use Rattle.ct_lcp2.proofs.Repeats.{Falls, none_left, one_more, at_end}
 use Rattle.ct_lcp2.proofs.Standing.{homeless_falls, addresses_sent, addresses_begun, Splits, all_split, total_falls}
 
@@ -166,3 +167,156 @@ all_failed_back able given h =
     none_moves able (targets_of able given) q.at (none_is_best source_before (sources able (targets_of able given) q.at)
     (no_step (λ s. moved s.choice.address (Some s.node) s.choice.node q) (next_failback able (targets_of able given) q.at)
     (none_left {size = λ r. total r.at} {Good = λ r. Ascend r.at} {next = one_failed_back able (targets_of able given)} (failbacks_end able (targets_of able given)) (total p.at) p asc (le_refl (total p.at)))))
+
+-- ---- the addresses stay
+
+kept_by : (next : Placement → Option Placement) → ((p q : Placement) → next p ≡ Some q → addresses q.at ≡ addresses p.at) → (n : ℕ) (p : Placement) → addresses (repeated n next p).at ≡ addresses p.at
+unfolding repeated
+kept_by next f zero p = refl
+kept_by next f (suc n) p = by (next p) refl (λ q. kept_by next f n q)
+  where
+    by : (o : Option Placement) → next p ≡ o → ((q : Placement) → addresses (repeated n next q).at ≡ addresses q.at) → addresses (if_some o (repeated n next) p).at ≡ addresses p.at
+    by None e more = refl
+    by (Some q) e more = more q ∙ f p q e
+
+place_keeps : (able : List ℕ) (p q : Placement) → one_placed able p ≡ Some q → addresses q.at ≡ addresses p.at
+place_keeps able p q e = by (next_place able p.at) e
+  where
+    by : (o : Option Choice) → option_map (λ c. moved c.address None c.node p) o ≡ Some q → addresses q.at ≡ addresses p.at
+    by None k = absurd (cc)
+    by (Some c) k = subst (λ r. addresses r.at ≡ addresses p.at) (one_value _ q k) (addresses_sent c.address c.node p.at)
+
+failback_keeps : (able targets : List ℕ) (p q : Placement) → one_failed_back able targets p ≡ Some q → addresses q.at ≡ addresses p.at
+failback_keeps able targets p q e = by (next_failback able targets p.at) e
+  where
+    by : (o : Option Source) → option_map (λ s. moved s.choice.address (Some s.node) s.choice.node p) o ≡ Some q → addresses q.at ≡ addresses p.at
+    by None k = absurd (cc)
+    by (Some s) k = subst (λ r. addresses r.at ≡ addresses p.at) (one_value _ q k) (addresses_sent s.choice.address s.choice.node p.at)
+
+pub same_addresses : (able : List ℕ) (given : List Assigned) → addresses (placed able given) ≡ addresses given
+unfolding placement
+same_addresses able given =
+    let start = begun able given in
+    let p = filled able start in
+    kept_by (one_failed_back able (targets_of able given)) (failback_keeps able (targets_of able given)) (total p.at) p
+    ∙ kept_by (one_placed able) (place_keeps able) (homeless start.at) start
+    ∙ addresses_begun able given
+
+-- ---- only able nodes hold addresses
+
+-- no address stands at a node that is not able
+abbrev pub Able : List ℕ → List Assigned → Type 0
+Able able xs = AllByRecursion (λ x. must_leave able x.node ≡ false) xs
+
+freed_able : (able : List ℕ) (xs : List Assigned) → Able able (map (freed able) xs)
+freed_able able [] = tt
+freed_able able (x ∷ xs) = (by (must_leave able x.node) refl, freed_able able xs)
+  where
+    by : (t : Bool) → must_leave able x.node ≡ t → must_leave able (if t then record { address = x.address; node = None } else x).node ≡ false
+    by true e = refl
+    by false e = e
+
+sent_able : (able : List ℕ) (a : Address) (n : ℕ) (xs : List Assigned) → is_able able n ≡ true → Able able xs → Able able (sent a n xs)
+sent_able able a n [] e h = tt
+sent_able able a n (x ∷ xs) e h = (by (same_address a x.address), sent_able able a n xs e h.1)
+  where
+    by : (t : Bool) → must_leave able (if t then record { address = x.address; node = Some n } else x).node ≡ false
+    by true = ap not e
+    by false = h.0
+
+abbrev pub AllAble : List ℕ → List ℕ → Type 0
+AllAble able ns = AllByRecursion (λ n. is_able able n ≡ true) ns
+
+all_able : (able ns : List ℕ) → AllAble ns ns
+all_able able [] = tt
+all_able able (n ∷ ns) = (itself, all_weaken (λ m. is_able ns m ≡ true) (λ m. is_able (n ∷ ns) m ≡ true) (λ m h. more m h) ns (all_able able ns))
+  where
+    itself : (nat_eq n n || is_able ns n) ≡ true
+    itself = let e : nat_eq n n ≡ true = grind arith in ap (λ t. t || is_able ns n) e
+
+    more : (m : ℕ) → is_able ns m ≡ true → (nat_eq m n || is_able ns m) ≡ true
+    more m h = by (nat_eq m n)
+      where
+        by : (t : Bool) → (t || is_able ns m) ≡ true
+        by true = refl
+        by false = h
+
+places_at_able : (able : List ℕ) (node : ℕ) (there : List Address) (xs : List Assigned) → is_able able node ≡ true → AllByRecursion (λ c. is_able able c.node ≡ true) (places_at node there xs)
+unfolding places_at
+places_at_able able node there [] e = tt
+places_at_able able node there (x ∷ xs) e = by (is_some x.node) (places_at_able able node there xs e)
+  where
+    by : (t : Bool) → AllByRecursion (λ c. is_able able c.node ≡ true) (places_at node there xs)
+        → AllByRecursion (λ c. is_able able c.node ≡ true) (if t then places_at node there xs else record { sum = sum_to x.address there; address = x.address; node = node } ∷ places_at node there xs)
+    by true h = h
+    by false h = (e, h)
+
+places_able : (able ns : List ℕ) (xs : List Assigned) → AllAble able ns → AllByRecursion (λ c. is_able able c.node ≡ true) (places ns xs)
+unfolding places
+places_able able [] xs h = tt
+places_able able (n ∷ ns) xs h = all_append (λ c. is_able able c.node ≡ true) (places_at n (held n xs) xs) (places ns xs) (places_at_able able n (held n xs) xs h.0) (places_able able ns xs h.1)
+
+failbacks_of_able : (able : List ℕ) (target : ℕ) (here there bs : List Address) → is_able able target ≡ true → AllByRecursion (λ c. is_able able c.node ≡ true) (failbacks_of target here there bs)
+unfolding failbacks_of
+failbacks_of_able able target here there [] e = tt
+failbacks_of_able able target here there (a ∷ bs) e = by (may_fail_back a here there) (failbacks_of_able able target here there bs e)
+  where
+    by : (t : Bool) → AllByRecursion (λ c. is_able able c.node ≡ true) (failbacks_of target here there bs)
+        → AllByRecursion (λ c. is_able able c.node ≡ true) (if t then record { sum = imbalance (others a here) + imbalance (a ∷ there); address = a; node = target } ∷ failbacks_of target here there bs else failbacks_of target here there bs)
+    by true h = (e, h)
+    by false h = h
+
+failbacks_able : (able : List ℕ) (source : ℕ) (targets : List ℕ) (xs : List Assigned) → AllAble able targets → AllByRecursion (λ c. is_able able c.node ≡ true) (failbacks source targets xs)
+unfolding failbacks
+failbacks_able able source [] xs h = tt
+failbacks_able able source (n ∷ ns) xs h = by (nat_eq n source) (failbacks_able able source ns xs h.1)
+  where
+    by : (t : Bool) → AllByRecursion (λ c. is_able able c.node ≡ true) (failbacks source ns xs)
+        → AllByRecursion (λ c. is_able able c.node ≡ true) (if t then failbacks source ns xs else failbacks_of n (held source xs) (held n xs) (held source xs) ++ failbacks source ns xs)
+    by true k = k
+    by false k = all_append (λ c. is_able able c.node ≡ true) (failbacks_of n (held source xs) (held n xs) (held source xs)) (failbacks source ns xs) (failbacks_of_able able n (held source xs) (held n xs) (held source xs) h.0) k
+
+targets_able : (able ns : List ℕ) (given : List Assigned) → AllAble able ns → AllAble able (targets_of ns given)
+targets_able able [] given h = tt
+targets_able able (n ∷ ns) given h = by (is_none (held n given)) (targets_able able ns given h.1)
+  where
+    by : (t : Bool) → AllAble able (targets_of ns given) → AllAble able (if t then n ∷ targets_of ns given else targets_of ns given)
+    by true k = (h.0, k)
+    by false k = k
+
+repeats_keep : (Good : Placement → Type 0) (next : Placement → Option Placement) → ((p q : Placement) → Good p → next p ≡ Some q → Good q) → (n : ℕ) (p : Placement) → Good p → Good (repeated n next p)
+unfolding repeated
+repeats_keep Good next f zero p g = g
+repeats_keep Good next f (suc n) p g = by (next p) refl (λ q h. repeats_keep Good next f n q h)
+  where
+    by : (o : Option Placement) → next p ≡ o → ((q : Placement) → Good q → Good (repeated n next q)) → Good (if_some o (repeated n next) p)
+    by None e more = g
+    by (Some q) e more = more q (f p q g e)
+
+place_able : (able : List ℕ) (p q : Placement) → Able able p.at → one_placed able p ≡ Some q → Able able q.at
+place_able able p q g e = by (next_place able p.at) refl e
+  where
+    by : (o : Option Choice) → next_place able p.at ≡ o → option_map (λ c. moved c.address None c.node p) o ≡ Some q → Able able q.at
+    by None h k = absurd (cc)
+    by (Some c) h k =
+        subst (λ r. Able able r.at) (one_value _ q k)
+        (sent_able able c.address c.node p.at (holds_of (λ d. is_able able d.node ≡ true) choice_before (places able p.at) c (places_able able able p.at (all_able able able)) h) g)
+
+failback_able : (able targets : List ℕ) → AllAble able targets → (p q : Placement) → Able able p.at → one_failed_back able targets p ≡ Some q → Able able q.at
+failback_able able targets t p q g e = by (next_failback able targets p.at) refl e
+  where
+    by : (o : Option Source) → next_failback able targets p.at ≡ o → option_map (λ s. moved s.choice.address (Some s.node) s.choice.node p) o ≡ Some q → Able able q.at
+    by None h k = absurd (cc)
+    by (Some s) h k =
+        subst (λ r. Able able r.at) (one_value _ q k)
+        (sent_able able s.choice.address s.choice.node p.at
+        (holds_of (λ r. is_able able r.choice.node ≡ true) source_before (sources able targets p.at) s
+        (all_sources (λ r. is_able able r.choice.node ≡ true) able targets p.at (λ node. failbacks_able able node targets p.at t)) h) g)
+
+pub placed_able : (able : List ℕ) (given : List Assigned) → Able able (placed able given)
+unfolding placement
+placed_able able given =
+    let start = begun able given in
+    let p = filled able start in
+    repeats_keep (λ r. Able able r.at) (one_failed_back able (targets_of able given)) (failback_able able (targets_of able given) (targets_able able able given (all_able able able))) (total p.at) p
+    (repeats_keep (λ r. Able able r.at) (one_placed able) (place_able able) (homeless start.at) start (freed_able able given))

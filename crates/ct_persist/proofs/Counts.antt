@@ -1,16 +1,16 @@
 -- Which keys are there after writes, and how many.
-use Rattle.std.proofs.Common.{◌≡◌, ◌+◌, ◌<◌, ◌≤◌, ℕ, suc, Bool, true, false, cond, ◌&&◌, List, [], ◌∷◌, ◌++◌, length, Option, Some, None, get_or, take, refl, sym, ◌∙◌, ap, subst, arith}
+use Rattle.std.proofs.Common.{◌≡◌, ◌+◌, ◌<◌, ◌≤◌, ℕ, Bool, true, false, cond, ◌&&◌, List, [], ◌∷◌, ◌++◌, length, Option, Some, None, get_or, take, refl, sym, ◌∙◌, ap, subst, arith}
 use Rattle.std.specs.Prelude.{is_some, not, ◌==◌, nat_eq, if◌then◌else◌}
 use Rattle.std.specs.Option.{option_copied}
 use Rattle.std.specs.Borrow.{Bor}
 use Rattle.std.specs.Cmp.Lexicographic.{pointwise, texts_ties}
 use Rattle.std.proofs.lemmas.List.{take_more}
 use Rattle.ct_msg.specs.declared.client.Pair.{Pair}
-use Rattle.ct_store.specs.Map.{Pairs, Ascends, look, write, erase}
+use Rattle.ct_store.specs.Map.{Pairs, Ascends, look, write}
 use Rattle.ct_store.proofs.Maps.{erase_length, write_length}
 use Rattle.ct_persist.specs.Persisted.{stored, written}
 use Rattle.ct_persist.specs.Steps.{one_if}
-use Rattle.ct_persist.proofs.Looks.{V, at, flips, stored_at, look-stored, stored_ascends, written_ascends}
+use Rattle.ct_persist.proofs.Looks.{V, at, flips, stored_at, look-stored, written_ascends}
 
 written_last : (ws : List Pair) (w : Pair) (m : Pairs V) → written (ws ++ w ∷ []) m ≡ stored w.key w.value (written ws m)
 unfolding written
@@ -67,14 +67,6 @@ pub count_more : (ws : List Pair) (i : ℕ) (w : Pair) (m : Pairs V) (there : Bo
 count_more ws i w m there a h is t =
     subst (λ b. length (written (take (i + 1) ws) m) + one_if (b && no_bytes w.value) ≡ length (written (take i ws) m) + one_if (not b && not (no_bytes w.value))) (sym t)
     (ap (λ l. length l + one_if (is_some (look w.key (written (take i ws) m)) && no_bytes w.value)) (written_more ws i w m h is) ∙ sized w.key w.value (written (take i ws) m) (written_ascends (take i ws) m a))
-
--- one can be taken off, if the key is there
-pub some_there : (key : V) (m : Pairs V) (there empty : Bool) → there ≡ is_some (look key m) → (there && empty) ≡ true → 1 ≤ length m
-some_there key m true empty t h = at_least (length (erase key m)) (length m) (subst (λ b. length (erase key m) + (if b then 1 else 0) ≡ length m) (sym t) (erase_length m key))
-  where
-    at_least : (n l : ℕ) → n + 1 ≡ l → 1 ≤ l
-    at_least n l e = grind arith
-some_there key m false empty t h = absurd (cc)
 
 -- the count after one write more
 pub counted : (ws : List Pair) (i : ℕ) (w : Pair) (m : Pairs V) (there empty : Bool) (count next : ℕ) → Ascends m → i < length ws → w ≡ get_or ws i w → there ≡ is_some (look w.key (written (take i ws) m)) → empty ≡ no_bytes w.value

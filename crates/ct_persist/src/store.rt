@@ -112,7 +112,7 @@ impl PStore {
     /// order, an empty value removes the pair of its key, and the number is the own one. `Had` where its number is not
     /// above the own one, and `Gap` otherwise; these change nothing, and nor does want of memory.
     pub fn update(&mut self, seq: u64, writes: &[Pair]) -> Result<Updated, NoMemory>
-        ensures answer { IfOk result (λ updated. updated ≡ answer seq writes.now self.old) }
+        ensures answer { IfOk result (λ u. u ≡ answer seq writes.now self.old) }
         ensures ok { OnOk result (self.new ≡ updated seq writes.now self.old) }
         ensures err { OnErr result (self.new ≡ self.old) }
     {

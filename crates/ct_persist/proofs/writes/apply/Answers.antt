@@ -1,6 +1,6 @@
 use Rattle.std.proofs.Common.{ap, sym, subst, ◌∙◌}
 use Rattle.ct_persist.specs.Persisted.{IsKept, keyed}
-use Rattle.ct_persist.specs.Steps.{all_added, all_assigned, all_dropped}
+use Rattle.ct_persist.specs.Steps.{all_assigned, all_dropped}
 use Rattle.ct_persist.proofs.Looks.{written_kept}
 use Rattle.ct_persist.proofs.InPlace.{in_place}
 use Rattle.ct_persist.proofs.writes.apply.Goals as goal

@@ -2,7 +2,7 @@ use Rattle.std.proofs.Common.{ap, sym, subst, ◌∙◌, ◌^◌, length, take, 
 use Rattle.std.specs.Prelude.{is_some}
 use Rattle.ct_store.specs.Map.{Ascends, look}
 use Rattle.ct_persist.specs.Persisted.{written}
-use Rattle.ct_persist.proofs.Counts.{counted, rises, some_there, written_none, no_bytes}
+use Rattle.ct_persist.proofs.Counts.{counted, rises, written_none, no_bytes}
 use Rattle.ct_persist.proofs.store.PStore.fits.Goals as goal
 
 pub loop-i-init : goal.loop-i-init
