@@ -6,7 +6,7 @@ use Rattle.ct_call.specs.Rules.{Rules}
 use Rattle.ct_frame.specs.declared.frame.Msg.{Msg}
 use Rattle.ct_frame.specs.declared.frame.Msg.TheVariants as msg
 use Rattle.ct_msg.specs.declared.client.ClientOp.{ClientOp}
-use Rattle.ct_rules.specs.State.{is_nil, rsn_of, is_mastered, is_quiet, is_free, with_value, raised, is_read_op, is_for_reading}
+use Rattle.ct_rules.specs.State.{is_nil, rsn_of, is_mastered, is_quiet, is_free, with_value, risen, is_read_op, is_for_reading}
 use Rattle.ct_rules.specs.Parts.{Moving, acts, send, reply, keeps, makes, opened, open_of, end_vacuum, next, call_for, wait_for_copies, want_of, opened_at_home, want}
 use Rattle.ct_rules.specs.Form.{vacuumed_rsn, wished_as, wants_record, is_wanting, is_recalled, least_of, sent_for, revoked_rsn}
 use Rattle.ct_rules.specs.declared.event.Place.{Place}
@@ -90,8 +90,8 @@ unlock_formed at call o h = drained_formed at _ (release_formed at call o h)
 
 -- ---- a vacuum of the database
 
-begun_formed : (at : Place) (ns : List ℕ) (o : Moving) → at.me ≡ at.lmaster → is_vacuumed at.me o.state ≡ true → Formed at o → Formed at (makes (rsn_of o.state.copy + 1) (keeps (record o.state { copy = raised o.state.copy; vacuum = Some (begun (rsn_of o.state.copy) ns) }) o))
-unfolding Formed makes keeps is_vacuumed is_free is_mastered raised rsn_of vacuumed_rsn
+begun_formed : (at : Place) (ns : List ℕ) (o : Moving) → at.me ≡ at.lmaster → is_vacuumed at.me o.state ≡ true → Formed at o → Formed at (makes (rsn_of o.state.copy + 1) (keeps (record o.state { copy = risen o.state.copy; vacuum = Some (begun (rsn_of o.state.copy) ns) }) o))
+unfolding Formed makes keeps is_vacuumed is_free is_mastered risen rsn_of vacuumed_rsn
 begun_formed at ns o home t h = grind arith
 
 vacuumed_quiet : (me : ℕ) (s : RecState) → is_vacuumed me s ≡ true → (is_none s.locked ≡ true) × (is_quiet s.tracking ≡ true) × (is_nil s.queue ≡ true)

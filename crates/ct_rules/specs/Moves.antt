@@ -8,7 +8,7 @@ use Rattle.ct_deleg.specs.Tracked.{Revocation}
 use Rattle.ct_vacuum.specs.Vacuum.{Vacuuming, begun}
 use Rattle.ct_vacuum.specs.declared.vacuum.VacuumPhase.{VacuumPhase}
 use Rattle.ct_vacuum.specs.declared.vacuum.VacuumPhase.TheVariants.{Storing, Deleting}
-use Rattle.ct_rules.specs.State.{is_nil, rsn_of, value_of, with_value, raised, is_free, kind_of}
+use Rattle.ct_rules.specs.State.{is_nil, rsn_of, value_of, with_value, risen, is_free, kind_of}
 use Rattle.ct_rules.specs.Parts.{Moving, send, send_all, reply, keeps, makes, give, drained, want}
 use Rattle.ct_rules.specs.Frames.{on_call, on_recall, on_give, on_pass, on_refuse, on_grant, on_done, on_revoke, on_revokeack, on_vstore, on_vstored, on_vdelete, on_vdeleted, finish}
 use Rattle.ct_rules.specs.declared.state.RecState.{RecState}
@@ -23,39 +23,39 @@ use Rattle.ct_rules.specs.declared.event.Place.{Place}
 unfoldable pub store : ℕ → List ℕ → Moving → Moving
 store call v o = reply call answer.Stored (keeps (record o.state { copy = with_value v o.state.copy }) o)
 
--- the lock ends
+-- Unlock: the lock ends
 unfoldable pub release : ℕ → Moving → Moving
 release call o = reply call answer.Unlocked (keeps (record o.state { locked = None }) o)
 
--- Unlock: the lock ends, and recalls that waited for it are handled
+-- Unlock at a node that serves: the lock ends, and then Drain
 unfoldable pub unlock : Place → ℕ → Moving → Moving
 unlock at call o = drained at (release call o)
 
 -- ---- a vacuum of the database
 
--- which records: a free holder has the empty value, nothing is tracked, no recall or request waits, and nothing is wished
+-- Vacuum: is it a key to take away?
 unfoldable pub is_vacuumed : ℕ → RecState → Bool
 is_vacuumed me s = is_free me s && is_nil (value_of s.copy) && is_nil s.tracking.tracked && is_nil s.waiting && is_nil s.queue && is_none s.wish
 
--- the message of a vacuum's phase
+-- Vacuum: the message of its phase
 unfoldable pub phase_message : Place → ℕ → VacuumPhase → Msg
 phase_message at rsn Storing = msg.VStore at.db at.key rsn
 phase_message at rsn Deleting = msg.VDelete at.db at.key rsn
 
--- the first phase begins; with no other member the vacuum is over at once
+-- Vacuum: it begins in the phase Storing; with no other member Finish
 unfoldable pub begin_vacuum : Place → Moving → List ℕ → Moving
 begin_vacuum at o [] = finish (rsn_of o.state.copy) o
 begin_vacuum at o (n ∷ ns) = send_all (n ∷ ns) (msg.VStore at.db at.key (rsn_of o.state.copy)) (makes (rsn_of o.state.copy + 1) (keeps (record o.state {
-  copy = raised o.state.copy;
+  copy = risen o.state.copy;
   vacuum = Some (begun (rsn_of o.state.copy) (n ∷ ns));
 }) o))
 
--- at the location master: a vacuum that runs asks those again that are missing
+-- Vacuum at L: one that runs asks the missing nodes again, and else one begins
 unfoldable pub vacuum_at_home : Place → List ℕ → Moving → Option Vacuuming → Moving
 vacuum_at_home at others o None = begin_vacuum at o others
 vacuum_at_home at others o (Some v) = send_all v.missing (phase_message at v.rsn v.phase) o
 
--- elsewhere the record is given to its location master
+-- Vacuum of one key: at L its phases, and elsewhere Give
 unfoldable pub vacuum : Place → List ℕ → Moving → Moving
 vacuum at others o =
     if is_vacuumed at.me o.state
@@ -64,32 +64,35 @@ vacuum at others o =
 
 -- ---- sending again
 
--- the location master is called again, under the same number
+-- Retry: the Call of a wish that has a request, under the same number
 unfoldable pub call_again_of : Place → Moving → Option Wish → Moving
 call_again_of at o None = o
 call_again_of at o (Some w) = if w.request == 0 then o else send at.lmaster (msg.Call at.db at.key w.request (kind_of at.readonly w.op)) o
 
+-- Retry: the Call of the wish
 unfoldable pub call_again : Place → Moving → Moving
 call_again at o = call_again_of at o o.state.wish
 
--- a revocation asks those again that are missing
+-- Retry: the Revoke of a revocation that runs, to the missing nodes
 unfoldable pub revoke_again_of : Place → Moving → Option Revocation → Moving
 revoke_again_of at o None = o
 revoke_again_of at o (Some r) = send_all r.missing (msg.Revoke at.db at.key r.rsn) o
 
+-- Retry: the Revoke
 unfoldable pub revoke_again : Place → Moving → Moving
 revoke_again at o = revoke_again_of at o o.state.tracking.revoking
 
 -- ---- every message
 
--- the location master alone is told of calls, gifts, refusals, served reads and what a vacuum has stored and deleted
+-- Which messages are dropped: these only come to L
 unfoldable pub at_home : Place → Moving → Moving → Moving
 at_home at done o = if nat_eq at.me at.lmaster then done else o
 
--- the location master alone recalls, passes and vacuums
+-- Which messages are dropped: these only come from L
 unfoldable pub from_home : Place → ℕ → Moving → Moving → Moving
 from_home at sender done o = if nat_eq sender at.lmaster then done else o
 
+-- a message of the record arrives: it is dropped, or its rule is followed
 unfoldable pub arrive : Place → Rules → ℕ → Msg → Moving → Moving
 arrive at rules n (msg.Call db key request k) o = at_home at (on_call at n request k o) o
 arrive at rules n (msg.Recall db key least node request k) o = from_home at n (on_recall at (record { least = least; node = node; request = request; kind = k }) o) o
@@ -108,7 +111,7 @@ arrive at rules n _ o = o
 
 -- ---- every event
 
--- the rule of one record
+-- the rule of one record: what comes of each event
 abbrev pub move : Place → Rules → MoveEvent → Moving → Moving
 move at rules (event.Want call o_p) o = want at rules call o_p o
 move at rules (event.Store call v) o = store call v o
@@ -121,9 +124,10 @@ move at rules event.Resend o = revoke_again at (call_again at o)
 abbrev pub begins : RecState → ℕ → ℕ → Moving
 begins s next floor = record { state = s; next = next; floor = floor; acts = []; spent = false }
 
--- a whole step, or none where a number would reach 2^62
+-- Numbers: a whole step, or none where a number would reach 2^62
 abbrev pub unless_spent : Moving → Option Moving
 unless_spent o = if o.spent then None else Some o
 
+-- a step of one record, or none where a number would reach 2^62
 abbrev pub moved : Place → Rules → MoveEvent → RecState → ℕ → Option Moving
 moved at rules e s n = unless_spent (move at rules e (begins s n at.floor))

@@ -23,8 +23,7 @@ use Rattle.ct_rules.specs.declared.event.Act.{Act}
 use Rattle.ct_rules.specs.declared.event.Act.TheVariants as act
 use Rattle.ct_rules.specs.declared.event.Place.{Place}
 
--- the middle of a step: what is kept of the record, the node's next request number, the database's floor, what the node
--- does, in order, and whether a number of this step reached 2^62
+-- the middle of a step: the key's state, next request number, floor, what is done in order, did a number reach 2^62?
 pub record Moving : Type 0 where
   pub state : RecState
   pub next : ℕ
@@ -32,10 +31,11 @@ pub record Moving : Type 0 where
   pub acts : List Act
   pub spent : Bool
 
--- "In the middle of a step": sending, answering, changing the state, making a number
+-- this is done after all else
 unfoldable pub acts : Act → Moving → Moving
 acts a o = record o { acts = o.acts ++ a ∷ [] }
 
+-- a message is sent
 unfoldable pub send : ℕ → Msg → Moving → Moving
 send receiver m o = acts (act.Send receiver m) o
 
@@ -44,16 +44,19 @@ unfoldable pub send_all : List ℕ → Msg → Moving → Moving
 send_all [] m o = o
 send_all (n ∷ ns) m o = send_all ns m (send n m o)
 
+-- a client's call is answered
 unfoldable pub reply : ℕ → Answer → Moving → Moving
 reply call a o = acts (act.Answer call a) o
 
+-- the step goes on with this state
 unfoldable pub keeps : RecState → Moving → Moving
 keeps s o = record o { state = s }
 
+-- Numbers: this number is made; where it reaches 2^62 the whole step is refused
 unfoldable pub makes : ℕ → Moving → Moving
 makes n o = record o { spent = o.spent || nat_le (2 ^ 62) n }
 
--- OPEN: the location master that knows nothing of the record makes it, under the floor's RSN
+-- Open: where there is no entry the record is made, under the floor's RSN
 unfoldable pub open_of : Place → Moving → Option Entry → Moving
 open_of at o None = keeps (record o.state {
   entry = Some (record { holder = at.lmaster; least = o.floor; request = 0; value = [] });
@@ -61,6 +64,7 @@ open_of at o None = keeps (record o.state {
 }) o
 open_of at o (Some e) = o
 
+-- Open
 unfoldable pub opened : Place → Moving → Moving
 opened at o = open_of at o o.state.entry
 
@@ -68,13 +72,14 @@ opened at o = open_of at o o.state.entry
 unfoldable pub end_vacuum : Moving → Moving
 end_vacuum o = keeps (record o.state { vacuum = None }) o
 
--- SATISFY: an operation of a client at the holder
+-- Satisfy a function, which answered this
 unfoldable pub applies : ℕ → Moving → Result (List ℕ) CallFault → Moving
 applies call o (Ok v) = reply call (answer.Applied v) (keeps (record o.state { copy = with_value v o.state.copy }) o)
 applies call o (Err (fault.TooLong n)) = reply call (answer.Refused (why.TooLong n)) o
 applies call o (Err fault.NoSuchCall) = reply call (answer.Refused why.NoSuchCall) o
 applies call o (Err fault.NoMemory) = o
 
+-- Satisfy: what a call asks is done at the holder, and answered
 unfoldable pub satisfy : Rules → ℕ → ClientOp → Moving → Moving
 satisfy rules call (op.Lock db key) o = reply call (answer.Locked (value_of o.state.copy)) (keeps (record o.state { locked = Some call }) o)
 satisfy rules call (op.Read db key) o = reply call (answer.Read (value_of o.state.copy)) o
@@ -82,22 +87,21 @@ satisfy rules call (op.Write db key v) o = reply call answer.Written (keeps (rec
 satisfy rules call (op.Apply db key f arg) o = applies call o (applied f (value_of o.state.copy) arg rules)
 satisfy rules call _ o = o
 
--- REVOKE: all read-only copies are called in
+-- Revoke: all copies for reading are called in
 unfoldable pub revoke : Place → Moving → Moving
 revoke at o = send_all o.state.tracking.tracked (msg.Revoke at.db at.key (rsn_of o.state.copy)) (keeps (record o.state {
   copy = with_flags being_revoked o.state.copy;
   tracking = begun (rsn_of o.state.copy) o.state.tracking;
 }) o)
 
--- GIVE: the record goes back to its location master
+-- Give: the record goes back to its location master
 unfoldable pub give : Place → Moving → Moving
 give at o = send at.lmaster (msg.Give at.db at.key (rsn_of o.state.copy) (value_of o.state.copy)) (keeps (record o.state {
   copy = given o.state.copy;
   waiting = [];
 }) o)
 
--- HANDLE a recall of kind Read at a free holder: another node gets a read-only copy, the own wish its answer, and the
--- location master learns that the request was served
+-- Handle a recall of kind Read for this node: a wish with its request is answered
 unfoldable pub read_here : Place → ℕ → Moving → Option Wish → Moving
 read_here at request o None = o
 read_here at request o (Some w) =
@@ -105,22 +109,23 @@ read_here at request o (Some w) =
     then reply w.call (answer.Read (value_of o.state.copy)) (keeps (record o.state { wish = None }) o)
     else o
 
+-- Handle a recall of kind Read for another node: it is tracked and gets a Grant
 unfoldable pub delegate : Place → ℕ → ℕ → Moving → Moving
 delegate at node request o = send node (msg.Grant at.db at.key request (rsn_of o.state.copy) (value_of o.state.copy)) (keeps (record o.state {
   copy = with_flags delegated o.state.copy;
   tracking = added node o.state.tracking;
 }) o)
 
+-- Handle a recall of kind Read: the copy or the answer, and then Done
 unfoldable pub grant : Place → ℕ → ℕ → Moving → Moving
 grant at node request o = send at.lmaster (msg.Done at.db at.key node request)
     (if nat_eq node at.me then read_here at request o o.state.wish else delegate at node request o)
 
--- HANDLE a recall of kind Lock at a free holder, the recall being the first of those that wait: while read-only copies
--- are out they are called in, and else the record is given
+-- Handle a recall of kind Lock, the first that waits: Revoke while nodes are tracked, and else Give
 unfoldable pub yield_record : Place → Moving → Moving
 yield_record at o = if is_nil o.state.tracking.tracked then give at o else revoke at o
 
--- DRAIN: while the node is a free holder and a recall waits, the first one is taken off and handled, which ends a vacuum
+-- Drain: while the node is free the recalls that wait are handled, in order, and a vacuum ends
 unfoldable pub drain : Place → List RecallNote → Moving → Moving
 drain at [] o = keeps (record o.state { waiting = [] }) o
 drain at (r ∷ rs) o =
@@ -130,50 +135,54 @@ drain at (r ∷ rs) o =
     else yield_record at (keeps (record o.state { waiting = r ∷ rs; vacuum = None }) o))
     else keeps (record o.state { waiting = r ∷ rs }) o
 
+-- Drain
 unfoldable pub drained : Place → Moving → Moving
 drained at o = drain at o.state.waiting o
 
--- END OF REVOCATION: the next RSN, no flags, nothing tracked; a wish of the holder's own is satisfied; then DRAIN
+-- End of revocation: a wish without a request is cleared and satisfied
 unfoldable pub satisfy_own : Rules → Moving → Option Wish → Moving
 satisfy_own rules o None = o
 satisfy_own rules o (Some w) = if w.request == 0 then satisfy rules w.call w.op (keeps (record o.state { wish = None }) o) else o
 
+-- End of revocation: the next RSN, no flags, nothing tracked
 unfoldable pub raise : Moving → Moving
 raise o = makes (rsn_of o.state.copy + 1) (keeps (record o.state { copy = raised o.state.copy; tracking = untracked }) o)
 
+-- End of revocation: the next RSN, then the own wish, then Drain
 unfoldable pub end_revocation : Place → Rules → Moving → Moving
 end_revocation at rules o = drained at (satisfy_own rules (raise o) o.state.wish)
 
--- NEXT: the location master asks the node that it sent the record to for the first request that waits
+-- Next, with the entry and the queue
 unfoldable pub next_of : Place → Moving → Option Entry → List Waiter → Moving
 next_of at o None ws = o
 next_of at o (Some e) [] = o
 next_of at o (Some e) (w ∷ ws) = send e.holder (msg.Recall at.db at.key e.least w.node w.request w.kind) o
 
+-- Next: the holder is asked for the record in the name of the head
 unfoldable pub next : Place → Moving → Moving
 next at o = next_of at o o.state.entry o.state.queue
 
--- KEEP: the location master keeps the record itself
+-- Keep: the location master has the record itself, and then Next
 unfoldable pub keep : Place → ℕ → List ℕ → Moving → Moving
 keep at rsn value o = next at (makes rsn (keeps (record o.state {
   entry = Some (record { holder = at.lmaster; least = rsn; request = 0; value = value });
   copy = Some (a_copy rsn at.lmaster plain value);
 }) o))
 
--- the location master is called for the record, under the next request number
+-- Want: L gets a Call under the next request number
 unfoldable pub call_for : Place → ℕ → ClientOp → Moving → Moving
 call_for at call o_p o = send at.lmaster (msg.Call at.db at.key o.next (kind_of at.readonly o_p)) (makes (o.next + 1) (record o {
   state = record o.state { wish = Some (record { call = call; request = o.next; op = o_p }) };
   next = o.next + 1;
 }))
 
--- the holder's own wish waits for the end of a revocation, which begins unless it runs
+-- Want: the holder's own wish waits for the end of a revocation, which begins unless it runs
 unfoldable pub wait_for_copies : Place → ℕ → ClientOp → Moving → Moving
 wait_for_copies at call o_p o =
     let o' = keeps (record o.state { wish = Some (record { call = call; request = 0; op = o_p }) }) o in
     if is_quiet o.state.tracking then revoke at o' else o'
 
--- WANT, once the location master has an entry
+-- Want, once the location master has an entry
 unfoldable pub want_of : Place → Rules → ℕ → ClientOp → Moving → Moving
 want_of at rules call o_p o =
     if is_read_op o_p && (is_mastered at.me o.state.copy || is_for_reading o.state.copy)
@@ -182,10 +191,10 @@ want_of at rules call o_p o =
     then (if is_nil o.state.tracking.tracked then satisfy rules call o_p o else wait_for_copies at call o_p o)
     else call_for at call o_p o)
 
--- the location master makes the record that it knows nothing of, and a vacuum ends, unless the record is locked here
+-- Want: at L, unless the record is locked, Open, and a vacuum ends
 unfoldable pub opened_at_home : Place → Moving → Moving
 opened_at_home at o = if nat_eq at.me at.lmaster && is_none o.state.locked then end_vacuum (opened at o) else o
 
--- WANT: a client's lock, read, write or function wants the record
+-- Want: a lock, a read, a write or a function wants the record
 unfoldable pub want : Place → Rules → ℕ → ClientOp → Moving → Moving
 want at rules call o_p o = want_of at rules call o_p (opened_at_home at o)

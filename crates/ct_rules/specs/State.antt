@@ -9,15 +9,16 @@ use Rattle.ct_frame.specs.declared.header.RecCopy.{RecCopy}
 use Rattle.ct_rules.specs.declared.state.RecState.{RecState}
 use Rattle.ct_rules.specs.declared.state.Wish.{Wish}
 
--- nothing is kept of the record
+-- State of a key: nothing is kept of the record
 abbrev pub nothing_kept : RecState
 nothing_kept = record { copy = None; entry = None; queue = []; waiting = []; tracking = untracked; vacuum = None; locked = None; wish = None }
 
+-- is the list empty?
 abbrev pub is_nil : {X : Type 0} → List X → Bool
 is_nil [] = true
 is_nil (x ∷ xs) = false
 
--- no copy, entry, queue, waiting recall, wish, lock or vacuum
+-- State of a key: is it blank, with no copy, entry, queue, waiting recall, wish, lock and vacuum?
 abbrev pub is_blank : RecState → Bool
 is_blank s = is_none s.copy && is_none s.entry && is_nil s.queue && is_nil s.waiting && is_none s.wish && is_none s.locked && is_none s.vacuum
 
@@ -25,21 +26,23 @@ is_blank s = is_none s.copy && is_none s.entry && is_nil s.queue && is_nil s.wai
 abbrev pub nobody : ℕ
 nobody = 4294967295
 
--- the flags of a copy: a plain one, one whose data master handed out read-only copies, a read-only copy, and one whose
--- data master calls the read-only copies in
+-- flags: those of a plain copy
 abbrev pub plain : ℕ
 plain = 0
 
+-- flags: copies for reading are out
 abbrev pub delegated : ℕ
 delegated = 1
 
+-- flags: this is a copy for reading
 abbrev pub for_reading : ℕ
 for_reading = 2
 
+-- flags: copies for reading are out and are being called in
 abbrev pub being_revoked : ℕ
 being_revoked = 5
 
--- a copy of a record
+-- a copy with this RSN, data master, flags and value
 abbrev pub a_copy : ℕ → ℕ → ℕ → List ℕ → RecCopy
 a_copy rsn master flags value = record { header = record { rsn = rsn; dmaster = master; flags = flags }; value = value }
 
@@ -48,16 +51,17 @@ unfoldable pub rank : Option RecCopy → ℕ
 rank None = 0
 rank (Some c) = c.header.rsn + 1
 
+-- the RSN of a copy, and 0 where there is none
 unfoldable pub rsn_of : Option RecCopy → ℕ
 rsn_of None = 0
 rsn_of (Some c) = c.header.rsn
 
--- the value of a copy; an absent record has the empty value
+-- the value of a copy; one that is not there has the empty value
 unfoldable pub value_of : Option RecCopy → List ℕ
 value_of None = []
 value_of (Some c) = c.value
 
--- is this node the data master of its copy?
+-- is the node holder: does its copy name it as data master?
 unfoldable pub is_mastered : ℕ → Option RecCopy → Bool
 is_mastered me None = false
 is_mastered me (Some c) = c.header.dmaster == me
@@ -67,6 +71,7 @@ unfoldable pub is_given : Option RecCopy → Bool
 is_given None = false
 is_given (Some c) = c.header.dmaster == nobody
 
+-- is it a copy for reading?
 unfoldable pub is_for_reading : Option RecCopy → Bool
 is_for_reading None = false
 is_for_reading (Some c) = c.header.flags == for_reading
@@ -76,9 +81,15 @@ unfoldable pub with_value : List ℕ → Option RecCopy → Option RecCopy
 with_value v None = None
 with_value v (Some c) = Some (record c { value = v })
 
+-- the copy with other flags
 unfoldable pub with_flags : ℕ → Option RecCopy → Option RecCopy
 with_flags flags None = None
 with_flags flags (Some c) = Some (record c { header = record c.header { flags = flags } })
+
+-- the copy under the next RSN, with all else as it was
+unfoldable pub risen : Option RecCopy → Option RecCopy
+risen None = None
+risen (Some c) = Some (record c { header = record c.header { rsn = c.header.rsn + 1 } })
 
 -- the copy under the next RSN, with no flags
 unfoldable pub raised : Option RecCopy → Option RecCopy
@@ -94,30 +105,33 @@ given (Some c) = Some (record c { header = record c.header { dmaster = nobody; f
 unfoldable pub is_quiet : Tracked → Bool
 is_quiet t = is_none t.revoking
 
--- holder, unlocked, and no revocation runs
+-- is the node free: holder, the record unlocked, and no revocation running?
 unfoldable pub is_free : ℕ → RecState → Bool
 is_free me s = is_mastered me s.copy && is_none s.locked && is_quiet s.tracking
 
+-- is the call a read?
 unfoldable pub is_read_op : ClientOp → Bool
 is_read_op (op.Read db key) = true
 is_read_op _ = false
 
+-- is the kind Read?
 unfoldable pub is_read_kind : CallKind → Bool
 is_read_kind kind.Read = true
 is_read_kind kind.Lock = false
 
+-- are the kinds the same?
 unfoldable pub same_kind : CallKind → CallKind → Bool
 same_kind kind.Lock kind.Lock = true
 same_kind kind.Read kind.Read = true
 same_kind kind.Lock kind.Read = false
 same_kind kind.Read kind.Lock = false
 
--- the kind of the call that a client's request becomes: a read of a database with read-only copies asks for one of these
+-- the kind of a wish: Read for a read of a read-only database, and else Lock
 unfoldable pub kind_of : Bool → ClientOp → CallKind
 kind_of true (op.Read db key) = kind.Read
 kind_of _ _ = kind.Lock
 
--- was the wish called for under this request number, by a call of this kind?
+-- does the wish have this request and this kind?
 unfoldable pub is_wished : Bool → ℕ → CallKind → Option Wish → Bool
 is_wished readonly request k None = false
 is_wished readonly request k (Some w) = nat_eq w.request request && same_kind (kind_of readonly w.op) k
