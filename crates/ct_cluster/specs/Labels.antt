@@ -23,5 +23,5 @@ pub data Label : Type 0 where
   Pushed : (generation : ℕ) (assigned : List Assigned) → Label
   -- the node began a takeover run, while these nodes were marked able
   Takeover : (node : ℕ) (able : List ℕ) → Label
-  -- a take of this generation and run was sent, which assigns these addresses
-  Taken : (generation run : ℕ) (assigned : List Assigned) → Label
+  -- the node sent a take of this generation and run, which assigns these addresses
+  Taken : (node generation run : ℕ) (assigned : List Assigned) → Label
