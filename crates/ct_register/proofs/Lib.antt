@@ -1,0 +1,9 @@
+pub mod Places
+pub mod Ways
+pub mod Refusing
+pub mod Reached
+pub mod Rounds
+pub mod Births
+pub mod Bases
+pub mod Refusals
+pub mod Forgotten

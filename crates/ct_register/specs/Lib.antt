@@ -6,3 +6,6 @@ pub mod Lines
 pub mod Births
 pub mod Legal
 pub mod Marks
+pub mod Laws
+pub mod Runs
+pub mod Refused

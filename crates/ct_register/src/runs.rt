@@ -1,0 +1,33 @@
+//! Small runs that are legal, and what the registers show then.
+ghost use Rattle.ct_register.specs.Runs.{LockMoves, ReadersSee, FunctionsAnswer, VacuumForgets, StopEndsLocks, RefusalsChangeNothing, CommitIsRead, UnsureIsOpen, TicketsCount, RoundKeeps, RoundMayLose, UnsureMayBeLost, UnsureMayBeKept};
+
+/// A lock moves with what was stored under it; a read sees all versions; a function answers its rule's value; a vacuum forgets;
+/// a stop ends locks; refusals change nothing.
+pub fn records()
+    ensures lock_moves { LockMoves }
+    ensures readers_see { ReadersSee }
+    ensures functions_answer { FunctionsAnswer }
+    ensures vacuum_forgets { VacuumForgets }
+    ensures stop_ends_locks { StopEndsLocks }
+    ensures refusals_change_nothing { RefusalsChangeNothing }
+{}
+
+/// A commit may be read before it is acknowledged, and must be after that. One that is unsure is seen by the members that
+/// are not missing.
+pub fn commits()
+    ensures commit_is_read { CommitIsRead }
+    ensures unsure_is_open { UnsureIsOpen }
+{}
+
+/// Tickets are counted, and a stop frees the recovery lock.
+pub fn tickets()
+    ensures { TicketsCount }
+{}
+
+/// A round takes over what was written. It may lose what nobody saw who is there.
+pub fn rounds()
+    ensures round_keeps { RoundKeeps }
+    ensures round_may_lose { RoundMayLose }
+    ensures unsure_may_be_lost { UnsureMayBeLost }
+    ensures unsure_may_be_kept { UnsureMayBeKept }
+{}
