@@ -1,7 +1,7 @@
 //! What a table of call functions is told and answers.
-ghost use Rattle.std.specs.Prelude.{◌≡◌, IfOk, MatchOption, Some, None, []};
+ghost use Rattle.std.specs.Prelude.{◌≡◌, IsTrue, IfOk, MatchOption, Some, None, []};
 ghost use Rattle.ct_call.specs.Answers.{AnswersBy, IsCallable};
-ghost use Rattle.ct_call.specs.Rules.{is_known, rule_of, value_of};
+ghost use Rattle.ct_call.specs.Rules.{are_distinct, is_known, rule_of, value_of};
 ghost use Rattle.ct_call.specs.Seen.{seen};
 ghost use Rattle.ct_call.specs.Shown.{named, rules_of};
 ghost use Rattle.ct_call.specs.Table.{Adds, Applies, applied};
@@ -61,9 +61,10 @@ impl CallTable {
         }
     }
 
-    /// Has a function this number? It takes no memory.
+    /// Has a function this number? No number stands twice. It takes no memory.
     pub fn knows(&self, id: u32) -> bool
-        ensures { result ≡ is_known id (rules_of self.now) }
+        ensures known { result ≡ is_known id (rules_of self.now) }
+        ensures distinct { IsTrue (are_distinct (rules_of self.now)) }
     {
         find(self.calls.as_slice(), id).is_some()
     }

@@ -100,9 +100,9 @@ pub struct Assigned {
 }
 
 impl Assigned {
-    /// A copy that equals it.
+    /// A copy that equals it. It takes no memory.
     pub fn copy(&self) -> Result<Assigned, NoMemory>
-        ensures { IfOk result (λ x. x ≡ self.now) }
+        ensures { result ≡ Ok self.now }
     {
         Ok(Assigned {
             address: self.address,

@@ -1,0 +1,6 @@
+pub mod Choices
+pub mod Distances
+pub mod Loops
+pub mod Repeats
+pub mod Standing
+pub mod Steps

@@ -1,0 +1,168 @@
+-- The second and the third step, each of which comes to an end.
+use Rattle.std.proofs.Common.{◌≡◌, ℕ, zero, suc, ◌<◌, Bool, true, false, nat_lt, ◌&&◌, List, [], ◌∷◌, ◌++◌, Option, Some, None, refl, sym, ap, ◌∙◌, subst, arith}
+use native.Mathlib.Nat.{le_refl}
+use Rattle.std.specs.Prelude.{if◌then◌else◌, is_some, option_map}
+use Rattle.std.specs.List.{AllByRecursion}
+use Rattle.std.specs.List.Sorted.{IsStrictlySortedBy}
+use Rattle.ct_bytes.specs.Address.{address_cmp}
+use Rattle.ct_bytes.specs.declared.address.Address.{Address}
+use Rattle.ct_frame.specs.declared.frame.Assigned.{Assigned}
+use Rattle.ct_lcp2.specs.Distance.{sum_to, imbalance}
+use Rattle.ct_lcp2.specs.Best.{best, best_from}
+use Rattle.ct_lcp2.specs.Placing.{Ascend, sent, moved, homeless, total, held, others, may_fail_back, failbacks, choice_before, source_before, places, sources, next_place, next_failback, one_placed, one_failed_back, filled, failed_back, repeated, if_some, begun, targets_of, placement, placed, source_of}
+use Rattle.ct_lcp2.specs.declared.choice.Choice.{Choice}
+use Rattle.ct_lcp2.specs.declared.choice.Source.{Source}
+use Rattle.ct_lcp2.specs.declared.placement.Placement.{Placement}
+use Rattle.ct_lcp2.proofs.Choices.{all_weaken, holds_of, all_places, all_failbacks, all_sources}
+use Rattle.ct_lcp2.proofs.Repeats.{Falls, none_left, one_more, at_end}
+use Rattle.ct_lcp2.proofs.Standing.{homeless_falls, addresses_sent, addresses_begun, Splits, all_split, total_falls}
+
+one_value : (p q : Placement) → Some p ≡ Some q → p ≡ q
+one_value p q e = cc
+
+-- ---- addresses with no node
+
+pub place_less : (able : List ℕ) (xs : List Assigned) (c : Choice) → next_place able xs ≡ Some c → homeless (sent c.address c.node xs) < homeless xs
+place_less able xs c e =
+    holds_of (λ d. homeless (sent d.address d.node xs) < homeless xs) choice_before (places able xs) c
+    (all_places (λ d. homeless (sent d.address d.node xs) < homeless xs) able xs
+    (all_weaken (λ x. is_some x.node ≡ false → (n : ℕ) → homeless (sent x.address n xs) < homeless xs) (λ x. is_some x.node ≡ false → (s n : ℕ) → homeless (sent x.address n xs) < homeless xs) (λ x h f s n. h f n) xs (homeless_falls xs)))
+    e
+
+pub places_end : (able : List ℕ) → Falls (λ p. homeless p.at) (λ p. Unit {0}) (one_placed able)
+places_end able = record { less = less; kept = λ p q g e. tt }
+  where
+    less : (p q : Placement) → Unit {0} → one_placed able p ≡ Some q → homeless q.at < homeless p.at
+    less p q g e = by (next_place able p.at) refl e
+      where
+        by : (o : Option Choice) → next_place able p.at ≡ o → option_map (λ c. moved c.address None c.node p) o ≡ Some q → homeless q.at < homeless p.at
+        by None h k = absurd (cc)
+        by (Some c) h k = subst (λ r. homeless r.at < homeless p.at) (one_value _ q k) (place_less able p.at c h)
+
+pub place_more : (able : List ℕ) (p q : Placement) (c : Choice) → next_place able p.at ≡ Some c → q ≡ moved c.address None c.node p → filled able q ≡ filled able p
+place_more able p q c e is =
+    one_more {size = λ r. homeless r.at} {Good = λ r. Unit {0}} {next = one_placed able} (places_end able) p q tt (ap (option_map (λ d. moved d.address None d.node p)) e ∙ ap (λ r. Some r) (sym is))
+
+pub place_end : (able : List ℕ) (p : Placement) → next_place able p.at ≡ None → filled able p ≡ p
+place_end able p e = at_end (one_placed able) (homeless p.at) p (ap (option_map (λ d. moved d.address None d.node p)) e)
+
+-- ---- failback
+
+both_hold : (a b c d : ℕ) → (nat_lt a b && nat_lt c d) ≡ true → c < d
+both_hold a b c d h = by (nat_lt a b) (nat_lt c d) refl h
+  where
+    by : (s t : Bool) → nat_lt c d ≡ t → (s && t) ≡ true → c < d
+    by true true e k = grind arith
+    by true false e k = absurd (cc)
+    by false t e k = absurd (cc)
+
+pub failback_less : (able targets : List ℕ) (xs : List Assigned) (s : Source) → Ascend xs → next_failback able targets xs ≡ Some s → total (sent s.choice.address s.choice.node xs) < total xs
+failback_less able targets xs s asc e =
+    holds_of (λ r. total (sent r.choice.address r.choice.node xs) < total xs) source_before (sources able targets xs) s
+    (all_sources (λ r. total (sent r.choice.address r.choice.node xs) < total xs) able targets xs (λ node.
+    all_failbacks (λ c. total (sent c.address c.node xs) < total xs) node targets xs (λ target apart.
+    all_weaken (Splits xs node) (λ a. may_fail_back a (held node xs) (held target xs) ≡ true → (n : ℕ) → total (sent a target xs) < total xs)
+    (λ a split may n. total_falls xs node target a asc split apart (both_hold (imbalance (a ∷ held target xs)) (imbalance (held node xs)) (sum_to a (held target xs)) (sum_to a (others a (held node xs))) may))
+    (held node xs) (all_split node xs))))
+    e
+
+pub still_ascends : (a : Address) (n : ℕ) (xs : List Assigned) → Ascend xs → Ascend (sent a n xs)
+still_ascends a n xs h = subst (IsStrictlySortedBy address_cmp) (sym (addresses_sent a n xs)) h
+
+pub failbacks_end : (able targets : List ℕ) → Falls (λ p. total p.at) (λ p. Ascend p.at) (one_failed_back able targets)
+failbacks_end able targets = record { less = less; kept = kept }
+  where
+    less : (p q : Placement) → Ascend p.at → one_failed_back able targets p ≡ Some q → total q.at < total p.at
+    less p q g e = by (next_failback able targets p.at) refl e
+      where
+        by : (o : Option Source) → next_failback able targets p.at ≡ o → option_map (λ s. moved s.choice.address (Some s.node) s.choice.node p) o ≡ Some q → total q.at < total p.at
+        by None h k = absurd (cc)
+        by (Some s) h k = subst (λ r. total r.at < total p.at) (one_value _ q k) (failback_less able targets p.at s g h)
+
+    kept : (p q : Placement) → Ascend p.at → one_failed_back able targets p ≡ Some q → Ascend q.at
+    kept p q g e = by (next_failback able targets p.at) refl e
+      where
+        by : (o : Option Source) → next_failback able targets p.at ≡ o → option_map (λ s. moved s.choice.address (Some s.node) s.choice.node p) o ≡ Some q → Ascend q.at
+        by None h k = absurd (cc)
+        by (Some s) h k = subst (λ r. Ascend r.at) (one_value _ q k) (still_ascends s.choice.address s.choice.node p.at g)
+
+pub failback_more : (able targets : List ℕ) (p q : Placement) (s : Source) → Ascend p.at → next_failback able targets p.at ≡ Some s → q ≡ moved s.choice.address (Some s.node) s.choice.node p
+    → failed_back able targets q ≡ failed_back able targets p
+failback_more able targets p q s asc e is =
+    one_more {size = λ r. total r.at} {Good = λ r. Ascend r.at} {next = one_failed_back able targets} (failbacks_end able targets) p q asc
+    (ap (option_map (λ r. moved r.choice.address (Some r.node) r.choice.node p)) e ∙ ap (λ r. Some r) (sym is))
+
+pub failback_end : (able targets : List ℕ) (p : Placement) → next_failback able targets p.at ≡ None → failed_back able targets p ≡ p
+failback_end able targets p e =
+    at_end (one_failed_back able targets) (total p.at) p (ap (option_map (λ r. moved r.choice.address (Some r.node) r.choice.node p)) e)
+
+-- ---- the whole
+
+pub whole : (able able' : List ℕ) (given given' : List Assigned) (targets : List ℕ) (p q r : Placement) → able' ≡ able → given' ≡ given
+    → targets ≡ targets_of able' given' → p ≡ begun able' given' → q ≡ filled able' p → r ≡ failed_back able' targets q → r ≡ placement able given
+unfolding placement
+whole able able' given given' targets p q r ea eg et ep eq er =
+    er ∙ ap (failed_back able' targets) eq ∙ ap (λ s. failed_back able' targets (filled able' s)) ep ∙ ap (λ ts. failed_back able' ts (filled able' (begun able' given'))) et
+    ∙ ap (λ ns. failed_back ns (targets_of ns given') (filled ns (begun ns given'))) ea ∙ ap (λ xs. failed_back able (targets_of able xs) (filled able (begun able xs))) eg
+
+-- steps of the second kind keep the addresses in their order
+filled_keeps : (n : ℕ) (able : List ℕ) (p : Placement) → Ascend p.at → Ascend (repeated n (one_placed able) p).at
+unfolding repeated
+filled_keeps zero able p h = h
+filled_keeps (suc n) able p h = by (next_place able p.at) (λ q k. filled_keeps n able q k)
+  where
+    by : (o : Option Choice) → ((q : Placement) → Ascend q.at → Ascend (repeated n (one_placed able) q).at)
+        → Ascend (if_some (option_map (λ c. moved c.address None c.node p) o) (repeated n (one_placed able)) p).at
+    by None more = h
+    by (Some c) more = more (moved c.address None c.node p) (still_ascends c.address c.node p.at h)
+
+stays : {X : Type 0} (before : X → X → Bool) (b : X) (ys : List X) → best_from before (Some b) ys ≡ None → ⊥
+unfolding best_from
+stays before b [] k = cc
+stays {X = X} before b (y ∷ ys) k = by (before y b) (λ c h. stays before c ys h) k
+  where
+    by : (t : Bool) → ((c : X) → best_from before (Some c) ys ≡ None → ⊥) → best_from before (if t then Some y else Some b) ys ≡ None → ⊥
+    by true more h = more y h
+    by false more h = more b h
+
+none_is_best : {X : Type 0} (before : X → X → Bool) (xs : List X) → best before xs ≡ None → xs ≡ []
+unfolding best_from
+none_is_best before [] e = refl
+none_is_best before (x ∷ xs) e = absurd (stays before x xs e)
+
+no_step : {X : Type 0} (f : X → Placement) (o : Option X) → option_map f o ≡ None → o ≡ None
+no_step f None e = refl
+no_step f (Some x) e = absurd (cc)
+
+-- after the second step no address could be placed any more
+pub all_placed : (able : List ℕ) (p : Placement) → places able (filled able p).at ≡ []
+all_placed able p =
+    none_is_best choice_before (places able (filled able p).at)
+    (no_step (λ c. moved c.address None c.node (filled able p)) (next_place able (filled able p).at)
+    (none_left {size = λ r. homeless r.at} {Good = λ r. Unit {0}} {next = one_placed able} (places_end able) (homeless p.at) p tt (le_refl (homeless p.at))))
+
+parts_empty : {X : Type 0} (xs ys : List X) → xs ++ ys ≡ [] → (xs ≡ []) × (ys ≡ [])
+parts_empty [] ys e = (refl, e)
+parts_empty (x ∷ xs) ys e = absurd (cc)
+
+no_source : (node weight : ℕ) (o : Option Choice) → source_of node weight o ≡ [] → o ≡ None
+no_source node weight None e = refl
+no_source node weight (Some c) e = absurd (cc)
+
+none_moves : (able targets : List ℕ) (xs : List Assigned) → sources able targets xs ≡ [] → AllByRecursion (λ node. failbacks node targets xs ≡ []) able
+unfolding sources
+none_moves [] targets xs e = tt
+none_moves (n ∷ ns) targets xs e =
+    let parts = parts_empty (source_of n (imbalance (held n xs)) (best choice_before (failbacks n targets xs))) (sources ns targets xs) e in
+    (none_is_best choice_before (failbacks n targets xs) (no_source n (imbalance (held n xs)) (best choice_before (failbacks n targets xs)) parts.0), none_moves ns targets xs parts.1)
+
+-- after the third step no address may fail back
+pub all_failed_back : (able : List ℕ) (given : List Assigned) → Ascend given → AllByRecursion (λ node. failbacks node (targets_of able given) (placed able given) ≡ []) able
+unfolding placement
+all_failed_back able given h =
+    let p = filled able (begun able given) in
+    let q = failed_back able (targets_of able given) p in
+    let asc : Ascend p.at = filled_keeps (homeless (begun able given).at) able (begun able given) (subst (IsStrictlySortedBy address_cmp) (sym (addresses_begun able given)) h) in
+    none_moves able (targets_of able given) q.at (none_is_best source_before (sources able (targets_of able given) q.at)
+    (no_step (λ s. moved s.choice.address (Some s.node) s.choice.node q) (next_failback able (targets_of able given) q.at)
+    (none_left {size = λ r. total r.at} {Good = λ r. Ascend r.at} {next = one_failed_back able (targets_of able given)} (failbacks_end able (targets_of able given)) (total p.at) p asc (le_refl (total p.at)))))

@@ -1,0 +1,12 @@
+//! LCP2: addresses are placed on nodes so that those at one node have short common prefixes.
+#![tactic(auto)]
+
+pub mod choice;
+pub mod distance;
+mod failback;
+pub mod laws;
+pub mod placement;
+mod start;
+#[cfg(test)]
+mod tests;
+mod vacant;

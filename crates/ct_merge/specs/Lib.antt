@@ -1,0 +1,6 @@
+pub mod Placing
+pub mod Held
+pub mod Orders
+pub mod Gathered
+pub mod Rule
+pub mod Code

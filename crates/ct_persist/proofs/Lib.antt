@@ -1,0 +1,5 @@
+pub mod Looks
+pub mod InPlace
+pub mod Orders
+pub mod Counts
+pub mod Rounds

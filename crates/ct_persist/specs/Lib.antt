@@ -1,0 +1,5 @@
+pub mod Persisted
+pub mod Updates
+pub mod Steps
+pub mod Commits
+pub mod Code
