@@ -27,7 +27,7 @@ abbrev pub born_after : List Label → ℕ → ℕ → List Label → (ℕ → L
 born_after front p q back counts kept = labels_after back (Births.born_of 2 p counts q kept (labels_after front (Lines.opening config)))
 
 -- whatever a round takes over, the rest is refused then
-through_round : (front : List Label) (h : ℕ) (ms : List ℕ) (p q : ℕ) (back rest : List Label) (s : Lines) → leave_no_choice config front ≡ true → leave_no_choice config back ≡ true →
+pub through_round : (front : List Label) (h : ℕ) (ms : List ℕ) (p q : ℕ) (back rest : List Label) (s : Lines) → leave_no_choice config front ≡ true → leave_no_choice config back ≡ true →
     ((counts : ℕ → List ℕ → ℕ) (kept : ℕ → ℕ) → Births.Birth (labels_after front (Lines.opening config)) 2 h ms p counts → Births.PersistentBirth (labels_after front (Lines.opening config)) 2 ms q kept →
     Legal.AcceptsLabels config rules (born_after front p q back counts kept) rest s → ⊥) →
     Legal.Legal config rules (front ++ Noted h (note.Round 2 ms p q) ∷ (back ++ rest)) s → ⊥
@@ -38,7 +38,7 @@ pub round_of_another : RoundOfAnother
 unfolding Words.at
 round_of_another s = through_round (Ticket 2 0 both ∷ []) 1 both 1 1 [] [] s refl refl (λ counts kept b d h. (let e : Some 0 ≡ Some 1 = b.given in absurd (cc)))
 
-not_one : 1 ≤ 0 → ⊥
+pub not_one : 1 ≤ 0 → ⊥
 not_one h = absurd (omega arith)
 
 pub round_from_nothing : RoundFromNothing

@@ -7,3 +7,5 @@ pub mod Births
 pub mod Bases
 pub mod Refusals
 pub mod Forgotten
+pub mod Placements
+pub mod Misplaced

@@ -1,10 +1,11 @@
 -- Small runs that are not legal.
 use Rattle.std.specs.Prelude.{List, [], ◌∷◌}
+use Rattle.ct_bytes.specs.declared.address.Address.TheVariants.{V4}
 use Rattle.ct_frame.specs.declared.event.Note.TheVariants as note
-use Rattle.ct_cluster.specs.Labels.{Label, Noted, Ticket, Yielded, Stopped}
+use Rattle.ct_cluster.specs.Labels.{Label, Noted, Ticket, Yielded, Stopped, Pushed, Takeover, Taken}
 use Rattle.ct_register.specs.Lines.{Lines}
 use Rattle.ct_register.specs.Legal.{Legal}
-use Rattle.ct_register.specs.Runs.{config, rules, x, y, both, locks, reads, writes, stores, unlocks, appends, vacuums, locks_database, begins, commits, is_unsure, reads_database, round, installs, thaws}
+use Rattle.ct_register.specs.Runs.{config, rules, x, y, both, locks, reads, writes, stores, unlocks, appends, vacuums, locks_database, begins, commits, is_unsure, reads_database, round, installs, thaws, first_at_zero, one_each, both_at_one, takes}
 
 -- whatever is taken over and seen, the registers do not accept these labels
 abbrev pub IsIllegal : List Label → Type 0
@@ -107,3 +108,26 @@ TicketLeftOut = IsIllegal (Ticket 3 0 both ∷ [])
 
 abbrev pub YieldedByAnother : Type 0
 YieldedByAnother = IsIllegal (Ticket 2 0 both ∷ Yielded 1 ∷ [])
+
+-- ---- addresses
+
+abbrev pub TookUnassigned : Type 0
+TookUnassigned = IsIllegal (Ticket 2 0 both ∷ round 0 both ∷ Pushed 2 first_at_zero ∷ installs 0 ∷ takes 0 (V4 1) ∷ [])
+
+-- the second run moves the address, and it was not released
+abbrev pub TookWhileHeld : Type 0
+TookWhileHeld = IsIllegal (Ticket 2 0 both ∷ round 0 both ∷ Pushed 2 first_at_zero ∷ installs 0 ∷ installs 1 ∷ Takeover 0 both ∷ Taken 0 2 1 one_each ∷ takes 0 (V4 1) ∷ Takeover 0 (1 ∷ []) ∷ Taken 0 2 2 both_at_one ∷ takes 1 (V4 1) ∷ [])
+
+-- a take that is not what LCP2 answers
+abbrev pub WrongTake : Type 0
+WrongTake = IsIllegal (Ticket 2 0 both ∷ round 0 both ∷ Pushed 2 first_at_zero ∷ installs 0 ∷ Takeover 0 both ∷ Taken 0 2 1 first_at_zero ∷ [])
+
+-- a take of a run that did not begin
+abbrev pub TakeOfNoRun : Type 0
+TakeOfNoRun = IsIllegal (Ticket 2 0 both ∷ round 0 both ∷ Pushed 2 first_at_zero ∷ installs 0 ∷ Taken 0 2 1 first_at_zero ∷ [])
+
+abbrev pub PushedAnew : Type 0
+PushedAnew = IsIllegal (Ticket 2 0 both ∷ round 0 both ∷ Pushed 2 first_at_zero ∷ Pushed 2 one_each ∷ [])
+
+abbrev pub PushedUnborn : Type 0
+PushedUnborn = IsIllegal (Ticket 2 0 both ∷ Pushed 2 first_at_zero ∷ [])

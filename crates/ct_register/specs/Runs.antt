@@ -1,5 +1,6 @@
 -- Small runs that are legal, and what the registers show then.
-use Rattle.std.specs.Prelude.{◌≡◌, ℕ, List, [], ◌∷◌, length, replicate, Option, None, Some}
+use Rattle.std.specs.Prelude.{◌≡◌, ℕ, true, false, List, [], ◌∷◌, length, replicate, Option, None, Some}
+use Rattle.ct_bytes.specs.declared.address.Address.{Address}
 use Rattle.ct_bytes.specs.declared.address.Address.TheVariants.{V4}
 use Rattle.ct_msg.specs.Config.{lock_db}
 use Rattle.ct_msg.specs.declared.client.Answer.TheVariants as answer
@@ -9,8 +10,9 @@ use Rattle.ct_msg.specs.declared.client.Why.TheVariants as why
 use Rattle.ct_msg.specs.declared.config.Config.{Config}
 use Rattle.ct_msg.specs.declared.config.DbKind.TheVariants.{Volatile, Persistent}
 use Rattle.ct_frame.specs.declared.event.Note.TheVariants as note
+use Rattle.ct_frame.specs.declared.frame.Assigned.{Assigned}
 use Rattle.ct_call.specs.Rules.{Rules, Old, Arg, Join}
-use Rattle.ct_cluster.specs.Labels.{Label, Answered, Begun, Noted, Ticket, Yielded, Stopped}
+use Rattle.ct_cluster.specs.Labels.{Label, Answered, Begun, Noted, Ticket, Yielded, Stopped, Pushed, Takeover, Taken}
 use Rattle.ct_register.specs.Register.{Register}
 use Rattle.ct_register.specs.Database.{Database, contents_after}
 use Rattle.ct_register.specs.Lines.{Lines}
@@ -102,6 +104,24 @@ installs n = Noted n (note.Installed 2)
 abbrev pub thaws : ℕ → Label
 thaws n = Noted n (note.Thawed 2)
 
+-- the first address is assigned to node 0, and the second to none
+abbrev pub first_at_zero : List Assigned
+first_at_zero = record { address = V4 1; node = Some 0 } ∷ []
+
+-- each node has one
+abbrev pub one_each : List Assigned
+one_each = record { address = V4 1; node = Some 0 } ∷ record { address = V4 2; node = Some 1 } ∷ []
+
+-- node 1 has both
+abbrev pub both_at_one : List Assigned
+both_at_one = record { address = V4 1; node = Some 1 } ∷ record { address = V4 2; node = Some 1 } ∷ []
+
+abbrev pub takes : ℕ → Address → Label
+takes n address = Noted n (note.Took address)
+
+abbrev pub releases : ℕ → Address → Label
+releases n address = Noted n (note.Released address)
+
 -- ---- what is said of runs
 
 -- the labels are legal, and may lead to registers of which this holds
@@ -175,3 +195,9 @@ UnsureMayBeLost = Reaches (locks_database 0 ∷ begins 0 ∷ is_unsure 0 1 (1 �
 abbrev pub UnsureMayBeKept : Type 0
 UnsureMayBeKept = Reaches (locks_database 0 ∷ begins 0 ∷ is_unsure 0 1 (1 ∷ []) ∷ ends_database 0 ∷ Ticket 2 1 both ∷ round 1 both ∷ installs 1 ∷ []) (λ s.
     (Counts 0 0 0 0 (s.databases 2 2)) × ((s.databases 2 2).seq ≡ 1) × (contents_after 0 (s.databases 2 2) ≡ (a, x) ∷ []))
+
+-- a push assigns the first address to node 0; a run places the second one, where it is farthest from the first; and each
+-- node takes what is assigned to it
+abbrev pub AddressesArePlaced : Type 0
+AddressesArePlaced = Reaches (Ticket 2 0 both ∷ round 0 both ∷ Pushed 2 first_at_zero ∷ installs 0 ∷ installs 1 ∷ Takeover 0 both ∷ Taken 0 2 1 one_each ∷ takes 0 (V4 1) ∷ takes 1 (V4 2) ∷ []) (λ s.
+    (s.held 0 (V4 1) ≡ true) × (s.held 1 (V4 1) ≡ false) × (s.held 0 (V4 2) ≡ false) × (s.held 1 (V4 2) ≡ true))
