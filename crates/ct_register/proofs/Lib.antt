@@ -9,3 +9,5 @@ pub mod Refusals
 pub mod Forgotten
 pub mod Placements
 pub mod Misplaced
+pub mod Formed
+pub mod Marked

@@ -1,13 +1,12 @@
 -- The runs that are refused: runs in which addresses are placed.
-use Rattle.std.proofs.Common.{◌≡◌, ◌≢◌, ℕ, Bool, true, false, List, [], ◌∷◌, refl, sym, ◌∙◌, ap, subst}
-use Rattle.std.specs.Prelude.{Option, None, Some}
+use Rattle.std.proofs.Common.{◌≡◌, ◌≢◌, ℕ, true, false, List, [], ◌∷◌, refl, sym, ◌∙◌, ap}
+use Rattle.std.specs.Prelude.{Some}
 use Rattle.ct_bytes.specs.declared.address.Address.TheVariants.{V4}
 use Rattle.ct_frame.specs.declared.frame.Assigned.{Assigned}
 use Rattle.ct_cluster.specs.Labels.{Ticket, Pushed, Takeover, Taken}
 use Rattle.ct_register.specs.Words
 use Rattle.ct_register.specs.Placing
 use Rattle.ct_register.specs.Placing.{Run}
-use Rattle.ct_register.specs.Lines
 use Rattle.ct_register.specs.Runs.{config, both, first_at_zero, one_each, both_at_one, installs, takes}
 use Rattle.ct_register.specs.Refused.{TookUnassigned, TookWhileHeld, WrongTake, TakeOfNoRun, PushedAnew, PushedUnborn}
 use Rattle.ct_register.proofs.Refusing.{none_not_some}
@@ -28,7 +27,7 @@ true_not_false e = absurd (cc)
 pub took_while_held : TookWhileHeld
 unfolding Words.at Words.at_address
 took_while_held s = through_round (Ticket 2 0 both ∷ []) 0 both 1 1 (Pushed 2 first_at_zero ∷ installs 0 ∷ installs 1 ∷ Takeover 0 both ∷ Taken 0 2 1 one_each ∷ takes 0 (V4 1) ∷ Takeover 0 (1 ∷ []) ∷ Taken 0 2 2 both_at_one ∷ []) (takes 1 (V4 1) ∷ []) s refl refl
-  (λ counts kept b d h. true_not_false (h.1.1 0 zero_not_one refl))
+    (λ counts kept b d h. true_not_false (h.1.1 0 zero_not_one refl))
 
 -- the first run of these runs assigns one address to each node
 assigns_each : (assigned : List Assigned) (run : Run) → Some (record { able = both; given = first_at_zero }) ≡ Some run → assigned ≡ Placing.take_list config.addresses run → assigned ≡ one_each
@@ -40,7 +39,7 @@ fewer e = absurd (cc)
 pub wrong_take : WrongTake
 unfolding Words.at Words.is_in Placing.given_placement
 wrong_take s = through_round (Ticket 2 0 both ∷ []) 0 both 1 1 (Pushed 2 first_at_zero ∷ installs 0 ∷ Takeover 0 both ∷ []) (Taken 0 2 1 first_at_zero ∷ []) s refl refl
-  (λ counts kept b d h. fewer (assigns_each first_at_zero h.1.1.2.0 h.1.1.2.1 h.1.1.2.2))
+    (λ counts kept b d h. fewer (assigns_each first_at_zero h.1.1.2.0 h.1.1.2.1 h.1.1.2.2))
 
 pub take_of_no_run : TakeOfNoRun
 unfolding Words.at

@@ -1,19 +1,18 @@
 -- Runs in which addresses are placed.
-use Rattle.std.proofs.Common.{◌≡◌, ◌≢◌, ℕ, List, [], ◌∷◌, refl, sym, inl, inr}
-use Rattle.std.specs.Prelude.{Bool, true, false, Option, None, Some}
+use Rattle.std.proofs.Common.{◌≡◌, ℕ, [], ◌∷◌, refl, sym}
+use Rattle.std.specs.Prelude.{Bool, true, false}
 use Rattle.ct_bytes.specs.declared.address.Address.{Address}
 use Rattle.ct_bytes.specs.declared.address.Address.TheVariants.{V4}
 use Rattle.ct_lcp2.specs.Best
 use Rattle.ct_lcp2.specs.Distance
 use Rattle.ct_lcp2.specs.Placing as lcp2
-use Rattle.ct_cluster.specs.Labels.{Label, Ticket, Pushed, Takeover, Taken}
+use Rattle.ct_cluster.specs.Labels.{Ticket}
 use Rattle.ct_register.specs.Words
 use Rattle.ct_register.specs.Register
 use Rattle.ct_register.specs.Placing
 use Rattle.ct_register.specs.Lines
 use Rattle.ct_register.specs.Lines.{Lines}
 use Rattle.ct_register.specs.Births
-use Rattle.ct_register.specs.Legal
 use Rattle.ct_register.proofs.Places.{at_all}
 use Rattle.ct_register.proofs.Refusing.{nought, below_next}
 use Rattle.ct_register.proofs.Rounds.{Unowned, unowned_at, unowned_by, two_not_zero, births, persistent_births}

@@ -57,3 +57,8 @@ pub at_key_twice : {X : Type 0} (P : X → Type 0) (key : List ℕ) (x y : X) (f
 unfolding at_key
 at_key_twice P key x y f new old k =
     cond_both (bytes_eq k key) x _ P (λ _. new) (λ (e : bytes_eq k key ≡ false). cond_both (bytes_eq k key) y (f k) P (λ (t : bytes_eq k key ≡ true). absurd (cc)) (λ _. old k))
+
+-- what holds of the new value at its place, and of each old one at its own, holds of each at its own
+pub at_each : {X : Type 0} (P : ℕ → X → Type 0) (n : ℕ) (x : X) (f : ℕ → X) → P n x → ((m : ℕ) → m ≢ n → P m (f m)) → (m : ℕ) → P m (at n x f m)
+at_each P n x f new old m =
+    ⊎_elim (λ (is : m ≡ n). subst (λ v. P m v) (sym (at_same n m x f is)) (subst (λ k. P k x) (sym is) new)) (λ (ne : m ≢ n). subst (λ v. P m v) (sym (at_other n m x f ne)) (old m ne)) (cases_eq m n)

@@ -9,3 +9,5 @@ pub mod Marks
 pub mod Laws
 pub mod Runs
 pub mod Refused
+pub mod Formed
+pub mod Marked

@@ -1,5 +1,5 @@
 //! Small runs that are not legal.
-ghost use Rattle.ct_register.specs.Refused.{SecondLock, OldRead, ReadUnderLock, WriteUnderLock, StoreOfNoOwner, UnlockOfNoOwner, WrongAnswer, VacuumOfValue, ReadAfterStop, CommitUnlocked, CommitBesideAnother, WrongNumber, AcknowledgedTwice, CommitOfAnother, UnsureOfNobody, OldReadAfterCommit, OldReadOfOwn, RoundForgets, RoundForgetsCommit, RoundOfAnother, RoundFromNothing, SecondRound, InstalledTwice, InstalledUnderLock, ThawedTooEarly, TicketWhileHeld, TicketLeftOut, YieldedByAnother};
+ghost use Rattle.ct_register.specs.Refused.{SecondLock, OldRead, ReadUnderLock, WriteUnderLock, StoreOfNoOwner, UnlockOfNoOwner, WrongAnswer, VacuumOfValue, ReadAfterStop, CommitUnlocked, CommitBesideAnother, WrongNumber, AcknowledgedTwice, CommitOfAnother, UnsureOfNobody, OldReadAfterCommit, OldReadOfOwn, RoundForgets, RoundForgetsCommit, RoundOfAnother, RoundFromNothing, SecondRound, InstalledTwice, InstalledUnderLock, ThawedTooEarly, TicketWhileHeld, TicketLeftOut, YieldedByAnother, TookUnassigned, TookWhileHeld, WrongTake, TakeOfNoRun, PushedAnew, PushedUnborn};
 
 /// A second lock; a read of an old value, or while another node owns the record, or at a node in no line; a write while a
 /// node owns the record; a store or an unlock of no owner; a wrong answer of a function; a vacuum of a value.
@@ -47,4 +47,15 @@ pub fn tickets()
     ensures ticket_while_held { TicketWhileHeld }
     ensures ticket_left_out { TicketLeftOut }
     ensures yielded_by_another { YieldedByAnother }
+{}
+
+/// An address that is taken though no take assigns it, or while another node of the line holds it; a take that is not what
+/// LCP2 answers, or of no run; a second push that assigns otherwise, and one of a line that was not born.
+pub fn addresses()
+    ensures took_unassigned { TookUnassigned }
+    ensures took_while_held { TookWhileHeld }
+    ensures wrong_take { WrongTake }
+    ensures take_of_no_run { TakeOfNoRun }
+    ensures pushed_anew { PushedAnew }
+    ensures pushed_unborn { PushedUnborn }
 {}

@@ -1,5 +1,6 @@
 //! Small runs that are legal, and what the registers show then.
-ghost use Rattle.ct_register.specs.Runs.{LockMoves, ReadersSee, FunctionsAnswer, VacuumForgets, StopEndsLocks, RefusalsChangeNothing, CommitIsRead, UnsureIsOpen, TicketsCount, RoundKeeps, RoundMayLose, UnsureMayBeLost, UnsureMayBeKept};
+ghost use Rattle.ct_register.specs.Marked.{ThreeAreMarks, CopiesHaveMarks, EntriesHaveMarks, MarksGoOn, MarksDoNotGoBack};
+ghost use Rattle.ct_register.specs.Runs.{LockMoves, ReadersSee, FunctionsAnswer, VacuumForgets, StopEndsLocks, RefusalsChangeNothing, CommitIsRead, UnsureIsOpen, TicketsCount, RoundKeeps, RoundMayLose, UnsureMayBeLost, UnsureMayBeKept, AddressesArePlaced};
 
 /// A lock moves with what was stored under it; a read sees all versions; a function answers its rule's value; a vacuum forgets;
 /// a stop ends locks; refusals change nothing.
@@ -30,4 +31,18 @@ pub fn rounds()
     ensures round_may_lose { RoundMayLose }
     ensures unsure_may_be_lost { UnsureMayBeLost }
     ensures unsure_may_be_kept { UnsureMayBeKept }
+{}
+
+/// Addresses are placed by a push and by a takeover run, and taken by those to whom they are assigned.
+pub fn addresses()
+    ensures { AddressesArePlaced }
+{}
+
+/// Marks, what copies and entries have by them, how they go on, and how they do not.
+pub fn marks()
+    ensures three_are_marks { ThreeAreMarks }
+    ensures copies_have_marks { CopiesHaveMarks }
+    ensures entries_have_marks { EntriesHaveMarks }
+    ensures marks_go_on { MarksGoOn }
+    ensures marks_do_not_go_back { MarksDoNotGoBack }
 {}
