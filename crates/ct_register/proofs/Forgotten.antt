@@ -16,7 +16,7 @@ use Rattle.ct_register.specs.Lines
 use Rattle.ct_register.specs.Lines.{Lines}
 use Rattle.ct_register.specs.Births
 use Rattle.ct_register.specs.Legal
-use Rattle.ct_register.specs.Runs.{config, rules, a, x, both, one_write, locks, reads, writes, locks_database, begins, commits, reads_database, round, installs, thaws}
+use Rattle.ct_register.specs.Runs.{config, functions, a, x, both, one_write, locks, reads, writes, locks_database, begins, commits, reads_database, round, installs, thaws}
 use Rattle.ct_register.specs.Refused.{RoundForgets, RoundForgetsCommit, RoundOfAnother, RoundFromNothing, SecondRound, InstalledTwice, InstalledUnderLock, ThawedTooEarly, OldReadAfterCommit, OldReadOfOwn}
 use Rattle.ct_register.proofs.Ways.{labels_after, leave_no_choice, refused_after}
 use Rattle.ct_register.proofs.Refusing.{one_not_zero, not_below, below_next}
@@ -29,10 +29,10 @@ born_after front p q back counts kept = labels_after back (Births.born_of 2 p co
 -- whatever a round takes over, the rest is refused then
 pub through_round : (front : List Label) (h : ℕ) (ms : List ℕ) (p q : ℕ) (back rest : List Label) (s : Lines) → leave_no_choice config front ≡ true → leave_no_choice config back ≡ true →
     ((counts : ℕ → List ℕ → ℕ) (kept : ℕ → ℕ) → Births.Birth (labels_after front (Lines.opening config)) 2 h ms p counts → Births.PersistentBirth (labels_after front (Lines.opening config)) 2 ms q kept →
-    Legal.AcceptsLabels config rules (born_after front p q back counts kept) rest s → ⊥) →
-    Legal.Legal config rules (front ++ Noted h (note.Round 2 ms p q) ∷ (back ++ rest)) s → ⊥
-through_round front h ms p q back rest s c e refused = refused_after config rules front (Noted h (note.Round 2 ms p q) ∷ (back ++ rest)) (Lines.opening config) s c (λ k.
-    refused_after config rules back rest (Births.born_of 2 p k.1.0 q k.1.1 (labels_after front (Lines.opening config))) s e (refused k.1.0 k.1.1 k.1.2 k.1.3) (subst (λ m. Legal.AcceptsLabels config rules m (back ++ rest) s) k.1.4 k.2))
+    Legal.AcceptsLabels config functions (born_after front p q back counts kept) rest s → ⊥) →
+    Legal.Legal config functions (front ++ Noted h (note.Round 2 ms p q) ∷ (back ++ rest)) s → ⊥
+through_round front h ms p q back rest s c e refused = refused_after config functions front (Noted h (note.Round 2 ms p q) ∷ (back ++ rest)) (Lines.opening config) s c (λ k.
+    refused_after config functions back rest (Births.born_of 2 p k.1.0 q k.1.1 (labels_after front (Lines.opening config))) s e (refused k.1.0 k.1.1 k.1.2 k.1.3) (subst (λ m. Legal.AcceptsLabels config functions m (back ++ rest) s) k.1.4 k.2))
 
 pub round_of_another : RoundOfAnother
 unfolding Words.at
@@ -74,13 +74,13 @@ empty_not_x : [] ≡ x → ⊥
 empty_not_x e = absurd (cc)
 
 -- a read of the record answers its reading
-reads_reading : (n : ℕ) (v : List ℕ) (r s : Lines) → Legal.AcceptsLabel config rules r (reads n v) s → v ≡ Register.reading (r.records (r.line n) 1 a).versions
+reads_reading : (n : ℕ) (v : List ℕ) (r s : Lines) → Legal.AcceptsLabel config functions r (reads n v) s → v ≡ Register.reading (r.records (r.line n) 1 a).versions
 reads_reading n v r s h = (read_of_record n v r s h).3.1
 
 -- a read of the persistent database, which is not one of a record
-read_of_database : (n : ℕ) (v : List ℕ) (r s : Lines) → Legal.AcceptsLabel config rules r (reads_database n v) s → Legal.AtDatabase config n 2 (Database.AcceptsRead n a v) r s
+read_of_database : (n : ℕ) (v : List ℕ) (r s : Lines) → Legal.AcceptsLabel config functions r (reads_database n v) s → Legal.AtDatabase config n 2 (Database.AcceptsRead n a v) r s
 unfolding Legal.kind_at Legal.is_of_records
-read_of_database n v r s h = ⊎_elim (λ (p : Legal.AtRecord config n 2 a (Register.Accepts rules n (op.Read 2 a) (answer.Read v)) r s). (let e : false ≡ true = p.1 in absurd (cc)))
+read_of_database n v r s h = ⊎_elim (λ (p : Legal.AtRecord config n 2 a (Register.Accepts functions n (op.Read 2 a) (answer.Read v)) r s). (let e : false ≡ true = p.1 in absurd (cc)))
     (λ (p : Legal.AtDatabase config n 2 (Database.AcceptsRead n a v) r s). p) h
 
 pub round_forgets : RoundForgets
@@ -91,7 +91,7 @@ round_forgets s = through_round (writes 0 x ∷ reads 1 x ∷ Stopped 0 ∷ Tick
     empty_not_x (subst (λ v. [] ≡ v) (all_kept (counts 1 a) count) lost)))
 
 -- a read of the database answers its value after some number of commits
-reads_value : (n : ℕ) (v : List ℕ) (r s : Lines) → Legal.AcceptsLabel config rules r (reads_database n v) s →
+reads_value : (n : ℕ) (v : List ℕ) (r s : Lines) → Legal.AcceptsLabel config functions r (reads_database n v) s →
     (j : ℕ) × ((r.databases (r.line n) 2).acked ≤ j) × ((r.databases (r.line n) 2).seen n ≤ j) × (j ≤ length (r.databases (r.line n) 2).commits) × (v ≡ Database.value_after j a (r.databases (r.line n) 2))
 reads_value n v r s h = let k = (read_of_database n v r s h).3 in (k.0, k.1, k.2, k.3, k.4)
 

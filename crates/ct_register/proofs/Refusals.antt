@@ -10,20 +10,20 @@ use Rattle.ct_register.specs.Database
 use Rattle.ct_register.specs.Lines
 use Rattle.ct_register.specs.Lines.{Lines}
 use Rattle.ct_register.specs.Legal
-use Rattle.ct_register.specs.Runs.{config, rules, a, x, y, both, locks, reads, writes, stores, unlocks, appends, vacuums, locks_database, begins, commits, is_unsure}
+use Rattle.ct_register.specs.Runs.{config, functions, a, x, y, both, locks, reads, writes, stores, unlocks, appends, vacuums, locks_database, begins, commits, is_unsure}
 use Rattle.ct_register.specs.Refused.{SecondLock, OldRead, ReadUnderLock, WriteUnderLock, StoreOfNoOwner, UnlockOfNoOwner, WrongAnswer, VacuumOfValue, ReadAfterStop, CommitUnlocked, CommitBesideAnother, WrongNumber, AcknowledgedTwice, CommitOfAnother, UnsureOfNobody, TicketWhileHeld, TicketLeftOut, YieldedByAnother}
 use Rattle.ct_register.proofs.Ways
 use Rattle.ct_register.proofs.Ways.{labels_after, refused_after}
 use Rattle.ct_register.proofs.Refusing.{some_not_none, none_not_some, not_below}
 
 -- these labels come first, and the rest is refused then
-pub from_opening : (front rest : List Label) (s : Lines) → Ways.leave_no_choice config front ≡ true → (Legal.AcceptsLabels config rules (labels_after front (Lines.opening config)) rest s → ⊥) → Legal.Legal config rules (front ++ rest) s → ⊥
-from_opening front rest s no_choice refused = refused_after config rules front rest (Lines.opening config) s no_choice refused
+pub from_opening : (front rest : List Label) (s : Lines) → Ways.leave_no_choice config front ≡ true → (Legal.AcceptsLabels config functions (labels_after front (Lines.opening config)) rest s → ⊥) → Legal.Legal config functions (front ++ rest) s → ⊥
+from_opening front rest s no_choice refused = refused_after config functions front rest (Lines.opening config) s no_choice refused
 
 -- a read of a record, of a database that is not persistent
-pub read_of_record : (n : ℕ) (v : List ℕ) (r s : Lines) → Legal.AcceptsLabel config rules r (reads n v) s → Legal.AtRecord config n 1 a (Register.Accepts rules n (op.Read 1 a) (answer.Read v)) r s
+pub read_of_record : (n : ℕ) (v : List ℕ) (r s : Lines) → Legal.AcceptsLabel config functions r (reads n v) s → Legal.AtRecord config n 1 a (Register.Accepts functions n (op.Read 1 a) (answer.Read v)) r s
 unfolding Legal.kind_at
-read_of_record n v r s h = ⊎_elim (λ (p : Legal.AtRecord config n 1 a (Register.Accepts rules n (op.Read 1 a) (answer.Read v)) r s). p)
+read_of_record n v r s h = ⊎_elim (λ (p : Legal.AtRecord config n 1 a (Register.Accepts functions n (op.Read 1 a) (answer.Read v)) r s). p)
     (λ (p : Legal.AtDatabase config n 1 (Database.AcceptsRead n a v) r s). (let e = p.1 in absurd (cc))) h
 
 pub second_lock : SecondLock

@@ -85,8 +85,9 @@ unfoldable pub holder_without : ℕ → Option ℕ → Option ℕ
 holder_without n None = None
 holder_without n (Some m) = if nat_eq m n then None else Some m
 
--- node n stops: it leaves its line, in which alone it owned or had seen anything; what it had seen of persistent databases
--- stays. It holds no address and no recovery lock.
+-- node n stops: it leaves its line, in which alone it owned anything, and what it had seen there is forgotten. What it had
+-- seen in older lines is never asked for again, and what it had seen of persistent databases stays. It holds no address and
+-- no recovery lock.
 abbrev pub stopped : ℕ → Lines → Lines
 stopped n r = record r {
   records = at (r.line n) (λ db key. left_by n (r.records (r.line n) db key)) r.records;

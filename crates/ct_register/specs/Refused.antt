@@ -5,11 +5,11 @@ use Rattle.ct_frame.specs.declared.event.Note.TheVariants as note
 use Rattle.ct_cluster.specs.Labels.{Label, Noted, Ticket, Yielded, Stopped, Pushed, Takeover, Taken}
 use Rattle.ct_register.specs.Lines.{Lines}
 use Rattle.ct_register.specs.Legal.{Legal}
-use Rattle.ct_register.specs.Runs.{config, rules, x, y, both, locks, reads, writes, stores, unlocks, appends, vacuums, locks_database, begins, commits, is_unsure, reads_database, round, installs, thaws, first_at_zero, one_each, both_at_one, takes}
+use Rattle.ct_register.specs.Runs.{config, functions, x, y, both, locks, reads, writes, stores, unlocks, appends, vacuums, locks_database, begins, commits, is_unsure, reads_database, round, installs, thaws, first_at_zero, one_each, both_at_one, takes}
 
 -- whatever is taken over and seen, the registers do not accept these labels
 abbrev pub IsIllegal : List Label → Type 0
-IsIllegal labels = (s : Lines) → ¬ (Legal config rules labels s)
+IsIllegal labels = (s : Lines) → ¬ (Legal config functions labels s)
 
 -- ---- records
 

@@ -29,8 +29,8 @@ config = record {
 }
 
 -- function 1 appends its argument to the value, and function 2 answers it twice
-abbrev pub rules : Rules
-rules = (1, Join Old Arg) ∷ (2, Join Arg Arg) ∷ []
+abbrev pub functions : Rules
+functions = (1, Join Old Arg) ∷ (2, Join Arg Arg) ∷ []
 
 -- a key, and two values
 abbrev pub a : List ℕ
@@ -126,7 +126,7 @@ releases n address = Noted n (note.Released address)
 
 -- the labels are legal, and may lead to registers of which this holds
 abbrev pub Reaches : List Label → (Lines → Type 0) → Type 0
-Reaches labels P = (s : Lines) × Legal config rules labels s × P s
+Reaches labels P = (s : Lines) × Legal config functions labels s × P s
 
 -- a record has these versions and this owner, and nodes 0 and 1 have seen so many
 abbrev pub Shows : List (List ℕ) → Option ℕ → ℕ → ℕ → Register → Type 0
