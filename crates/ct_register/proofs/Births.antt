@@ -9,7 +9,7 @@ use Rattle.ct_register.specs.Lines.{Lines}
 use Rattle.ct_register.specs.Births
 use Rattle.ct_register.specs.Legal
 use Rattle.ct_cluster.specs.Labels.{Ticket, Stopped}
-use Rattle.ct_register.specs.Runs.{config, a, x, both, writes, RoundKeeps, RoundMayLose}
+use Rattle.ct_register.specs.Runs.{config, a, x, both, writes, RoundKeeps, RoundEmpties, RoundMayLose}
 use Rattle.ct_register.proofs.Places.{at_all, of_two, of_one}
 use Rattle.ct_register.proofs.Refusing.{one_not_zero, nought, same, below_next}
 use Rattle.ct_register.proofs.Ways.{labels_after}
@@ -93,3 +93,22 @@ pub round_may_lose : RoundMayLose
 unfolding lost_born lost_front Words.at Words.at_key Words.is_in Lines.also_had Lines.holder_without Register.reading Legal.kind_at Legal.is_of_records Births.birth_list Births.taken_over Births.unless_empty
 round_may_lose =
     (_, (_, (one_not_zero, refl, _, (refl, refl), refl), (_, refl, (_, (refl, tt, refl), (lost_born, ((λ _ _. 0), (λ db. 0), lost_births, lost_persistent, refl), (Lines.joined 2 0 lost_born, (refl, refl, below_next 1, unowned_by 0 lost_born.records lost_unowned, refl), (_, (two_not_zero, refl, of_one (λ m. (Lines.joined 2 0 lost_born).installed 2 m ≡ true) 0 refl, refl), (_, inl (two_not_zero, refl, _, (tt, refl, refl), refl), refl))))))), (refl, refl, refl, refl))
+
+-- ---- a round that takes nothing over
+
+empty_front : Lines
+empty_front = labels_after (writes 0 [] ∷ Ticket 2 1 both ∷ []) (Lines.opening config)
+
+empty_births : Births.Birth empty_front 2 1 both 1 (all_versions empty_front)
+unfolding empty_front all_versions wrote Words.at Words.is_in
+empty_births =
+    births empty_front 1 both (all_versions empty_front) 0 refl refl refl refl refl (λ db key. same _) (λ db k key _. everywhere_at SeenWithin 1 a (wrote 0 []) (λ _ _. Register.newborn []) (seen_wrote 0 []) (λ _ _ m. nought 0) db key k)
+
+empty_persistent : Births.PersistentBirth empty_front 2 both 1 (λ db. 0)
+unfolding empty_front Words.is_in Words.at
+empty_persistent = persistent_births empty_front both (λ db. 0) 0 refl refl (λ db. nought 0) (λ db. nought 0) (λ db k is. nought 0)
+
+pub round_empties : RoundEmpties
+unfolding empty_front all_versions Words.at Words.at_key Words.is_in Register.reading Legal.kind_at Legal.is_of_records Births.birth_list Births.taken_over Births.unless_empty
+round_empties =
+    (_, (_, (one_not_zero, refl, _, (refl, refl), refl), (_, (refl, tt, refl), (Births.born_of 2 1 (all_versions empty_front) 1 (λ db. 0) empty_front, (all_versions empty_front, (λ db. 0), empty_births, empty_persistent, refl), refl))), (refl, refl, refl, refl))

@@ -1,6 +1,7 @@
 -- The runs that are refused: runs through a round.
 use Rattle.std.proofs.Common.{◌≡◌, ℕ, true, false, ◌≤◌, List, [], ◌∷◌, length, refl, sym, arith, ⊎_elim, subst}
-use Rattle.std.specs.Prelude.{◌++◌, take, Some}
+use Rattle.std.specs.Prelude.{nat_eq, nat_lt, if◌then◌else◌, ◌++◌, take, Some}
+use Rattle.std.proofs.lemmas.Bool.{cond_both}
 use Rattle.ct_msg.specs.declared.client.Answer.TheVariants as answer
 use Rattle.ct_msg.specs.declared.client.ClientOp.TheVariants as op
 use Rattle.ct_frame.specs.declared.event.Note.TheVariants as note
@@ -17,7 +18,7 @@ use Rattle.ct_register.specs.Lines.{Lines}
 use Rattle.ct_register.specs.Births
 use Rattle.ct_register.specs.Legal
 use Rattle.ct_register.specs.Runs.{config, functions, a, x, both, one_write, locks, reads, writes, locks_database, begins, commits, reads_database, round, installs, thaws}
-use Rattle.ct_register.specs.Refused.{RoundForgets, RoundForgetsCommit, RoundOfAnother, RoundFromNothing, SecondRound, InstalledTwice, InstalledUnderLock, ThawedTooEarly, OldReadAfterCommit, OldReadOfOwn}
+use Rattle.ct_register.specs.Refused.{RoundForgets, RoundForgetsCommit, RoundOfAnother, RoundOfOtherMembers, RoundFromNowhere, RoundFromNothing, SecondRound, InstalledTwice, InstalledUnderLock, ThawedTooEarly, OldReadAfterCommit, OldReadOfOwn}
 use Rattle.ct_register.proofs.Ways.{labels_after, leave_no_choice, refused_after}
 use Rattle.ct_register.proofs.Refusing.{one_not_zero, not_below, below_next}
 use Rattle.ct_register.proofs.Refusals.{from_opening, read_of_record}
@@ -37,6 +38,20 @@ through_round front h ms p q back rest s c e refused = refused_after config func
 pub round_of_another : RoundOfAnother
 unfolding Words.at
 round_of_another s = through_round (Ticket 2 0 both ∷ []) 1 both 1 1 [] [] s refl refl (λ counts kept b d h. (let e : Some 0 ≡ Some 1 = b.given in absurd (cc)))
+
+one_not_two : both ≡ 0 ∷ [] → ⊥
+one_not_two e = absurd (cc)
+
+pub round_of_other_members : RoundOfOtherMembers
+unfolding Words.at
+round_of_other_members s = through_round (Ticket 2 0 both ∷ []) 0 (0 ∷ []) 1 1 [] [] s refl refl (λ counts kept b d h. one_not_two b.named)
+
+not_two : (m : ℕ) → nat_eq (if nat_lt m 2 then 1 else 0) 2 ≡ true → ⊥
+not_two m is = cond_both (nat_lt m 2) 1 0 (λ l. nat_eq l 2 ≡ true → ⊥) (λ _ e. absurd (cc)) (λ _ e. absurd (cc)) is
+
+pub round_from_nowhere : RoundFromNowhere
+unfolding Words.at
+round_from_nowhere s = from_opening (Ticket 2 0 both ∷ Ticket 3 0 both ∷ []) (Noted 0 (note.Round 3 both 2 1) ∷ []) s refl (λ h. (let had = h.1.2.had in not_two had.0 had.2))
 
 pub not_one : 1 ≤ 0 → ⊥
 not_one h = absurd (omega arith)

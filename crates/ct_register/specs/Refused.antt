@@ -82,6 +82,13 @@ RoundForgetsCommit =
 abbrev pub RoundOfAnother : Type 0
 RoundOfAnother = IsIllegal (Ticket 2 0 both ∷ round 1 both ∷ [])
 
+abbrev pub RoundOfOtherMembers : Type 0
+RoundOfOtherMembers = IsIllegal (Ticket 2 0 both ∷ round 0 (0 ∷ []) ∷ [])
+
+-- a round from a line that no member had
+abbrev pub RoundFromNowhere : Type 0
+RoundFromNowhere = IsIllegal (Ticket 2 0 both ∷ Ticket 3 0 both ∷ Noted 0 (note.Round 3 both 2 1) ∷ [])
+
 -- a round from no line, though a member is in one
 abbrev pub RoundFromNothing : Type 0
 RoundFromNothing = IsIllegal (Ticket 2 0 both ∷ Stopped 1 ∷ Noted 0 (note.Round 2 both 0 1) ∷ [])

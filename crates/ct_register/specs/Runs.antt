@@ -173,6 +173,10 @@ abbrev pub RoundKeeps : Type 0
 RoundKeeps = Reaches (writes 0 x ∷ Ticket 2 1 both ∷ round 1 both ∷ installs 0 ∷ installs 1 ∷ thaws 0 ∷ thaws 1 ∷ locks 0 x ∷ []) (λ s.
     Shows (x ∷ []) (Some 0) 1 1 (s.records 2 1 a))
 
+-- a round takes over nothing of a record whose reading is empty
+abbrev pub RoundEmpties : Type 0
+RoundEmpties = Reaches (writes 0 [] ∷ Ticket 2 1 both ∷ round 1 both ∷ []) (λ s. Shows [] None 0 0 (s.records 2 1 a))
+
 -- what a node wrote that is gone, and nobody else saw, may be lost in a round
 abbrev pub RoundMayLose : Type 0
 RoundMayLose = Reaches (writes 1 x ∷ Stopped 1 ∷ Ticket 2 0 (0 ∷ []) ∷ round 0 (0 ∷ []) ∷ installs 0 ∷ thaws 0 ∷ reads 0 [] ∷ []) (λ s. Shows [] None 0 0 (s.records 2 1 a))

@@ -1,5 +1,5 @@
 //! Small runs that are not legal.
-ghost use Rattle.ct_register.specs.Refused.{SecondLock, OldRead, ReadUnderLock, WriteUnderLock, StoreOfNoOwner, UnlockOfNoOwner, WrongAnswer, VacuumOfValue, ReadAfterStop, CommitUnlocked, CommitBesideAnother, WrongNumber, AcknowledgedTwice, CommitOfAnother, UnsureOfNobody, OldReadAfterCommit, OldReadOfOwn, RoundForgets, RoundForgetsCommit, RoundOfAnother, RoundFromNothing, SecondRound, InstalledTwice, InstalledUnderLock, ThawedTooEarly, TicketWhileHeld, TicketLeftOut, YieldedByAnother, TookUnassigned, TookWhileHeld, WrongTake, TakeOfNoRun, PushedAnew, PushedUnborn};
+ghost use Rattle.ct_register.specs.Refused.{SecondLock, OldRead, ReadUnderLock, WriteUnderLock, StoreOfNoOwner, UnlockOfNoOwner, WrongAnswer, VacuumOfValue, ReadAfterStop, CommitUnlocked, CommitBesideAnother, WrongNumber, AcknowledgedTwice, CommitOfAnother, UnsureOfNobody, OldReadAfterCommit, OldReadOfOwn, RoundForgets, RoundForgetsCommit, RoundOfAnother, RoundOfOtherMembers, RoundFromNowhere, RoundFromNothing, SecondRound, InstalledTwice, InstalledUnderLock, ThawedTooEarly, TicketWhileHeld, TicketLeftOut, YieldedByAnother, TookUnassigned, TookWhileHeld, WrongTake, TakeOfNoRun, PushedAnew, PushedUnborn};
 
 /// A second lock; a read of an old value, or while another node owns the record, or at a node in no line; a write while a
 /// node owns the record; a store or an unlock of no owner; a wrong answer of a function; a vacuum of a value.
@@ -28,13 +28,15 @@ pub fn commits()
     ensures old_read_of_own { OldReadOfOwn }
 {}
 
-/// A round that forgets what a member has read, or a commit that was acknowledged; one of another node than the ticket's, or
-/// from no line though a member is in one; a second birth or installation of a line; an installation at an owner; a thaw
+/// A round that forgets what a member has read, or a commit that was acknowledged; one of another node or other members
+/// than the ticket's, or from no line though a member is in one, or from one that nobody had; a second birth or installation of a line; an installation at an owner; a thaw
 /// before all have installed.
 pub fn rounds()
     ensures round_forgets { RoundForgets }
     ensures round_forgets_commit { RoundForgetsCommit }
     ensures round_of_another { RoundOfAnother }
+    ensures round_of_other_members { RoundOfOtherMembers }
+    ensures round_from_nowhere { RoundFromNowhere }
     ensures round_from_nothing { RoundFromNothing }
     ensures second_round { SecondRound }
     ensures installed_twice { InstalledTwice }

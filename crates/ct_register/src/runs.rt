@@ -1,6 +1,6 @@
 //! Small runs that are legal, and what the registers show then.
 ghost use Rattle.ct_register.specs.Marked.{ThreeAreMarks, CopiesHaveMarks, EntriesHaveMarks, MarksGoOn, MarksDoNotGoBack};
-ghost use Rattle.ct_register.specs.Runs.{LockMoves, ReadersSee, FunctionsAnswer, VacuumForgets, StopEndsLocks, RefusalsChangeNothing, CommitIsRead, UnsureIsOpen, TicketsCount, RoundKeeps, RoundMayLose, UnsureMayBeLost, UnsureMayBeKept, AddressesArePlaced};
+ghost use Rattle.ct_register.specs.Runs.{LockMoves, ReadersSee, FunctionsAnswer, VacuumForgets, StopEndsLocks, RefusalsChangeNothing, CommitIsRead, UnsureIsOpen, TicketsCount, RoundKeeps, RoundEmpties, RoundMayLose, UnsureMayBeLost, UnsureMayBeKept, AddressesArePlaced};
 
 /// A lock moves with what was stored under it; a read sees all versions; a function answers its rule's value; a vacuum forgets;
 /// a stop ends locks; refusals change nothing.
@@ -25,9 +25,10 @@ pub fn tickets()
     ensures { TicketsCount }
 {}
 
-/// A round takes over what was written. It may lose what nobody saw who is there.
+/// A round takes over what was written, but for empty values. It may lose what nobody saw who is there.
 pub fn rounds()
     ensures round_keeps { RoundKeeps }
+    ensures round_empties { RoundEmpties }
     ensures round_may_lose { RoundMayLose }
     ensures unsure_may_be_lost { UnsureMayBeLost }
     ensures unsure_may_be_kept { UnsureMayBeKept }

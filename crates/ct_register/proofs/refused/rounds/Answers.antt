@@ -1,5 +1,5 @@
 -- Each run, as it was shown.
-use Rattle.ct_register.proofs.Forgotten.{round_forgets, round_forgets_commit, round_of_another, round_from_nothing, second_round, installed_twice, installed_under_lock, thawed_too_early}
+use Rattle.ct_register.proofs.Forgotten.{round_of_other_members, round_from_nowhere, round_forgets, round_forgets_commit, round_of_another, round_from_nothing, second_round, installed_twice, installed_under_lock, thawed_too_early}
 use Rattle.ct_register.proofs.refused.rounds.Goals as goal
 
 pub returns-clause-round_forgets : goal.returns-clause-round_forgets
@@ -25,3 +25,9 @@ returns-clause-installed_under_lock c = installed_under_lock
 
 pub returns-clause-thawed_too_early : goal.returns-clause-thawed_too_early
 returns-clause-thawed_too_early c = thawed_too_early
+
+pub returns-clause-round_of_other_members : goal.returns-clause-round_of_other_members
+returns-clause-round_of_other_members c = round_of_other_members
+
+pub returns-clause-round_from_nowhere : goal.returns-clause-round_from_nowhere
+returns-clause-round_from_nowhere c = round_from_nowhere

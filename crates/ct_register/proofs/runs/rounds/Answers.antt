@@ -1,6 +1,6 @@
 -- Each run, as it was shown.
 use Rattle.ct_register.proofs.Bases.{unsure_may_be_lost, unsure_may_be_kept}
-use Rattle.ct_register.proofs.Births.{round_keeps, round_may_lose}
+use Rattle.ct_register.proofs.Births.{round_empties, round_keeps, round_may_lose}
 use Rattle.ct_register.proofs.runs.rounds.Goals as goal
 
 pub returns-clause-round_keeps : goal.returns-clause-round_keeps
@@ -14,3 +14,6 @@ returns-clause-unsure_may_be_lost c = unsure_may_be_lost
 
 pub returns-clause-unsure_may_be_kept : goal.returns-clause-unsure_may_be_kept
 returns-clause-unsure_may_be_kept c = unsure_may_be_kept
+
+pub returns-clause-round_empties : goal.returns-clause-round_empties
+returns-clause-round_empties c = round_empties
