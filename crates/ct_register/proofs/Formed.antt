@@ -29,9 +29,8 @@ use Rattle.ct_register.specs.Lines
 use Rattle.ct_register.specs.Lines.{Lines, with_record, with_database, with_placing, also_had}
 use Rattle.ct_register.specs.Births
 use Rattle.ct_register.specs.Formed.{IsCounted, OwnersAreThere, IsFormed, LegalIsFormed}
-use Rattle.ct_register.proofs.Places.{at_same, at_other, at_all, at_each}
-use Rattle.ct_register.proofs.Rounds.{everywhere_at}
-use Rattle.ct_register.proofs.Refusing.{none_not_some, nought, same}
+use Rattle.ct_register.proofs.Places.{everywhere_at, at_same, at_other, at_all, at_each}
+use Rattle.ct_register.proofs.Small.{none_not_some, nought, same}
 
 -- ---- one register
 

@@ -1,13 +1,4 @@
+pub mod Small
 pub mod Places
 pub mod Ways
-pub mod Refusing
-pub mod Reached
-pub mod Rounds
-pub mod Births
-pub mod Bases
-pub mod Refusals
-pub mod Forgotten
-pub mod Placements
-pub mod Misplaced
 pub mod Formed
-pub mod Marked

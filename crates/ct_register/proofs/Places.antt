@@ -5,6 +5,7 @@ use Rattle.std.proofs.lemmas.Bool.{cases_eq, cond_both, eq-eqb, ne_eqb}
 use Rattle.std.proofs.lemmas.Slice.Eq.{bytes_eq-Decides}
 use Rattle.ct_bytes.specs.declared.address.Address.{Address}
 use Rattle.ct_msg.specs.Config.{same_address}
+use Rattle.ct_register.specs.Register.{Register}
 use Rattle.ct_register.specs.Words.{at, at_key, at_address, is_in}
 
 pub at_same : {X : Type 0} (n m : ℕ) (x : X) (f : ℕ → X) → m ≡ n → at n x f m ≡ x
@@ -62,3 +63,10 @@ at_key_twice P key x y f new old k =
 pub at_each : {X : Type 0} (P : ℕ → X → Type 0) (n : ℕ) (x : X) (f : ℕ → X) → P n x → ((m : ℕ) → m ≢ n → P m (f m)) → (m : ℕ) → P m (at n x f m)
 at_each P n x f new old m =
     ⊎_elim (λ (is : m ≡ n). subst (λ v. P m v) (sym (at_same n m x f is)) (subst (λ k. P k x) (sym is) new)) (λ (ne : m ≢ n). subst (λ v. P m v) (sym (at_other n m x f ne)) (old m ne)) (cases_eq m n)
+
+-- one record of a line is changed, and a property of all records stays
+abbrev pub Everywhere : (Register → Type 0) → (ℕ → List ℕ → Register) → Type 0
+Everywhere P records = (db : ℕ) (key : List ℕ) → P (records db key)
+
+pub everywhere_at : (P : Register → Type 0) (db : ℕ) (key : List ℕ) (t : Register) (old : ℕ → List ℕ → Register) → P t → Everywhere P old → Everywhere P (at db (at_key key t (old db)) old)
+everywhere_at P db key t old new all = at_all (λ (f : List ℕ → Register). (k : List ℕ) → P (f k)) db (at_key key t (old db)) old (at_key_all P key t (old db) new (all db)) all

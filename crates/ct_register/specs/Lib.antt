@@ -7,7 +7,4 @@ pub mod Births
 pub mod Legal
 pub mod Marks
 pub mod Laws
-pub mod Runs
-pub mod Refused
 pub mod Formed
-pub mod Marked
