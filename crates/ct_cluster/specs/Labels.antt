@@ -6,6 +6,7 @@ use Rattle.ct_msg.specs.declared.client.Pair.{Pair}
 use Rattle.ct_frame.specs.declared.event.Note.{Note}
 use Rattle.ct_frame.specs.declared.frame.Assigned.{Assigned}
 
+-- Labels: what a run tells of itself, one of these after the other
 pub data Label : Type 0 where
   -- a client of this node asked for this, and was answered this
   Answered : (node : ℕ) (asked : ClientOp) (answer : Answer) → Label

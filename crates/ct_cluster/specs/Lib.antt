@@ -1,1 +1,5 @@
 pub mod Labels
+pub mod Cluster
+pub mod Faults
+pub mod Steps
+pub mod Traces

@@ -1,21 +1,18 @@
 -- What comes of each message that speaks of one record, at its receiver.
-use Rattle.std.specs.Prelude.{ℕ, ◌+◌, ◌-◌, ◌==◌, nat_eq, nat_le, nat_lt, Bool, true, false, not, ◌&&◌, ◌||◌, if◌then◌else◌, List, [], ◌∷◌, ◌++◌, Option, None, Some, is_none, is_some}
+use Rattle.std.specs.Prelude.{ℕ, ◌+◌, ◌-◌, ◌==◌, nat_eq, nat_le, nat_lt, Bool, not, ◌&&◌, ◌||◌, if◌then◌else◌, List, [], ◌∷◌, ◌++◌, Option, None, Some, is_none}
 use Rattle.std.specs.List.{list_any}
 use Rattle.ct_msg.specs.declared.client.Answer.TheVariants as answer
-use Rattle.ct_frame.specs.declared.frame.Msg.{Msg}
 use Rattle.ct_frame.specs.declared.frame.Msg.TheVariants as msg
 use Rattle.ct_frame.specs.declared.frame.CallKind.{CallKind}
 use Rattle.ct_frame.specs.declared.frame.CallKind.TheVariants as kind
 use Rattle.ct_frame.specs.declared.header.RecCopy.{RecCopy}
 use Rattle.ct_call.specs.Rules.{Rules}
 use Rattle.ct_deleg.specs.Tracked.{untracked, acked, ends}
-use Rattle.ct_vacuum.specs.Vacuum.{Vacuuming, begun, is_last, stored, deleted}
-use Rattle.ct_vacuum.specs.declared.vacuum.VacuumPhase.{VacuumPhase}
+use Rattle.ct_vacuum.specs.Vacuum.{Vacuuming, is_last, stored, deleted}
 use Rattle.ct_vacuum.specs.declared.vacuum.VacuumPhase.TheVariants.{Storing, Deleting}
-use Rattle.ct_rules.specs.State.{is_nil, plain, for_reading, a_copy, rank, rsn_of, value_of, is_mastered, is_given, is_for_reading, raised, is_free, is_read_kind, same_kind, kind_of, is_wished}
-use Rattle.ct_rules.specs.Parts.{Moving, acts, send, send_all, reply, keeps, makes, opened, end_vacuum, satisfy, give, grant, yield_record, drained, end_revocation, next, keep}
+use Rattle.ct_rules.specs.State.{plain, for_reading, a_copy, rank, rsn_of, value_of, is_mastered, is_given, is_free, is_read_kind, same_kind, kind_of, is_wished}
+use Rattle.ct_rules.specs.Parts.{Moving, acts, send, send_all, reply, keeps, makes, opened, end_vacuum, satisfy, grant, yield_record, drained, end_revocation, next, keep}
 use Rattle.ct_rules.specs.declared.state.Entry.{Entry}
-use Rattle.ct_rules.specs.declared.state.RecState.{RecState}
 use Rattle.ct_rules.specs.declared.state.RecallNote.{RecallNote}
 use Rattle.ct_rules.specs.declared.state.Waiter.{Waiter}
 use Rattle.ct_rules.specs.declared.state.Wish.{Wish}
@@ -111,11 +108,11 @@ satisfy_wish rules o None = o
 satisfy_wish rules o (Some w) = satisfy rules w.call w.op (keeps (record o.state { wish = None }) o)
 
 -- the node becomes data master, and its wish is satisfied
-unfoldable pub become : Place → ℕ → List ℕ → Moving → Moving
-become at rsn value o = makes rsn (keeps (record o.state { copy = Some (a_copy rsn at.me plain value); tracking = untracked }) o)
+unfoldable pub becomes : Place → ℕ → List ℕ → Moving → Moving
+becomes at rsn value o = makes rsn (keeps (record o.state { copy = Some (a_copy rsn at.me plain value); tracking = untracked }) o)
 
 unfoldable pub take : Place → Rules → ℕ → List ℕ → Moving → Moving
-take at rules rsn value o = drained at (satisfy_wish rules (become at (rsn + 1) value o) o.state.wish)
+take at rules rsn value o = drained at (satisfy_wish rules (becomes at (rsn + 1) value o) o.state.wish)
 
 -- a record that nobody here wishes for any more is refused
 unfoldable pub refuse : Place → ℕ → ℕ → Moving → Moving

@@ -1,5 +1,5 @@
 -- What comes of every event at one record.
-use Rattle.std.specs.Prelude.{ℕ, ◌+◌, ◌==◌, nat_eq, Bool, true, false, not, ◌&&◌, if◌then◌else◌, List, [], ◌∷◌, Option, None, Some, is_none}
+use Rattle.std.specs.Prelude.{ℕ, ◌+◌, ◌==◌, nat_eq, Bool, false, ◌&&◌, if◌then◌else◌, List, [], ◌∷◌, Option, None, Some, is_none}
 use Rattle.ct_msg.specs.declared.client.Answer.TheVariants as answer
 use Rattle.ct_frame.specs.declared.frame.Msg.{Msg}
 use Rattle.ct_frame.specs.declared.frame.Msg.TheVariants as msg
@@ -109,7 +109,7 @@ arrive at rules n _ o = o
 -- ---- every event
 
 -- the rule of one record
-unfoldable pub move : Place → Rules → MoveEvent → Moving → Moving
+abbrev pub move : Place → Rules → MoveEvent → Moving → Moving
 move at rules (event.Want call o_p) o = want at rules call o_p o
 move at rules (event.Store call v) o = store call v o
 move at rules (event.Unlock call) o = unlock at call o

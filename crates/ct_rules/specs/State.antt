@@ -1,6 +1,6 @@
 -- A state in which nothing is kept, and the small words that the rules use of a state.
-use Rattle.std.specs.Prelude.{ℕ, ◌+◌, ◌==◌, nat_eq, Bool, true, false, not, ◌&&◌, List, [], ◌∷◌, Option, None, Some, is_none}
-use Rattle.ct_deleg.specs.Tracked.{Tracked, Revocation, untracked}
+use Rattle.std.specs.Prelude.{ℕ, ◌+◌, ◌==◌, nat_eq, Bool, true, false, ◌&&◌, List, [], ◌∷◌, Option, None, Some, is_none}
+use Rattle.ct_deleg.specs.Tracked.{Tracked, untracked}
 use Rattle.ct_msg.specs.declared.client.ClientOp.{ClientOp}
 use Rattle.ct_msg.specs.declared.client.ClientOp.TheVariants as op
 use Rattle.ct_frame.specs.declared.frame.CallKind.{CallKind}

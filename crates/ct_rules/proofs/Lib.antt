@@ -1,0 +1,6 @@
+pub mod Formed
+pub mod Arriving
+pub mod Events
+pub mod Growing
+pub mod Tracking
+pub mod Names

@@ -1,0 +1,5 @@
+use Rattle.ct_rules.proofs.Events.{in_form_at_start}
+use Rattle.ct_rules.proofs.laws.starts_in_form.Goals as goal
+
+pub returns : goal.returns
+returns c = in_form_at_start

@@ -1,0 +1,29 @@
+//! What follows for the rules of every record.
+ghost use Rattle.ct_rules.specs.Laws.{GrowsAlone, KeepsForm, KeepsTracking, ReadsNoNames, StartsInForm};
+
+/// A state in which nothing is kept is in form at every place.
+pub fn starts_in_form()
+    ensures { StartsInForm }
+{}
+
+/// A state in form stays in form: whatever may come to it leaves it so, with all its numbers below 2^62, unless a number
+/// would reach that.
+pub fn keeps_form()
+    ensures { KeepsForm }
+{}
+
+/// Whatever comes, the next request number and the floor do not fall, what is spent stays spent, and what the node did
+/// before stays before what it does now.
+pub fn grows_alone()
+    ensures { GrowsAlone }
+{}
+
+/// Only a holder tracks nodes, and none while a vacuum runs: whatever comes, this stays so.
+pub fn keeps_tracking()
+    ensures { KeepsTracking }
+{}
+
+/// What comes of a message at a record does not depend on the database and the key that the message names.
+pub fn reads_no_names()
+    ensures { ReadsNoNames }
+{}

@@ -1,0 +1,10 @@
+pub mod Node
+pub mod Turn
+pub mod Records
+pub mod Clients
+pub mod Databases
+pub mod Rounds
+pub mod Takeovers
+pub mod Retries
+pub mod Admission
+pub mod Steps
