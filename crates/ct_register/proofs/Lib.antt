@@ -2,3 +2,4 @@ pub mod Small
 pub mod Places
 pub mod Ways
 pub mod Formed
+pub mod Opened

@@ -8,3 +8,4 @@ pub mod Legal
 pub mod Marks
 pub mod Laws
 pub mod Formed
+pub mod Stands
