@@ -1,0 +1,6 @@
+pub mod Small
+pub mod Places
+pub mod Ways
+pub mod Formed
+pub mod Opened
+pub mod Bridges

@@ -1,0 +1,66 @@
+-- The cluster stands for the registers at the opening.
+use Rattle.std.proofs.Common.{◌≡◌, ℕ, zero, suc, true, false, List, [], ◌∷◌, refl, sym, subst, ap, ◌∙◌}
+use Rattle.std.specs.Prelude.{slice_get, replicate, is_some}
+use Rattle.std.specs.List.{list_any}
+use Rattle.ct_bytes.specs.declared.address.Address.{Address}
+use Rattle.ct_msg.specs.Config.{same_address}
+use Rattle.ct_msg.specs.declared.config.Config.{Config}
+use Rattle.ct_frame.specs.declared.header.RecCopy.{RecCopy}
+use Rattle.ct_persist.specs.Updates
+use Rattle.ct_store.specs.Map.{look}
+use Rattle.ct_rules.specs.State.{nothing_kept}
+use Rattle.ct_rules.specs.declared.state.RecState.{RecState}
+use Rattle.ct_rules_node.specs.Node as node
+use Rattle.ct_rules_node.specs.Node.{Node}
+use Rattle.ct_cluster.specs.Cluster as cluster
+use Rattle.ct_register.specs.Stands.{HasCopy, HoldsAddress, OpeningStands}
+use Rattle.ct_register.proofs.Small.{nought, none_not_some}
+
+-- one of many that are alike, or what stands for one that is not there
+one_of_all : (P : Node → Type 0) (x : Node) → P cluster.absent → P x → (k n : ℕ) → P (cluster.or_absent (slice_get (replicate k x) n))
+unfolding cluster.or_absent
+one_of_all P x none all zero n = none
+one_of_all P x none all (suc k) zero = all
+one_of_all P x none all (suc k) (suc n) = one_of_all P x none all k n
+
+untouched_one : {X : Type 0} (xs : List X) (db : ℕ) → node.or_untouched (slice_get (node.untouched_all xs) db) ≡ node.untouched
+unfolding node.untouched_all node.or_untouched
+untouched_one [] db = refl
+untouched_one (x ∷ xs) zero = refl
+untouched_one (x ∷ xs) (suc db) = untouched_one xs db
+
+-- nothing is kept of any database at any node
+opened_db : (c : Config) (n db : ℕ) → node.db_at db (cluster.node_at n (cluster.opening c)) ≡ node.untouched
+unfolding node.db_at node.opening node.or_untouched cluster.node_at cluster.opening cluster.absent
+opened_db c n db = one_of_all (λ (x : Node). node.db_at db x ≡ node.untouched) (node.opening c (cluster.everyone c)) refl (untouched_one c.dbs db) c.nodes n
+
+opened_state : (c : Config) (n db : ℕ) (key : List ℕ) → node.state_at db key (cluster.node_at n (cluster.opening c)) ≡ nothing_kept
+unfolding node.state_at node.untouched node.or_nothing
+opened_state c n db key = ap (λ (d : node.Database). node.or_nothing (look key d.records)) (opened_db c n db)
+
+opened_held : (c : Config) (n : ℕ) → (cluster.node_at n (cluster.opening c)).held ≡ []
+unfolding node.opening cluster.node_at cluster.opening cluster.absent
+opened_held c n = one_of_all (λ (x : Node). x.held ≡ []) (node.opening c (cluster.everyone c)) refl refl c.nodes n
+
+no_copy : (c : Config) (n db : ℕ) (key : List ℕ) (copy : RecCopy) → HasCopy (cluster.opening c) n db key copy → ⊥
+no_copy c n db key copy has = none_not_some (sym (ap (λ (s : RecState). s.copy) (opened_state c n db key)) ∙ has)
+
+false_not_true : false ≡ true → ⊥
+false_not_true e = absurd (cc)
+
+no_lock : (c : Config) (n db : ℕ) (key : List ℕ) → is_some (node.state_at db key (cluster.node_at n (cluster.opening c))).locked ≡ true → ⊥
+no_lock c n db key has = false_not_true (subst (λ (s : RecState). is_some s.locked ≡ true) (opened_state c n db key) has)
+
+no_address : (c : Config) (n : ℕ) (a : Address) → HoldsAddress (cluster.opening c) n a → ⊥
+no_address c n a has = false_not_true (subst (λ held. list_any (same_address a) held ≡ true) (opened_held c n) has)
+
+pub opening_stands : OpeningStands
+unfolding Updates.contents node.untouched
+opening_stands c = record {
+  locks = λ n db key up. ((λ has. absurd (no_lock c n db key has)), λ owns. absurd (none_not_some owns.1));
+  masters = λ n db key copy has is. absurd (no_copy c n db key copy has);
+  one_master = λ n m db key copy other up line has is has' is'. absurd (no_copy c n db key copy has);
+  readers = λ n db key copy has is. absurd (no_copy c n db key copy has);
+  databases = λ n db there kind. (0, (let e = opened_db c n db in record { number = ap (λ (d : node.Database). d.store.seq) e; pairs = ap (λ (d : node.Database). d.store.pairs) e; acked = nought 0; seen = nought 0; within = nought 0 }));
+  addresses = λ n m a up up' some line has has'. absurd (no_address c n a has);
+}

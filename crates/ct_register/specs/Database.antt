@@ -1,0 +1,75 @@
+-- One persistent database in one generation: what it began with, its commits, and what each node has seen of them.
+use Rattle.std.specs.Prelude.{◌≡◌, ◌≢◌, ℕ, ◌+◌, ◌<◌, ◌≤◌, not, ◌&&◌, if◌then◌else◌, List, [], ◌∷◌, ◌++◌, length, take, Option, None, Some}
+use Rattle.ct_msg.specs.declared.client.Answer.{Answer}
+use Rattle.ct_msg.specs.declared.client.Answer.TheVariants as answer
+use Rattle.ct_msg.specs.declared.client.Pair.{Pair}
+use Rattle.ct_store.specs.Map.{Pairs, look}
+use Rattle.ct_persist.specs.Updates.{contents}
+use Rattle.ct_register.specs.Words.{at, is_in}
+
+pub record Database : Type 0 where
+  -- the number and the pairs with which its generation began
+  pub seq : ℕ
+  pub base : Pairs (List ℕ)
+  -- the writes of each commit since, the newest last
+  pub commits : List (List Pair)
+  -- the node that began the newest of them
+  pub committer : Option ℕ
+  -- how many of them are acknowledged
+  pub acked : ℕ
+  -- how many of them each node has seen
+  pub seen : ℕ → ℕ
+
+-- a database as its generation begins
+abbrev pub newborn : ℕ → Pairs (List ℕ) → Database
+newborn seq base = record { seq = seq; base = base; commits = []; committer = None; acked = 0; seen = λ _. 0 }
+
+-- the pairs after the first j commits
+abbrev pub contents_after : ℕ → Database → Pairs (List ℕ)
+contents_after j d = contents (take j d.commits) d.base
+
+unfoldable pub value_or_empty : Option (List ℕ) → List ℕ
+value_or_empty None = []
+value_or_empty (Some v) = v
+
+-- the value of a key after the first j commits, and the empty value where it has none
+abbrev pub value_after : ℕ → List ℕ → Database → List ℕ
+value_after j key d = value_or_empty (look key (contents_after j d))
+
+-- the last of them
+unfoldable pub newest : List (List Pair) → Option (List Pair)
+newest [] = None
+newest (c ∷ []) = Some c
+newest (c ∷ d ∷ cs) = newest (d ∷ cs)
+
+-- the commit of these writes, which node n began, is the newest, is not acknowledged, and has this number
+pub record IsOpen (n : ℕ) (writes : List Pair) (number : ℕ) (d : Database) : Type 0 where
+  pub begun : d.committer ≡ Some n
+  pub newest : newest d.commits ≡ Some writes
+  pub unacknowledged : d.acked < length d.commits
+  pub numbered : number ≡ d.seq + length d.commits
+
+-- these nodes, but those that are missing, have seen all commits
+unfoldable pub all_seen : ℕ → List ℕ → List ℕ → (ℕ → ℕ) → ℕ → ℕ
+all_seen all members missing seen m = if is_in m members && not (is_in m missing) then all else seen m
+
+-- a commit begins at a node that owns the database's lock, once all before it are acknowledged: the node has seen it
+abbrev pub AcceptsBegin : ℕ → List Pair → Option ℕ → Database → Database → Type 0
+AcceptsBegin n writes owner d e =
+    (owner ≡ Some n) × (d.acked ≡ length d.commits) ×
+    (e ≡ record d { commits = d.commits ++ writes ∷ []; committer = Some n; seen = at n (length (d.commits ++ writes ∷ [])) d.seen })
+
+-- A commit of node n is answered, among these members. As committed: it is acknowledged, and every member has seen it. As
+-- unsure: some members are missing, and the others have seen it. Either needs that it is the newest commit, is not
+-- acknowledged and has the number that is answered. No other answer is accepted.
+abbrev pub AcceptsCommit : List ℕ → ℕ → List Pair → Answer → Database → Database → Type 0
+AcceptsCommit members n writes (answer.Committed number) d e =
+    IsOpen n writes number d × (e ≡ record d { acked = length d.commits; seen = all_seen (length d.commits) members [] d.seen })
+AcceptsCommit members n writes (answer.Unsure number missing) d e =
+    IsOpen n writes number d × (missing ≢ []) × (e ≡ record d { seen = all_seen (length d.commits) members missing d.seen })
+AcceptsCommit members n writes given d e = ⊥
+
+-- node n reads the value of a key after some number of commits: all that are acknowledged, and all that it saw before
+abbrev pub AcceptsRead : ℕ → List ℕ → List ℕ → Database → Database → Type 0
+AcceptsRead n key v d e =
+    (j : ℕ) × (d.acked ≤ j) × (d.seen n ≤ j) × (j ≤ length d.commits) × (v ≡ value_after j key d) × (e ≡ record d { seen = at n j d.seen })

@@ -1,0 +1,11 @@
+pub mod Words
+pub mod Register
+pub mod Database
+pub mod Placing
+pub mod Lines
+pub mod Births
+pub mod Legal
+pub mod Marks
+pub mod Laws
+pub mod Formed
+pub mod Stands

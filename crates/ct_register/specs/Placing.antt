@@ -1,0 +1,84 @@
+-- Where the addresses of one generation are placed: by its push, and then by its takeover runs.
+use Rattle.std.specs.Prelude.{◌≡◌, ℕ, ◌+◌, nat_eq, Bool, true, false, ◌&&◌, if◌then◌else◌, List, [], ◌∷◌, map, filter, Option, None, Some, is_some}
+use Rattle.std.specs.List.{list_any}
+use Rattle.ct_bytes.specs.declared.address.Address.{Address}
+use Rattle.ct_msg.specs.Config.{same_address}
+use Rattle.ct_frame.specs.declared.frame.Assigned.{Assigned}
+use Rattle.ct_lcp2.specs.Placing.{placed}
+use Rattle.ct_register.specs.Words.{at, is_in}
+
+-- a takeover run: the members that are able, and the placement that it begins with
+pub record Run : Type 0 where
+  pub able : List ℕ
+  pub given : List Assigned
+
+pub record Placing : Type 0 where
+  -- what the push assigns
+  pub pushed : Option (List Assigned)
+  -- how many runs began
+  pub begun : ℕ
+  -- each of them, by its number from 1
+  pub runs : ℕ → Option Run
+  -- what the takes of each run assign
+  pub taken : ℕ → Option (List Assigned)
+  -- what the last take assigns
+  pub last : Option (List Assigned)
+
+-- a generation as it begins
+abbrev pub nothing_placed : Placing
+nothing_placed = record { pushed = None; begun = 0; runs = λ _. None; taken = λ _. None; last = None }
+
+-- the node that an address is assigned to
+unfoldable pub node_of : Address → List Assigned → Option ℕ
+node_of a [] = None
+node_of a (x ∷ xs) = if same_address a x.address then x.node else node_of a xs
+
+-- each of the addresses, with the node that it is assigned to
+abbrev pub over : List Address → List Assigned → List Assigned
+over addresses given = map (λ a. record { address = a; node = node_of a given }) addresses
+
+-- what a run assigns, of all configured addresses: each address that has a node in the placement that LCP2 makes of the
+-- given one over the able members
+unfoldable pub take_list : List Address → Run → List Assigned
+take_list addresses run = filter (λ x. is_some x.node) (placed run.able (over addresses run.given))
+
+-- the placement that the next run begins with: that of the last take, and of the push before any
+unfoldable pub given_placement : Option (List Assigned) → Option (List Assigned) → Option (List Assigned)
+given_placement pushed None = pushed
+given_placement pushed (Some last) = Some last
+
+-- nothing was pushed before, or the same
+abbrev pub IsPushedAlike : List Assigned → Option (List Assigned) → Type 0
+IsPushedAlike assigned None = Unit {0}
+IsPushedAlike assigned (Some before) = assigned ≡ before
+
+-- a push is sent: all pushes of a generation assign alike
+abbrev pub AcceptsPush : List Assigned → Placing → Placing → Type 0
+AcceptsPush assigned p q = IsPushedAlike assigned p.pushed × (q ≡ record p { pushed = Some assigned })
+
+-- a run begins while these nodes are able: it goes over those of them that are members
+abbrev pub AcceptsTakeover : List ℕ → List ℕ → Placing → Placing → Type 0
+AcceptsTakeover members able p q =
+    (given : List Assigned) × (given_placement p.pushed p.last ≡ Some given) ×
+    (q ≡ record p {
+      begun = p.begun + 1;
+      runs = at (p.begun + 1) (Some (record { able = filter (λ n. is_in n members) able; given = given })) p.runs;
+    })
+
+-- a take of a run is sent: the run began, and the take assigns what the run does
+abbrev pub AcceptsTake : List Address → ℕ → List Assigned → Placing → Placing → Type 0
+AcceptsTake addresses number assigned p q =
+    (run : Run) × (p.runs number ≡ Some run) × (assigned ≡ take_list addresses run) × (q ≡ record p { taken = at number (Some assigned) p.taken; last = Some assigned })
+
+-- is it this node?
+unfoldable pub is_node : ℕ → Option ℕ → Bool
+is_node n None = false
+is_node n (Some m) = nat_eq m n
+
+-- does the list assign the address to the node?
+unfoldable pub assigns : Address → ℕ → List Assigned → Bool
+assigns a n xs = list_any (λ x. same_address a x.address && is_node n x.node) xs
+
+-- some take that was sent assigns the address to the node
+abbrev pub IsAssigned : Address → ℕ → Placing → Type 0
+IsAssigned a n p = (number : ℕ) × (assigned : List Assigned) × (p.taken number ≡ Some assigned) × (assigns a n assigned ≡ true)

@@ -1,0 +1,59 @@
+-- Which clusters the registers describe.
+use Rattle.std.specs.Prelude.{◌≡◌, ◌≢◌, ◌↔◌, ℕ, ◌+◌, ◌≤◌, nat_lt, true, List, length, None, Some, is_some}
+use Rattle.std.specs.List.{list_any}
+use Rattle.ct_bytes.specs.declared.address.Address.{Address}
+use Rattle.ct_msg.specs.Config.{same_address}
+use Rattle.ct_msg.specs.declared.config.Config.{Config}
+use Rattle.ct_msg.specs.declared.config.DbKind.TheVariants.{Persistent}
+use Rattle.ct_frame.specs.declared.header.RecCopy.{RecCopy}
+use Rattle.ct_persist.specs.Persisted.{Persisted}
+use Rattle.ct_rules.specs.State.{for_reading}
+use Rattle.ct_rules_node.specs.Node.{state_at, db_at}
+use Rattle.ct_cluster.specs.Cluster as cluster
+use Rattle.ct_cluster.specs.Cluster.{Cluster, is_up, node_at}
+use Rattle.ct_register.specs.Register.{reading}
+use Rattle.ct_register.specs.Database.{Database, contents_after}
+use Rattle.ct_register.specs.Lines
+use Rattle.ct_register.specs.Lines.{Lines}
+use Rattle.ct_register.specs.Legal.{kind_at}
+
+-- a node has the number and the pairs of a database after its first j commits: all that are acknowledged, and all that the
+-- node has seen
+pub record IsAfter (j n : ℕ) (d : Database) (p : Persisted) : Type 0 where
+  pub number : p.seq ≡ d.seq + j
+  pub pairs : p.pairs ≡ contents_after j d
+  pub acked : d.acked ≤ j
+  pub seen : d.seen n ≤ j
+  pub within : j ≤ length d.commits
+
+-- the node has this copy of a record
+abbrev pub HasCopy : Cluster → ℕ → ℕ → List ℕ → RecCopy → Type 0
+HasCopy w n db key c = (state_at db key (node_at n w)).copy ≡ Some c
+
+-- the node holds the address
+abbrev pub HoldsAddress : Cluster → ℕ → Address → Type 0
+HoldsAddress w n a = list_any (same_address a) (node_at n w).held ≡ true
+
+-- the cluster stands for the registers
+pub record StandsFor (config : Config) (w : Cluster) (r : Lines) : Type 0 where
+  -- a running node has locked a record exactly where it owns it in its line
+  pub locks : (n db : ℕ) (key : List ℕ) → is_up n w ≡ true →
+      (is_some (state_at db key (node_at n w)).locked ≡ true) ↔ (r.line n ≢ 0) × ((r.records (r.line n) db key).owner ≡ Some n)
+  -- a copy whose data master is its own node has the reading as its value
+  pub masters : (n db : ℕ) (key : List ℕ) (c : RecCopy) → HasCopy w n db key c → c.header.dmaster ≡ n →
+      (r.line n ≢ 0) × (c.value ≡ reading (r.records (r.line n) db key).versions)
+  -- and no other running node of that line has such a copy
+  pub one_master : (n m db : ℕ) (key : List ℕ) (c d : RecCopy) → is_up m w ≡ true → r.line m ≡ r.line n → HasCopy w n db key c → c.header.dmaster ≡ n →
+      HasCopy w m db key d → d.header.dmaster ≡ m → m ≡ n
+  -- a read-only copy has the reading as its value, and nobody owns the record
+  pub readers : (n db : ℕ) (key : List ℕ) (c : RecCopy) → HasCopy w n db key c → c.header.flags ≡ for_reading →
+      (r.line n ≢ 0) × (c.value ≡ reading (r.records (r.line n) db key).versions) × ((r.records (r.line n) db key).owner ≡ None)
+  -- each node, running or not, has each persistent database as it was after some of its line's commits
+  pub databases : (n db : ℕ) → nat_lt n config.nodes ≡ true → kind_at config db ≡ Some Persistent →
+      (j : ℕ) × IsAfter j n (r.databases (r.pline n) db) (db_at db (node_at n w)).store
+  -- no two running nodes of one line hold the same address
+  pub addresses : (n m : ℕ) (a : Address) → is_up n w ≡ true → is_up m w ≡ true → r.line n ≢ 0 → r.line m ≡ r.line n → HoldsAddress w n a → HoldsAddress w m a → m ≡ n
+
+-- the cluster stands for the registers at the opening
+abbrev pub OpeningStands : Type 0
+OpeningStands = (config : Config) → StandsFor config (cluster.opening config) (Lines.opening config)

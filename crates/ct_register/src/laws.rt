@@ -1,0 +1,23 @@
+//! What follows of the registers alone.
+ghost use Rattle.ct_register.specs.Laws.{GoOnInOneWay};
+ghost use Rattle.ct_register.specs.Formed.{LegalIsFormed};
+ghost use Rattle.ct_register.specs.Stands.{OpeningStands};
+
+/// A label leaves no choice, unless it is of a birth or of a read of a persistent database.
+#[tactic(auto, using(crate::proofs::Ways::one_way))]
+pub fn go_on_in_one_way()
+    ensures { GoOnInOneWay }
+{}
+
+/// After every legal trace, who owns a record is in its line; lines, tickets and nodes are in order; and of each database at
+/// most one commit is not acknowledged.
+#[tactic(auto, using(crate::proofs::Formed::legal_is_formed))]
+pub fn legal_is_formed()
+    ensures { LegalIsFormed }
+{}
+
+/// At the opening the cluster stands for the registers.
+#[tactic(auto, using(crate::proofs::Opened::opening_stands))]
+pub fn opening_stands()
+    ensures { OpeningStands }
+{}

@@ -1,0 +1,9 @@
+mod Reached
+mod Rounds
+mod Births
+mod Bases
+mod Refusals
+mod Forgotten
+mod Placements
+mod Misplaced
+mod Marked
