@@ -3,3 +3,5 @@
 //! They stand in `specs/`: `Node` is the state, `Turn` the middle of a step, `Records` how the rule of one record is put
 //! into a node, and then `Clients`, `Databases`, `Rounds`, `Takeovers`, `Retries` and `Steps`.
 #![tactic(auto)]
+
+pub mod laws;
