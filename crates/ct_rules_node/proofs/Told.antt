@@ -4,7 +4,7 @@ use Rattle.std.proofs.lemmas.Bool.{lt-ltb}
 use Rattle.std.specs.Prelude.{map, slice_get}
 use Rattle.std.specs.declared.cmp.Ordering.{Ordering}
 use Rattle.std.specs.declared.cmp.Ordering.TheVariants.{Less, Equal, Greater}
-use Rattle.std.specs.Ordering.{is_eq, is_lt, nat_cmp, ordering_then}
+use Rattle.std.specs.Ordering.{is_eq, nat_cmp, ordering_then}
 use Rattle.std.specs.Cmp.{nat_cmp_total, tied_itself}
 use Rattle.std.specs.Cmp.Lexicographic.{slice_cmp}
 use Rattle.std.specs.FinMap.{nat_cmp-IsAntisymmetric}
@@ -26,7 +26,7 @@ use Rattle.ct_rules_node.specs.Node.{Database, or_nothing, or_untouched, untouch
 use Rattle.ct_rules_node.specs.Rounds.{row_of, rows_of, table_of, own_or_none}
 use Rattle.ct_rules_node.specs.Laws.{first_row, AllAscend, IsTable}
 use Rattle.ct_rules_node.proofs.Keys.{below_unseen}
-use Rattle.ct_rules_node.proofs.Installed.{place, row_is, same_db, same_key, same_number, own_key, own_place}
+use Rattle.ct_rules_node.proofs.Installed.{place, row_is, same_number, own_key}
 
 -- the row of a copy
 abbrev told_row : ℕ → ℕ → List ℕ → RecCopy → TableRow

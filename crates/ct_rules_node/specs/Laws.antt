@@ -1,15 +1,32 @@
 -- What follows for the rules of a node.
-use Rattle.std.specs.Prelude.{◌≡◌, ◌≢◌, ℕ, ◌+◌, ◌≤◌, ◌<◌, Bool, true, false, if◌then◌else◌, List, [], ◌∷◌, ◌++◌, length, Option, None, Some, slice_get}
-use Rattle.std.specs.List.{AllByRecursion}
+use Rattle.std.specs.Prelude.{◌≡◌, ◌≢◌, ℕ, ◌≤◌, ◌<◌, Bool, true, false, if◌then◌else◌, List, [], ◌∷◌, ◌++◌, length, Option, None, Some, slice_get}
+use Rattle.std.specs.List.{AllByRecursion, filter}
+use Rattle.ct_msg.specs.declared.config.Config.{Config}
 use Rattle.ct_frame.specs.Fields.{ascends, row_before}
+use Rattle.ct_frame.specs.declared.event.Event.{Event}
+use Rattle.ct_frame.specs.declared.event.Event.TheVariants as event
+use Rattle.ct_frame.specs.declared.event.Out.{Out}
+use Rattle.ct_frame.specs.declared.event.Out.TheVariants as out
+use Rattle.ct_frame.specs.declared.frame.Assigned.{Assigned}
+use Rattle.ct_frame.specs.declared.frame.Frame.{Frame}
+use Rattle.ct_frame.specs.declared.frame.Msg.TheVariants as msg
+use Rattle.ct_frame.specs.declared.frame.PTable.{PTable}
 use Rattle.ct_frame.specs.declared.frame.TableRow.{TableRow}
+use Rattle.ct_call.specs.Rules.{Rules}
+use Rattle.ct_deleg.specs.Tracked.{untracked}
 use Rattle.ct_merge.specs.Rule.{row_at}
 use Rattle.ct_store.specs.Map.{Pairs, Ascends, look}
-use Rattle.ct_rules.specs.State.{is_blank}
+use Rattle.ct_rules.specs.Form.{is_of_record}
+use Rattle.ct_rules.specs.Parts.{Moving}
+use Rattle.ct_rules.specs.State.{is_blank, is_mastered}
+use Rattle.ct_rules.specs.declared.event.Place.{Place}
 use Rattle.ct_rules.specs.declared.state.RecState.{RecState}
-use Rattle.ct_rules_node.specs.Node.{Database, master_of, or_nothing, or_untouched}
-use Rattle.ct_rules_node.specs.Records.{kept}
+use Rattle.ct_rules_node.specs.Node.{Node, Database, master_of, or_nothing, or_untouched, db_at, state_at, is_present, is_frozen_in}
+use Rattle.ct_rules_node.specs.Turn.{Turn}
+use Rattle.ct_rules_node.specs.Records.{kept, place_of, view, at_record}
+use Rattle.ct_rules_node.specs.Clients.{is_locked}
 use Rattle.ct_rules_node.specs.Rounds.{changed, bared, installed_state, install_rows, row_of, table_of}
+use Rattle.ct_rules_node.specs.Steps.{happens}
 
 -- ---- one key of a map
 
@@ -75,3 +92,68 @@ pub record IsTable (me : ℕ) (dbs : List Database) : Type 0 where
 
 abbrev pub TellsEach : Type 0
 TellsEach = (me : ℕ) (dbs : List Database) → AllAscend dbs → IsTable me dbs
+
+-- ---- one record's step
+
+-- the records of all databases of the node are in order
+abbrev pub NodeAscends : Node → Type 0
+NodeAscends n = AllAscend n.dbs
+
+-- what a part of the rules of one record leaves of its state
+abbrev pub left_by : Config → ℕ → ℕ → List ℕ → (Place → Moving → Moving) → Turn → Moving
+left_by c me db key part t = part (place_of c me db key t.node) (view db key t.node)
+
+-- a step at one record: it has the state that the part leaves, unless that is blank, and every other record what it had;
+-- the order stays
+pub record IsAtRecord (c : Config) (me db : ℕ) (key : List ℕ) (part : Place → Moving → Moving) (t : Turn) : Type 0 where
+  pub seen : db < length t.node.dbs → state_at db key (at_record c me db key part t).node ≡ or_nothing (unless_blank (left_by c me db key part t).state)
+  pub other_keys : (other : List ℕ) → other ≢ key → state_at db other (at_record c me db key part t).node ≡ state_at db other t.node
+  pub other_dbs : (other : ℕ) → other ≢ db → db_at other (at_record c me db key part t).node ≡ db_at other t.node
+  pub order : NodeAscends (at_record c me db key part t).node
+
+abbrev pub MovesOne : Type 0
+MovesOne = (c : Config) (me db : ℕ) (key : List ℕ) (part : Place → Moving → Moving) (t : Turn) → NodeAscends t.node → IsAtRecord c me db key part t
+
+-- a blank state without tracking is the one in which nothing is kept
+abbrev pub BlankIsNothing : Type 0
+BlankIsNothing = (s : RecState) → s.tracking ≡ untracked → or_nothing (unless_blank s) ≡ s
+
+-- ---- a whole step
+
+-- the first list is a front of the second
+unfoldable pub IsFront : List Out → List Out → Type 0
+IsFront before after = (more : List Out) × (after ≡ before ++ more)
+
+-- what grows alone: the promise, the next request number, what was spent, and what is done
+pub record TurnGrows (t u : Turn) : Type 0 where
+  pub promise : t.node.promise ≤ u.node.promise
+  pub next : t.node.next ≤ u.node.next
+  pub spent : t.spent ≡ true → u.spent ≡ true
+  pub outs : IsFront t.outs u.outs
+
+-- whatever comes, these grow alone
+abbrev pub GrowsAlone : Type 0
+GrowsAlone = (c : Config) (rules : Rules) (me : ℕ) (t : Turn) (e : Event) → TurnGrows t (happens c rules me t e)
+
+-- does the node send a message of a record?
+unfoldable pub sends_of_record : Out → Bool
+sends_of_record (out.Send f) = is_of_record f.msg
+sends_of_record _ = false
+
+-- the messages of records that a node sends
+unfoldable pub record_sends : List Out → List Out
+record_sends xs = filter sends_of_record xs
+
+-- a record that is locked here is held here
+unfoldable pub HoldsLocks : ℕ → Node → Type 0
+HoldsLocks me n = (db : ℕ) (key : List ℕ) → is_locked db key n ≡ true → is_mastered me (state_at db key n).copy ≡ true
+
+-- whatever comes to a node that is not present, it sends no message of a record
+abbrev pub QuietUnlessPresent : Type 0
+QuietUnlessPresent = (c : Config) (rules : Rules) (me : ℕ) (t : Turn) (e : Event) →
+    is_present t.node.phase ≡ false → HoldsLocks me t.node → record_sends (happens c rules me t e).outs ≡ record_sends t.outs
+
+-- a Push changes only a node that is frozen for its generation
+abbrev pub InstallsFrozenAlone : Type 0
+InstallsFrozenAlone = (c : Config) (rules : Rules) (me : ℕ) (t : Turn) (f : Frame) (members : List ℕ) (table : List TableRow) (ptables : List PTable) (assigned : List Assigned) →
+    f.msg ≡ msg.Push members table ptables assigned → is_frozen_in f.generation t.node.phase ≡ false → (happens c rules me t (event.Arrive f)).node ≡ t.node

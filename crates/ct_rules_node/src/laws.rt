@@ -1,5 +1,5 @@
 //! What follows for the rules of every node.
-ghost use Rattle.ct_rules_node.specs.Laws.{ChangesEach, KeepsOne, InstallsEach, TellsEach};
+ghost use Rattle.ct_rules_node.specs.Laws.{ChangesEach, KeepsOne, InstallsEach, TellsEach, MovesOne, BlankIsNothing, GrowsAlone, QuietUnlessPresent, InstallsFrozenAlone};
 
 /// A change of all states is seen at each key, and a state that is put at a key is seen there alone; both keep the order.
 pub fn changes_are_seen()
@@ -15,4 +15,26 @@ pub fn installs_each()
 /// The table that a node tells has at each database and key the row of its copy there, and its rows are in order.
 pub fn tells_each()
     ensures { TellsEach }
+{}
+
+/// A step at one record leaves there what the rule of the record says, unless that is blank, and leaves all others alone.
+pub fn moves_one()
+    ensures one { MovesOne }
+    ensures blank { BlankIsNothing }
+{}
+
+/// Whatever comes, the promise and the next request number do not fall, what is spent stays spent, and what the node did
+/// before stays before what it does now.
+pub fn grows_alone()
+    ensures { GrowsAlone }
+{}
+
+/// Whatever comes to a node that is not present, no message of a record is sent, where each locked record is held.
+pub fn quiet_unless_present()
+    ensures { QuietUnlessPresent }
+{}
+
+/// A Push changes no node but one that is frozen for its generation.
+pub fn installs_frozen_alone()
+    ensures { InstallsFrozenAlone }
 {}
