@@ -6,3 +6,4 @@ pub mod Steady
 pub mod Alone
 pub mod Growing
 pub mod Quiet
+pub mod Starting

@@ -21,7 +21,7 @@ use Rattle.ct_rules.specs.Parts.{Moving}
 use Rattle.ct_rules.specs.State.{is_blank, is_mastered}
 use Rattle.ct_rules.specs.declared.event.Place.{Place}
 use Rattle.ct_rules.specs.declared.state.RecState.{RecState}
-use Rattle.ct_rules_node.specs.Node.{Node, Database, master_of, or_nothing, or_untouched, db_at, state_at, is_present, is_frozen_in}
+use Rattle.ct_rules_node.specs.Node.{Node, Database, master_of, or_nothing, or_untouched, db_at, state_at, is_present, is_frozen_in, opening, restarted}
 use Rattle.ct_rules_node.specs.Turn.{Turn}
 use Rattle.ct_rules_node.specs.Records.{kept, place_of, view, at_record}
 use Rattle.ct_rules_node.specs.Clients.{is_locked}
@@ -134,6 +134,23 @@ pub record TurnGrows (t u : Turn) : Type 0 where
 -- whatever comes, these grow alone
 abbrev pub GrowsAlone : Type 0
 GrowsAlone = (c : Config) (rules : Rules) (me : ℕ) (t : Turn) (e : Event) → TurnGrows t (happens c rules me t e)
+
+-- what stays: there are as many databases, and their records are in order
+pub record StaysInOrder (t u : Turn) : Type 0 where
+  pub dbs : length u.node.dbs ≡ length t.node.dbs
+  pub order : NodeAscends t.node → NodeAscends u.node
+
+-- whatever comes, these stay
+abbrev pub KeepsOrder : Type 0
+KeepsOrder = (c : Config) (rules : Rules) (me : ℕ) (t : Turn) (e : Event) → StaysInOrder t (happens c rules me t e)
+
+-- at the opening there is a database for each of the configuration, and their records are in order
+abbrev pub StartsInOrder : Type 0
+StartsInOrder = (c : Config) (members : List ℕ) → (length (opening c members).dbs ≡ length c.dbs) × NodeAscends (opening c members)
+
+-- so it is after a stop, for as many databases as before
+abbrev pub RestartsInOrder : Type 0
+RestartsInOrder = (c : Config) (n : Node) → (length (restarted c n).dbs ≡ length n.dbs) × NodeAscends (restarted c n)
 
 -- does the node send a message of a record?
 unfoldable pub sends_of_record : Out → Bool

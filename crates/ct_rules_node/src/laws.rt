@@ -1,5 +1,5 @@
 //! What follows for the rules of every node.
-ghost use Rattle.ct_rules_node.specs.Laws.{ChangesEach, KeepsOne, InstallsEach, TellsEach, MovesOne, BlankIsNothing, GrowsAlone, QuietUnlessPresent, InstallsFrozenAlone};
+ghost use Rattle.ct_rules_node.specs.Laws.{ChangesEach, KeepsOne, InstallsEach, TellsEach, MovesOne, BlankIsNothing, GrowsAlone, KeepsOrder, StartsInOrder, RestartsInOrder, QuietUnlessPresent, InstallsFrozenAlone};
 
 /// A change of all states is seen at each key, and a state that is put at a key is seen there alone; both keep the order.
 pub fn changes_are_seen()
@@ -27,6 +27,14 @@ pub fn moves_one()
 /// before stays before what it does now.
 pub fn grows_alone()
     ensures { GrowsAlone }
+{}
+
+/// A node has a database for each of the configuration, with its records in order: so at the opening, after a stop, and
+/// whatever comes.
+pub fn keeps_order()
+    ensures opening { StartsInOrder }
+    ensures stop { RestartsInOrder }
+    ensures kept { KeepsOrder }
 {}
 
 /// Whatever comes to a node that is not present, no message of a record is sent, where each locked record is held.
