@@ -7,3 +7,4 @@ pub mod Alone
 pub mod Growing
 pub mod Quiet
 pub mod Starting
+pub mod Whole

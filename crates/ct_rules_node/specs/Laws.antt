@@ -21,11 +21,12 @@ use Rattle.ct_rules.specs.Parts.{Moving}
 use Rattle.ct_rules.specs.State.{is_blank, is_mastered}
 use Rattle.ct_rules.specs.declared.event.Place.{Place}
 use Rattle.ct_rules.specs.declared.state.RecState.{RecState}
-use Rattle.ct_rules_node.specs.Node.{Node, Database, master_of, or_nothing, or_untouched, db_at, state_at, is_present, is_frozen_in, opening, restarted}
+use Rattle.ct_rules_node.specs.Node.{Node, Database, master_of, or_nothing, or_untouched, db_at, state_at, is_present, is_frozen_in, opening, restarted_db, restarted}
 use Rattle.ct_rules_node.specs.Turn.{Turn}
 use Rattle.ct_rules_node.specs.Records.{kept, place_of, view, at_record}
-use Rattle.ct_rules_node.specs.Clients.{is_locked}
-use Rattle.ct_rules_node.specs.Rounds.{changed, bared, installed_state, install_rows, row_of, table_of}
+use Rattle.ct_rules_node.specs.Clients.{is_locked, any_locked}
+use Rattle.ct_rules_node.specs.Rounds.{changed, frozen_db, freezes, bared, installed_state, install_rows, installed_db, installed_node, row_of, table_of}
+use Rattle.ct_rules_node.specs.Admission.{is_sound}
 use Rattle.ct_rules_node.specs.Steps.{happens}
 
 -- ---- one key of a map
@@ -174,3 +175,32 @@ QuietUnlessPresent = (c : Config) (rules : Rules) (me : ℕ) (t : Turn) (e : Eve
 abbrev pub InstallsFrozenAlone : Type 0
 InstallsFrozenAlone = (c : Config) (rules : Rules) (me : ℕ) (t : Turn) (f : Frame) (members : List ℕ) (table : List TableRow) (ptables : List PTable) (assigned : List Assigned) →
     f.msg ≡ msg.Push members table ptables assigned → is_frozen_in f.generation t.node.phase ≡ false → (happens c rules me t (event.Arrive f)).node ≡ t.node
+
+-- ---- a whole node in a round
+
+-- Freeze: every database is changed by itself
+abbrev pub FreezesEach : Type 0
+FreezesEach = (g h db : ℕ) (t : Turn) → db_at db (freezes g h t).node ≡ frozen_db (db_at db t.node)
+
+-- a stop: every database is changed by itself
+abbrev pub RestartsEach : Type 0
+RestartsEach = (c : Config) (n : Node) (db : ℕ) → db_at db (restarted c n) ≡ restarted_db (db_at db n)
+
+-- Push: every database is changed by itself
+abbrev pub InstallsDbs : Type 0
+InstallsDbs = (c : Config) (me h g : ℕ) (members : List ℕ) (table : List TableRow) (ptables : List PTable) (assigned : List Assigned) (n : Node) (db : ℕ) →
+    db < length n.dbs → db_at db (installed_node c me h g members table ptables assigned n) ≡ installed_db me db members table ptables (db_at db n)
+
+-- a sound Push makes of a node that is frozen for its generation the node that has it installed
+abbrev pub InstallsFrozen : Type 0
+InstallsFrozen = (c : Config) (rules : Rules) (me : ℕ) (t : Turn) (f : Frame) (members : List ℕ) (table : List TableRow) (ptables : List PTable) (assigned : List Assigned) →
+    f.msg ≡ msg.Push members table ptables assigned → is_sound c f ≡ true → is_frozen_in f.generation t.node.phase ≡ true →
+    (happens c rules me t (event.Arrive f)).node ≡ installed_node c me f.sender f.generation members table ptables assigned t.node
+
+-- the test of a node for locks finds one where there is one, and none where there is none
+pub record SeesLocks (n : Node) : Type 0 where
+  pub all : any_locked n.dbs ≡ false → (db : ℕ) (key : List ℕ) → is_locked db key n ≡ false
+  pub one : any_locked n.dbs ≡ true → (db : ℕ) × (key : List ℕ) × (is_locked db key n ≡ true)
+
+abbrev pub TestsLocks : Type 0
+TestsLocks = (n : Node) → NodeAscends n → SeesLocks n

@@ -1,5 +1,5 @@
 //! What follows for the rules of every node.
-ghost use Rattle.ct_rules_node.specs.Laws.{ChangesEach, KeepsOne, InstallsEach, TellsEach, MovesOne, BlankIsNothing, GrowsAlone, KeepsOrder, StartsInOrder, RestartsInOrder, QuietUnlessPresent, InstallsFrozenAlone};
+ghost use Rattle.ct_rules_node.specs.Laws.{ChangesEach, KeepsOne, InstallsEach, TellsEach, MovesOne, BlankIsNothing, GrowsAlone, KeepsOrder, StartsInOrder, RestartsInOrder, QuietUnlessPresent, InstallsFrozenAlone, FreezesEach, RestartsEach, InstallsDbs, InstallsFrozen, TestsLocks};
 
 /// A change of all states is seen at each key, and a state that is put at a key is seen there alone; both keep the order.
 pub fn changes_are_seen()
@@ -45,4 +45,18 @@ pub fn quiet_unless_present()
 /// A Push changes no node but one that is frozen for its generation.
 pub fn installs_frozen_alone()
     ensures { InstallsFrozenAlone }
+{}
+
+/// A Freeze, a stop and an installation change every database by itself, and a sound Push makes of a node that is frozen
+/// for its generation the one that has it installed.
+pub fn rounds_change_nodes()
+    ensures freezes { FreezesEach }
+    ensures restarts { RestartsEach }
+    ensures installs { InstallsDbs }
+    ensures pushed { InstallsFrozen }
+{}
+
+/// A node that finds no lock has none, and one that finds a lock has one.
+pub fn tests_locks()
+    ensures { TestsLocks }
 {}
