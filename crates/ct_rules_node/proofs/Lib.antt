@@ -8,3 +8,4 @@ pub mod Growing
 pub mod Quiet
 pub mod Starting
 pub mod Whole
+pub mod Waiting

@@ -49,7 +49,7 @@ row_in_both db key (x ∷ xs) ys =
 
 -- ---- the rows of one database
 
-another_db : (a b : ℕ) → a ≢ b → is_eq (nat_cmp a b) ≡ false
+pub another_db : (a b : ℕ) → a ≢ b → is_eq (nat_cmp a b) ≡ false
 another_db a b n = elim (is_eq (nat_cmp a b)) as (λ t. is_eq (nat_cmp a b) ≡ t → t ≡ false) [ true ↦ λ e. absurd (n (nat_cmp-IsAntisymmetric a b (equal _ e))) | false ↦ λ e. refl ] refl
 
 skip_row : (db : ℕ) (key : List ℕ) (row : TableRow) (rest : List TableRow) → is_row_at db key row ≡ false → row_at db key (row ∷ rest) ≡ row_at db key rest

@@ -1,5 +1,7 @@
 -- What follows for the rules of a node.
-use Rattle.std.specs.Prelude.{◌≡◌, ◌≢◌, ℕ, ◌≤◌, ◌<◌, Bool, true, false, if◌then◌else◌, List, [], ◌∷◌, ◌++◌, length, Option, None, Some, slice_get}
+use Rattle.std.specs.Prelude.{◌≡◌, ◌≢◌, ℕ, ◌≤◌, ◌<◌, Bool, true, false, ◌&&◌, if◌then◌else◌, List, [], ◌∷◌, ◌++◌, length, Option, None, Some, slice_get}
+use Rattle.std.specs.BTreeMap.{is_at}
+use Rattle.std.specs.Ordering.{nat_cmp}
 use Rattle.std.specs.List.{AllByRecursion, filter}
 use Rattle.ct_msg.specs.declared.config.Config.{Config}
 use Rattle.ct_frame.specs.Fields.{ascends, row_before}
@@ -15,7 +17,7 @@ use Rattle.ct_frame.specs.declared.frame.TableRow.{TableRow}
 use Rattle.ct_call.specs.Rules.{Rules}
 use Rattle.ct_deleg.specs.Tracked.{untracked}
 use Rattle.ct_merge.specs.Rule.{row_at}
-use Rattle.ct_store.specs.Map.{Pairs, Ascends, look}
+use Rattle.ct_store.specs.Map.{Pairs, Ascends, key_cmp, look}
 use Rattle.ct_rules.specs.Form.{is_of_record}
 use Rattle.ct_rules.specs.Parts.{Moving}
 use Rattle.ct_rules.specs.State.{is_blank, is_mastered}
@@ -25,7 +27,7 @@ use Rattle.ct_rules_node.specs.Node.{Node, Database, master_of, or_nothing, or_u
 use Rattle.ct_rules_node.specs.Turn.{Turn}
 use Rattle.ct_rules_node.specs.Records.{kept, place_of, view, at_record}
 use Rattle.ct_rules_node.specs.Clients.{is_locked, any_locked}
-use Rattle.ct_rules_node.specs.Rounds.{changed, frozen_db, freezes, bared, installed_state, install_rows, installed_db, installed_node, row_of, table_of}
+use Rattle.ct_rules_node.specs.Rounds.{Called, called_of, pending_calls, changed, frozen_db, freezes, bared, installed_state, install_rows, installed_db, installed_node, row_of, table_of}
 use Rattle.ct_rules_node.specs.Admission.{is_sound}
 use Rattle.ct_rules_node.specs.Steps.{happens}
 
@@ -204,3 +206,13 @@ pub record SeesLocks (n : Node) : Type 0 where
 
 abbrev pub TestsLocks : Type 0
 TestsLocks = (n : Node) → NodeAscends n → SeesLocks n
+
+-- ---- the calls that wait
+
+-- does the call wait for this record?
+unfoldable pub is_called_at : ℕ → List ℕ → Called → Bool
+is_called_at db key x = is_at (nat_cmp db) x.db && is_at (key_cmp key) x.key
+
+-- Thaw and Retry: the calls that wait for a record are that of its wish
+abbrev pub CallsEach : Type 0
+CallsEach = (n : Node) → NodeAscends n → (db : ℕ) (key : List ℕ) → filter (is_called_at db key) (pending_calls n) ≡ called_of db key (state_at db key n).wish

@@ -1,5 +1,5 @@
 //! What follows for the rules of every node.
-ghost use Rattle.ct_rules_node.specs.Laws.{ChangesEach, KeepsOne, InstallsEach, TellsEach, MovesOne, BlankIsNothing, GrowsAlone, KeepsOrder, StartsInOrder, RestartsInOrder, QuietUnlessPresent, InstallsFrozenAlone, FreezesEach, RestartsEach, InstallsDbs, InstallsFrozen, TestsLocks};
+ghost use Rattle.ct_rules_node.specs.Laws.{ChangesEach, KeepsOne, InstallsEach, TellsEach, MovesOne, BlankIsNothing, GrowsAlone, KeepsOrder, StartsInOrder, RestartsInOrder, QuietUnlessPresent, InstallsFrozenAlone, FreezesEach, RestartsEach, InstallsDbs, InstallsFrozen, TestsLocks, CallsEach};
 
 /// A change of all states is seen at each key, and a state that is put at a key is seen there alone; both keep the order.
 pub fn changes_are_seen()
@@ -59,4 +59,9 @@ pub fn rounds_change_nodes()
 /// A node that finds no lock has none, and one that finds a lock has one.
 pub fn tests_locks()
     ensures { TestsLocks }
+{}
+
+/// The calls that wait at a node, by number, have for each record the call of its wish, and no other.
+pub fn calls_each()
+    ensures { CallsEach }
 {}
