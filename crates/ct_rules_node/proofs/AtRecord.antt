@@ -1,13 +1,17 @@
 -- A step at one record, seen at every record.
-use Rattle.std.proofs.Common.{◌≡◌, ◌≢◌, ℕ, zero, suc, ◌<◌, ◌≤◌, Bool, true, false, List, [], ◌∷◌, length, get_or, set, get_or-set_same, get_or-set_other, refl, sym, ◌∙◌, ap, arith}
+use Rattle.std.proofs.Common.{◌≡◌, ◌≢◌, ℕ, zero, suc, ◌<◌, ◌≤◌, Bool, true, false, cond, List, [], ◌∷◌, Option, Some, None, length, get_or, set, get_or-set_same, get_or-set_other, refl, sym, ◌∙◌, ap, arith}
 use Rattle.std.proofs.lemmas.Bool.{cond_both, ltb-true, ltb-false}
-use Rattle.std.specs.Prelude.{slice_get, nat_lt}
+use Rattle.std.specs.Prelude.{slice_get, nat_lt, is_none}
 use Rattle.std.specs.List.{AllByRecursion}
 use Rattle.ct_msg.specs.declared.config.Config.{Config}
-use Rattle.ct_deleg.specs.Tracked.{untracked}
+use Rattle.ct_deleg.specs.Tracked.{Tracked, untracked}
+use Rattle.ct_frame.specs.declared.header.RecCopy.{RecCopy}
 use Rattle.ct_store.specs.Map.{Ascends, look}
 use Rattle.ct_store.proofs.Maps.{empty_ascends}
+use Rattle.ct_rules.specs.Form.{IsInForm}
+use Rattle.ct_rules.specs.Laws.{TracksAsHolder}
 use Rattle.ct_rules.specs.Parts.{Moving}
+use Rattle.ct_rules.specs.State.{is_nil, is_mastered, is_quiet, is_blank}
 use Rattle.ct_rules.specs.declared.event.Place.{Place}
 use Rattle.ct_rules.specs.declared.state.RecState.{RecState}
 use Rattle.ct_rules_node.specs.Node.{Database, untouched, or_nothing, or_untouched, db_at, with_db, state_at}
@@ -71,3 +75,36 @@ moves_at c me db key part t h =
 pub blank_is_nothing : (s : RecState) → s.tracking ≡ untracked → or_nothing (unless_blank s) ≡ s
 unfolding or_nothing unless_blank
 blank_is_nothing s u = grind arith
+
+nil_is : (ns : List ℕ) → is_nil ns ≡ true → ns ≡ []
+nil_is [] e = refl
+nil_is (n ∷ ns) e = absurd (cc)
+
+none_is : {X : Type 0} (x : Option X) → is_none x ≡ true → x ≡ None
+none_is None e = refl
+none_is (Some x) e = absurd (cc)
+
+-- a fact whose failure wants a holder holds where there is no copy
+held_or_not : (me : ℕ) (copy : Option RecCopy) (b : Bool) → is_none copy ≡ true → (b ≡ false → is_mastered me copy ≡ true) → b ≡ true
+unfolding is_mastered
+held_or_not me None true n f = refl
+held_or_not me None false n f = f refl
+held_or_not me (Some c) b n f = absurd (cc)
+
+tracks_none : (me : ℕ) (copy : Option RecCopy) (t : Tracked) → is_none copy ≡ true → (is_nil t.tracked ≡ false → is_mastered me copy ≡ true) → (is_quiet t ≡ false → is_mastered me copy ≡ true) → t ≡ untracked
+unfolding is_quiet
+tracks_none me copy t n f g =
+    let a = nil_is t.tracked (held_or_not me copy (is_nil t.tracked) n f) in
+    let b = none_is t.revoking (held_or_not me copy (is_none t.revoking) n g) in
+    λ i. record { tracked = a i; revoking = b i }
+
+blank_copy : (s : RecState) → is_blank s ≡ true → is_none s.copy ≡ true
+blank_copy s e = grind arith
+
+pub formed_is_kept : (at : Place) (s : RecState) → IsInForm at s → TracksAsHolder at s.copy s.tracking s.vacuum → or_nothing (unless_blank s) ≡ s
+unfolding or_nothing unless_blank
+formed_is_kept at s f t =
+    elim (is_blank s) as (λ b. is_blank s ≡ b → or_nothing (cond b None (Some s)) ≡ s) [
+      | true ↦ λ e. (let u = tracks_none at.me s.copy s.tracking (blank_copy s e) t.tracked_held f.shape.revocation_held in ap (λ (b : Bool). or_nothing (cond b None (Some s))) (sym e) ∙ blank_is_nothing s u)
+      | false ↦ λ _. refl
+    ] refl

@@ -18,7 +18,8 @@ use Rattle.ct_call.specs.Rules.{Rules}
 use Rattle.ct_deleg.specs.Tracked.{untracked}
 use Rattle.ct_merge.specs.Rule.{row_at}
 use Rattle.ct_store.specs.Map.{Pairs, Ascends, key_cmp, look}
-use Rattle.ct_rules.specs.Form.{is_of_record}
+use Rattle.ct_rules.specs.Form.{IsInForm, is_of_record}
+use Rattle.ct_rules.specs.Laws.{TracksAsHolder}
 use Rattle.ct_rules.specs.Parts.{Moving}
 use Rattle.ct_rules.specs.State.{is_blank, is_mastered}
 use Rattle.ct_rules.specs.declared.event.Place.{Place}
@@ -120,6 +121,11 @@ MovesOne = (c : Config) (me db : ℕ) (key : List ℕ) (part : Place → Moving 
 -- a blank state without tracking is the one in which nothing is kept
 abbrev pub BlankIsNothing : Type 0
 BlankIsNothing = (s : RecState) → s.tracking ≡ untracked → or_nothing (unless_blank s) ≡ s
+
+-- nothing is lost of a state in form with tracking at the holder alone: where it is blank it is the one in which nothing
+-- is kept
+abbrev pub FormedIsKept : Type 0
+FormedIsKept = (at : Place) (s : RecState) → IsInForm at s → TracksAsHolder at s.copy s.tracking s.vacuum → or_nothing (unless_blank s) ≡ s
 
 -- ---- a whole step
 

@@ -1,5 +1,5 @@
 //! What follows for the rules of every node.
-ghost use Rattle.ct_rules_node.specs.Laws.{ChangesEach, KeepsOne, InstallsEach, TellsEach, MovesOne, BlankIsNothing, GrowsAlone, KeepsOrder, StartsInOrder, RestartsInOrder, QuietUnlessPresent, InstallsFrozenAlone, FreezesEach, RestartsEach, InstallsDbs, InstallsFrozen, TestsLocks, CallsEach};
+ghost use Rattle.ct_rules_node.specs.Laws.{ChangesEach, KeepsOne, InstallsEach, TellsEach, MovesOne, BlankIsNothing, FormedIsKept, GrowsAlone, KeepsOrder, StartsInOrder, RestartsInOrder, QuietUnlessPresent, InstallsFrozenAlone, FreezesEach, RestartsEach, InstallsDbs, InstallsFrozen, TestsLocks, CallsEach};
 
 /// A change of all states is seen at each key, and a state that is put at a key is seen there alone; both keep the order.
 pub fn changes_are_seen()
@@ -17,10 +17,12 @@ pub fn tells_each()
     ensures { TellsEach }
 {}
 
-/// A step at one record leaves there what the rule of the record says, unless that is blank, and leaves all others alone.
+/// A step at one record leaves there what the rule of the record says, unless that is blank, and leaves all others alone. A
+/// blank state in form is the one in which nothing is kept.
 pub fn moves_one()
     ensures one { MovesOne }
     ensures blank { BlankIsNothing }
+    ensures formed { FormedIsKept }
 {}
 
 /// Whatever comes, the promise and the next request number do not fall, what is spent stays spent, and what the node did
