@@ -8,3 +8,4 @@ pub mod Takeovers
 pub mod Retries
 pub mod Admission
 pub mod Steps
+pub mod Laws

@@ -1,0 +1,11 @@
+pub mod Keys
+pub mod Installed
+pub mod Told
+pub mod AtRecord
+pub mod Steady
+pub mod Alone
+pub mod Growing
+pub mod Quiet
+pub mod Starting
+pub mod Whole
+pub mod Waiting

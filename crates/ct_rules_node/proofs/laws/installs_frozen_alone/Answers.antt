@@ -1,0 +1,5 @@
+use Rattle.ct_rules_node.proofs.Alone.{pushed_alone}
+use Rattle.ct_rules_node.proofs.laws.installs_frozen_alone.Goals as goal
+
+pub returns : goal.returns
+returns c = pushed_alone

@@ -1,0 +1,5 @@
+use Rattle.ct_rules_node.proofs.Whole.{freezes_each, restarts_each, installs_dbs, installs_frozen}
+use Rattle.ct_rules_node.proofs.laws.rounds_change_nodes.Goals as goal
+
+pub returns : goal.returns
+returns c = record { freezes = freezes_each; restarts = restarts_each; installs = installs_dbs; pushed = installs_frozen }

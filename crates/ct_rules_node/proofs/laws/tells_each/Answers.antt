@@ -1,0 +1,5 @@
+use Rattle.ct_rules_node.proofs.Told.{tells_at}
+use Rattle.ct_rules_node.proofs.laws.tells_each.Goals as goal
+
+pub returns : goal.returns
+returns c = tells_at

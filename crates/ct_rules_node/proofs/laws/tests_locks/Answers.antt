@@ -1,0 +1,5 @@
+use Rattle.ct_rules_node.proofs.Whole.{sees_locks}
+use Rattle.ct_rules_node.proofs.laws.tests_locks.Goals as goal
+
+pub returns : goal.returns
+returns c = sees_locks
