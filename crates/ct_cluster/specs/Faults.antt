@@ -1,10 +1,10 @@
 -- Why a step is refused, apart from a number that would reach its limit.
-use Rattle.std.specs.Prelude.{ℕ, nat_eq, nat_lt, Bool, true, false, not, ◌&&◌, if◌then◌else◌, List, [], ◌∷◌, length, Option, None, Some, is_none}
+use Rattle.std.specs.Prelude.{ℕ, nat_eq, nat_lt, Bool, true, false, not, if◌then◌else◌, List, [], ◌∷◌, Option, None, Some, is_none}
 use Rattle.ct_msg.specs.declared.client.ClientOp.{ClientOp}
 use Rattle.ct_msg.specs.declared.client.ClientOp.TheVariants as op
 use Rattle.ct_msg.specs.declared.config.Config.{Config}
 use Rattle.ct_frame.specs.Fields.{ascends, is_one_to_sixteen}
-use Rattle.ct_rules_node.specs.Node.{Node, Lead, Completed, is_serving, is_persistent, is_among, kind_at}
+use Rattle.ct_rules_node.specs.Node.{Lead, Completed, is_serving, is_persistent, is_among, kind_at}
 use Rattle.ct_cluster.specs.Cluster.{Cluster, is_up, node_at, sent_at, is_waiting, is_delivered}
 use Rattle.ct_cluster.specs.declared.step.Step.{Step}
 use Rattle.ct_cluster.specs.declared.step.Step.TheVariants as step

@@ -1,23 +1,22 @@
 -- What a client's call is refused for, and what else comes of it.
-use Rattle.std.specs.Prelude.{ℕ, ◌+◌, ◌==◌, nat_eq, nat_lt, Bool, true, false, not, ◌&&◌, ◌||◌, if◌then◌else◌, List, [], ◌∷◌, length, Option, None, Some, is_none, is_some}
+use Rattle.std.specs.Prelude.{ℕ, ◌+◌, ◌==◌, nat_eq, Bool, true, false, not, ◌&&◌, ◌||◌, if◌then◌else◌, List, [], ◌∷◌, Option, None, Some, is_none, is_some}
 use Rattle.std.specs.List.{list_any}
 use Rattle.std.specs.Cmp.Lexicographic.{pointwise}
 use Rattle.ct_msg.specs.declared.client.Answer.TheVariants as answer
 use Rattle.ct_msg.specs.declared.client.ClientOp.{ClientOp}
 use Rattle.ct_msg.specs.declared.client.ClientOp.TheVariants as op
-use Rattle.ct_msg.specs.declared.client.Pair.{Pair}
 use Rattle.ct_msg.specs.declared.client.Why.{Why}
 use Rattle.ct_msg.specs.declared.client.Why.TheVariants as why
 use Rattle.ct_msg.specs.declared.config.Config.{Config}
 use Rattle.ct_frame.specs.declared.frame.Msg.TheVariants as msg
 use Rattle.ct_call.specs.Rules.{Rules, is_known}
-use Rattle.ct_store.specs.Map.{Pairs, look, has_room}
+use Rattle.ct_store.specs.Map.{Pairs, has_room}
 use Rattle.ct_persist.specs.Persisted.{fits}
 use Rattle.ct_rules.specs.Moves.{store, release, unlock}
 use Rattle.ct_rules.specs.Parts.{want}
 use Rattle.ct_rules.specs.declared.state.RecState.{RecState}
 use Rattle.ct_rules.specs.declared.state.Wish.{Wish}
-use Rattle.ct_rules_node.specs.Node.{Node, Phase, Freezing, Frozen, Database, Committing, is_serving, is_freezing, is_persistent, db_at, state_at, kind_at, name_of}
+use Rattle.ct_rules_node.specs.Node.{Node, Phase, Freezing, Frozen, Database, is_serving, is_freezing, is_persistent, db_at, state_at, kind_at, name_of}
 use Rattle.ct_rules_node.specs.Turn.{Turn, with_phase, makes, answers, posts}
 use Rattle.ct_rules_node.specs.Records.{at_record}
 use Rattle.ct_rules_node.specs.Databases.{commit, read_pair}

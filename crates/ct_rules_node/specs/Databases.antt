@@ -1,12 +1,12 @@
 -- Persistent databases: every member has the whole of each, and a commit is stored at all before it is acknowledged.
-use Rattle.std.specs.Prelude.{ℕ, ◌+◌, nat_le, Bool, if◌then◌else◌, List, [], ◌∷◌, Option, None, Some}
+use Rattle.std.specs.Prelude.{ℕ, ◌+◌, nat_le, if◌then◌else◌, List, [], ◌∷◌, Option, None, Some}
 use Rattle.ct_msg.specs.declared.client.Answer.TheVariants as answer
 use Rattle.ct_msg.specs.declared.client.Pair.{Pair}
 use Rattle.ct_frame.specs.declared.frame.Msg.TheVariants as msg
 use Rattle.ct_store.specs.Map.{look}
 use Rattle.ct_persist.specs.Persisted.{updated}
 use Rattle.ct_persist.specs.Commits.{begun, is_last, acknowledged}
-use Rattle.ct_rules_node.specs.Node.{Node, Database, Committing, db_at, with_db, without}
+use Rattle.ct_rules_node.specs.Node.{Committing, db_at, with_db, without}
 use Rattle.ct_rules_node.specs.Turn.{Turn, with_node, makes, answers, posts, posts_all}
 
 -- Update: the node's database after these writes under this number

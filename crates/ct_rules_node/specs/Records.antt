@@ -1,5 +1,5 @@
 -- How the rule of one record is put into a node: one key's view, and back.
-use Rattle.std.specs.Prelude.{ℕ, Bool, ◌||◌, if◌then◌else◌, List, [], ◌∷◌, ◌++◌, map}
+use Rattle.std.specs.Prelude.{ℕ, ◌||◌, if◌then◌else◌, List, ◌++◌, map}
 use Rattle.ct_msg.specs.declared.config.Config.{Config}
 use Rattle.ct_frame.specs.declared.event.Note.TheVariants as note
 use Rattle.ct_frame.specs.declared.event.Out.{Out}
@@ -12,7 +12,7 @@ use Rattle.ct_rules.specs.declared.event.Act.{Act}
 use Rattle.ct_rules.specs.declared.event.Act.TheVariants as act
 use Rattle.ct_rules.specs.declared.event.Place.{Place}
 use Rattle.ct_rules.specs.declared.state.RecState.{RecState}
-use Rattle.ct_rules_node.specs.Node.{Node, Database, db_at, with_db, state_at, master_of, kind_at, is_readonly}
+use Rattle.ct_rules_node.specs.Node.{Node, db_at, with_db, state_at, master_of, kind_at, is_readonly}
 use Rattle.ct_rules_node.specs.Turn.{Turn}
 
 -- State of a key: it is removed where it is blank, and else kept

@@ -1,5 +1,5 @@
 -- Rounds of recovery: a leader freezes the members, pulls what they hold, pushes what is made of it, and thaws them.
-use Rattle.std.specs.Prelude.{ℕ, ◌+◌, ◌==◌, nat_eq, nat_lt, Bool, true, false, not, ◌&&◌, ◌||◌, if◌then◌else◌, List, [], ◌∷◌, ◌++◌, map, Option, None, Some, is_none}
+use Rattle.std.specs.Prelude.{ℕ, ◌+◌, nat_eq, nat_lt, Bool, true, false, not, ◌&&◌, ◌||◌, if◌then◌else◌, List, [], ◌∷◌, ◌++◌, map, Option, None, Some}
 use Rattle.std.specs.List.{filter}
 use Rattle.ct_bytes.specs.declared.address.Address.{Address}
 use Rattle.ct_msg.specs.declared.client.Answer.TheVariants as answer
@@ -25,7 +25,7 @@ use Rattle.ct_rules.specs.declared.event.Place.{Place}
 use Rattle.ct_rules.specs.declared.state.Entry.{Entry}
 use Rattle.ct_rules.specs.declared.state.RecState.{RecState}
 use Rattle.ct_rules.specs.declared.state.Wish.{Wish}
-use Rattle.ct_rules_node.specs.Node.{Node, Phase, Serving, Installed, Freezing, Frozen, Database, Committing, Lead, Nothing, Freezes, Pulls, Installs, Completed, Takeover, NoRun, is_frozen_in, is_present_in, is_persistent, is_among, without, master_of, or_nothing, db_at, state_at, kind_at, name_of, holder_in, assigned_all}
+use Rattle.ct_rules_node.specs.Node.{Node, Phase, Serving, Installed, Freezing, Database, Committing, Lead, Nothing, Freezes, Pulls, Installs, Completed, Takeover, NoRun, is_frozen_in, is_present_in, is_persistent, is_among, without, master_of, or_nothing, state_at, kind_at, name_of, holder_in, assigned_all}
 use Rattle.ct_rules_node.specs.Turn.{Turn, with_node, with_lead, with_phase, makes, answers, notes, posts, posts_all}
 use Rattle.ct_rules_node.specs.Records.{with_state, at_record}
 use Rattle.ct_rules_node.specs.Databases.{with_commit}

@@ -1,5 +1,5 @@
 -- Takeover runs: the leader of a completed round places the addresses anew; all members release before any takes.
-use Rattle.std.specs.Prelude.{ℕ, ◌+◌, ◌==◌, nat_eq, nat_lt, Bool, true, false, not, ◌&&◌, if◌then◌else◌, List, [], ◌∷◌, Option, None, Some, is_some}
+use Rattle.std.specs.Prelude.{ℕ, ◌+◌, nat_eq, nat_lt, Bool, not, ◌&&◌, if◌then◌else◌, List, [], ◌∷◌, is_some}
 use Rattle.std.specs.List.{filter, list_any}
 use Rattle.ct_bytes.specs.declared.address.Address.{Address}
 use Rattle.ct_msg.specs.declared.config.Config.{Config}
@@ -9,9 +9,9 @@ use Rattle.ct_frame.specs.declared.frame.Assigned.{Assigned}
 use Rattle.ct_frame.specs.declared.frame.Msg.TheVariants as msg
 use Rattle.ct_frame.specs.Fields.{address_before}
 use Rattle.ct_lcp2.specs.Placing.{placed}
-use Rattle.ct_rules_node.specs.Node.{Node, Lead, Nothing, Freezes, Pulls, Installs, Completed, Takeover, Run, NoRun, Releasing, Taking, is_serving, is_among, without, assigned_all}
+use Rattle.ct_rules_node.specs.Node.{Lead, Completed, Takeover, Run, Releasing, Taking, is_serving, is_among, without, assigned_all}
 use Rattle.ct_rules_node.specs.Turn.{Turn, with_node, with_lead, makes, notes, posts, posts_all}
-use Rattle.ct_rules_node.specs.Rounds.{is_at, is_own, releases}
+use Rattle.ct_rules_node.specs.Rounds.{is_at, releases}
 
 -- the addresses that a placement gives to a node
 unfoldable pub share : ℕ → List Assigned → List Address

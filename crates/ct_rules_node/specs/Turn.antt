@@ -4,7 +4,6 @@ use Rattle.ct_msg.specs.declared.client.Answer.{Answer}
 use Rattle.ct_frame.specs.declared.event.Note.{Note}
 use Rattle.ct_frame.specs.declared.event.Out.{Out}
 use Rattle.ct_frame.specs.declared.event.Out.TheVariants as out
-use Rattle.ct_frame.specs.declared.frame.Frame.{Frame}
 use Rattle.ct_frame.specs.declared.frame.Msg.{Msg}
 use Rattle.ct_rules_node.specs.Node.{Node, Lead, Phase}
 

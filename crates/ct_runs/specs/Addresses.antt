@@ -1,12 +1,10 @@
 -- Public addresses.
-use Rattle.std.specs.Prelude.{ℕ, true, false, List, [], ◌∷◌, codes, Option, None, Some}
+use Rattle.std.specs.Prelude.{true, false, [], ◌∷◌, codes, Some}
 use Rattle.ct_bytes.specs.declared.address.Address.TheVariants.{V4}
 use Rattle.ct_msg.specs.Config.{lock_db}
-use Rattle.ct_msg.specs.declared.config.Config.{Config}
-use Rattle.ct_msg.specs.declared.config.DbKind.TheVariants.{Volatile, ReadOnly, Persistent}
+use Rattle.ct_msg.specs.declared.config.DbKind.TheVariants.{Volatile, Persistent}
 use Rattle.ct_msg.specs.declared.client.Answer.TheVariants as answer
 use Rattle.ct_msg.specs.declared.client.ClientOp.TheVariants as op
-use Rattle.ct_msg.specs.declared.client.Why.TheVariants as why
 use Rattle.ct_frame.specs.declared.event.Note.TheVariants as note
 use Rattle.ct_frame.specs.declared.frame.CallKind.TheVariants as kind
 use Rattle.ct_frame.specs.declared.frame.Msg.TheVariants as msg
@@ -40,7 +38,7 @@ Takeover = Prints (record { nodes = 2; dbs = lock_db ∷ []; addresses = V4 1677
     step.Deliver 19 ∷
     step.Deliver 20 ∷
     []
-  ) (
+    ) (
     line.Ticket 2 0 ∷
     sent 1 0 0 2 (msg.Freeze (0 ∷ 1 ∷ [])) ∷
     sent 2 0 1 2 (msg.Freeze (0 ∷ 1 ∷ [])) ∷
@@ -70,7 +68,7 @@ Takeover = Prints (record { nodes = 2; dbs = lock_db ∷ []; addresses = V4 1677
     line.Noted 0 (note.Took (V4 167772161)) ∷
     line.Noted 1 (note.Took (V4 167772162)) ∷
     []
-  )
+    )
 
 -- an address leaves a node that is not able, and fails back
 abbrev pub Failback : Type 0
@@ -114,7 +112,7 @@ Failback = Prints (record { nodes = 2; dbs = lock_db ∷ []; addresses = V4 1677
     step.Deliver 31 ∷
     step.Deliver 32 ∷
     []
-  ) (
+    ) (
     line.Ticket 2 0 ∷
     sent 1 0 0 2 (msg.Freeze (0 ∷ 1 ∷ [])) ∷
     sent 2 0 1 2 (msg.Freeze (0 ∷ 1 ∷ [])) ∷
@@ -160,7 +158,7 @@ Failback = Prints (record { nodes = 2; dbs = lock_db ∷ []; addresses = V4 1677
     sent 32 0 1 2 (msg.Take 3 (record { address = V4 167772161; node = Some 1 } ∷ record { address = V4 167772162; node = Some 0 } ∷ [])) ∷
     line.Noted 1 (note.Took (V4 167772161)) ∷
     []
-  )
+    )
 
 -- a session with a round, a takeover, a commit, a write and reads
 abbrev pub Session : Type 0
@@ -216,7 +214,7 @@ Session = Prints (record { nodes = 3; dbs = lock_db ∷ a_db (codes "locking.tdb
     step.Deliver 42 ∷
     step.Client 0 (op.Read 2 (codes "SID")) ∷
     []
-  ) (
+    ) (
     line.Ticket 2 0 ∷
     sent 1 0 0 2 (msg.Freeze (0 ∷ 1 ∷ 2 ∷ [])) ∷
     sent 2 0 1 2 (msg.Freeze (0 ∷ 1 ∷ 2 ∷ [])) ∷
@@ -277,4 +275,4 @@ Session = Prints (record { nodes = 3; dbs = lock_db ∷ a_db (codes "locking.tdb
     line.Answered 5 (answer.Read (codes "open")) ∷
     line.Answered 6 (answer.Read (codes "S-1-5")) ∷
     []
-  )
+    )

@@ -1,14 +1,11 @@
 -- Persistent databases.
-use Rattle.std.specs.Prelude.{ℕ, true, false, List, [], ◌∷◌, codes, Option, None, Some}
-use Rattle.ct_bytes.specs.declared.address.Address.TheVariants.{V4}
+use Rattle.std.specs.Prelude.{[], ◌∷◌, codes, Some}
 use Rattle.ct_msg.specs.Config.{lock_db}
-use Rattle.ct_msg.specs.declared.config.Config.{Config}
-use Rattle.ct_msg.specs.declared.config.DbKind.TheVariants.{Volatile, ReadOnly, Persistent}
+use Rattle.ct_msg.specs.declared.config.DbKind.TheVariants.{Persistent}
 use Rattle.ct_msg.specs.declared.client.Answer.TheVariants as answer
 use Rattle.ct_msg.specs.declared.client.ClientOp.TheVariants as op
 use Rattle.ct_msg.specs.declared.client.Why.TheVariants as why
 use Rattle.ct_frame.specs.declared.event.Note.TheVariants as note
-use Rattle.ct_frame.specs.declared.frame.CallKind.TheVariants as kind
 use Rattle.ct_frame.specs.declared.frame.Msg.TheVariants as msg
 use Rattle.ct_runs.specs.Examples.{Prints, a_db, sent}
 use Rattle.ct_cluster.specs.declared.step.Line.TheVariants as line
@@ -23,14 +20,14 @@ CommitUnderLock = Prints (record { nodes = 1; dbs = lock_db ∷ a_db (codes "b")
     step.Client 0 (op.Commit 1 (record { key = codes "k"; value = codes "v" } ∷ record { key = codes "k"; value = [] } ∷ [])) ∷
     step.Client 0 (op.Read 1 (codes "k")) ∷
     []
-  ) (
+    ) (
     line.Answered 1 (answer.Refused why.NotLocked) ∷
     line.Answered 2 (answer.Refused why.WrongKind) ∷
     line.Answered 3 (answer.Locked []) ∷
     line.Answered 4 (answer.Committed 1) ∷
     line.Answered 5 (answer.Read []) ∷
     []
-  )
+    )
 
 -- of databases that two disjoint rounds changed, the one of the newer generation is taken
 abbrev pub DisjointRounds : Type 0
@@ -76,7 +73,7 @@ DisjointRounds = Prints (record { nodes = 2; dbs = lock_db ∷ a_db (codes "b") 
     step.Deliver 28 ∷
     step.Client 0 (op.Read 1 (codes "k")) ∷
     []
-  ) (
+    ) (
     line.Ticket 2 0 ∷
     sent 1 0 0 2 (msg.Freeze (0 ∷ [])) ∷
     sent 2 0 0 2 msg.FreezeAck ∷
@@ -129,7 +126,7 @@ DisjointRounds = Prints (record { nodes = 2; dbs = lock_db ∷ a_db (codes "b") 
     line.Noted 1 (note.Thawed 4) ∷
     line.Answered 8 (answer.Read (codes "2")) ∷
     []
-  )
+    )
 
 -- a commit that a freeze meets is unsure, and its lock ends
 abbrev pub FreezeDuringCommit : Type 0
@@ -154,7 +151,7 @@ FreezeDuringCommit = Prints (record { nodes = 2; dbs = lock_db ∷ a_db (codes "
     step.Deliver 15 ∷
     step.Client 1 (op.Read 1 (codes "k")) ∷
     []
-  ) (
+    ) (
     line.Answered 1 (answer.Locked []) ∷
     sent 1 0 1 1 (msg.PUpdate 1 1 (record { key = codes "k"; value = codes "v" } ∷ [])) ∷
     line.Ticket 2 1 ∷
@@ -181,4 +178,4 @@ FreezeDuringCommit = Prints (record { nodes = 2; dbs = lock_db ∷ a_db (codes "
     line.Noted 1 (note.Thawed 2) ∷
     line.Answered 3 (answer.Read (codes "v")) ∷
     []
-  )
+    )

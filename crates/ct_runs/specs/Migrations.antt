@@ -1,13 +1,10 @@
 -- Records that move between nodes, with the messages that bring them.
-use Rattle.std.specs.Prelude.{ℕ, true, false, List, [], ◌∷◌, codes, Option, None, Some}
-use Rattle.ct_bytes.specs.declared.address.Address.TheVariants.{V4}
+use Rattle.std.specs.Prelude.{[], ◌∷◌, codes}
 use Rattle.ct_msg.specs.Config.{lock_db}
-use Rattle.ct_msg.specs.declared.config.Config.{Config}
-use Rattle.ct_msg.specs.declared.config.DbKind.TheVariants.{Volatile, ReadOnly, Persistent}
+use Rattle.ct_msg.specs.declared.config.DbKind.TheVariants.{Volatile}
 use Rattle.ct_msg.specs.declared.client.Answer.TheVariants as answer
 use Rattle.ct_msg.specs.declared.client.ClientOp.TheVariants as op
 use Rattle.ct_msg.specs.declared.client.Why.TheVariants as why
-use Rattle.ct_frame.specs.declared.event.Note.TheVariants as note
 use Rattle.ct_frame.specs.declared.frame.CallKind.TheVariants as kind
 use Rattle.ct_frame.specs.declared.frame.Msg.TheVariants as msg
 use Rattle.ct_runs.specs.Examples.{Prints, a_db, sent}
@@ -22,13 +19,13 @@ LockOnOneNode = Prints (record { nodes = 1; dbs = lock_db ∷ a_db (codes "t") V
     step.Client 0 (op.Unlock 1 (codes "k")) ∷
     step.Client 0 (op.Read 1 (codes "k")) ∷
     []
-  ) (
+    ) (
     line.Answered 1 (answer.Locked []) ∷
     line.Answered 2 (answer.Stored) ∷
     line.Answered 3 (answer.Unlocked) ∷
     line.Answered 4 (answer.Read (codes "v1")) ∷
     []
-  )
+    )
 
 -- a lock at a node that is not the location master is answered after four messages
 abbrev pub FirstLock : Type 0
@@ -39,14 +36,14 @@ FirstLock = Prints (record { nodes = 2; dbs = lock_db ∷ a_db (codes "t") Volat
     step.Deliver 3 ∷
     step.Deliver 4 ∷
     []
-  ) (
+    ) (
     sent 1 1 0 1 (msg.Call 1 (codes "b") 1 kind.Lock) ∷
     sent 2 0 0 1 (msg.Recall 1 (codes "b") 0 1 1 kind.Lock) ∷
     sent 3 0 0 1 (msg.Give 1 (codes "b") 0 []) ∷
     sent 4 0 1 1 (msg.Pass 1 (codes "b") 1 0 []) ∷
     line.Answered 1 (answer.Locked []) ∷
     []
-  )
+    )
 
 -- a record moves from the node that locked it to the next one that wants it, under the next RSN
 abbrev pub RecordMoves : Type 0
@@ -64,7 +61,7 @@ RecordMoves = Prints (record { nodes = 3; dbs = lock_db ∷ a_db (codes "t") Vol
     step.Deliver 7 ∷
     step.Deliver 8 ∷
     []
-  ) (
+    ) (
     sent 1 0 1 1 (msg.Call 1 (codes "a") 1 kind.Lock) ∷
     sent 2 1 1 1 (msg.Recall 1 (codes "a") 0 0 1 kind.Lock) ∷
     sent 3 1 1 1 (msg.Give 1 (codes "a") 0 []) ∷
@@ -78,7 +75,7 @@ RecordMoves = Prints (record { nodes = 3; dbs = lock_db ∷ a_db (codes "t") Vol
     sent 8 1 2 1 (msg.Pass 1 (codes "a") 1 1 (codes "x")) ∷
     line.Answered 4 (answer.Locked (codes "x")) ∷
     []
-  )
+    )
 
 -- a pass that comes again changes nothing, and a record that nobody wishes for any more is refused and kept
 abbrev pub RepeatedPass : Type 0
@@ -103,7 +100,7 @@ RepeatedPass = Prints (record { nodes = 3; dbs = lock_db ∷ a_db (codes "t") Vo
     step.Deliver 11 ∷
     step.Deliver 12 ∷
     []
-  ) (
+    ) (
     sent 1 0 1 1 (msg.Call 1 (codes "a") 1 kind.Lock) ∷
     sent 2 1 1 1 (msg.Recall 1 (codes "a") 0 0 1 kind.Lock) ∷
     sent 3 1 1 1 (msg.Give 1 (codes "a") 0 []) ∷
@@ -122,7 +119,7 @@ RepeatedPass = Prints (record { nodes = 3; dbs = lock_db ∷ a_db (codes "t") Vo
     sent 11 1 0 1 (msg.Pass 1 (codes "a") 1 2 (codes "x")) ∷
     sent 12 0 1 1 (msg.Refuse 1 (codes "a") 1 2) ∷
     []
-  )
+    )
 
 -- a pass that is lost is sent again once the call is
 abbrev pub LostPass : Type 0
@@ -137,7 +134,7 @@ LostPass = Prints (record { nodes = 2; dbs = lock_db ∷ a_db (codes "t") Volati
     step.Deliver 6 ∷
     step.Deliver 7 ∷
     []
-  ) (
+    ) (
     sent 1 1 0 1 (msg.Call 1 (codes "b") 1 kind.Lock) ∷
     sent 2 0 0 1 (msg.Recall 1 (codes "b") 0 1 1 kind.Lock) ∷
     sent 3 0 0 1 (msg.Give 1 (codes "b") 0 []) ∷
@@ -147,7 +144,7 @@ LostPass = Prints (record { nodes = 2; dbs = lock_db ∷ a_db (codes "t") Volati
     sent 7 0 1 1 (msg.Pass 1 (codes "b") 1 0 []) ∷
     line.Answered 1 (answer.Locked []) ∷
     []
-  )
+    )
 
 -- a function that no table has is refused, and one that a table has is applied
 abbrev pub Functions : Type 0
@@ -162,7 +159,7 @@ Functions = Prints (record { nodes = 2; dbs = lock_db ∷ a_db (codes "t") Volat
     step.Deliver 5 ∷
     step.Client 1 (op.Read 1 (codes "b")) ∷
     []
-  ) (
+    ) (
     line.Answered 1 (answer.Refused why.NoSuchCall) ∷
     sent 1 1 0 1 (msg.Call 1 (codes "b") 1 kind.Lock) ∷
     sent 2 0 0 1 (msg.Recall 1 (codes "b") 0 1 1 kind.Lock) ∷
@@ -172,4 +169,4 @@ Functions = Prints (record { nodes = 2; dbs = lock_db ∷ a_db (codes "t") Volat
     sent 5 0 1 1 (msg.Pass 1 (codes "b") 1 0 []) ∷
     line.Answered 3 (answer.Read (codes "x")) ∷
     []
-  )
+    )

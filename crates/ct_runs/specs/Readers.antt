@@ -1,13 +1,9 @@
 -- Copies for reading, and how they are called in.
-use Rattle.std.specs.Prelude.{ℕ, true, false, List, [], ◌∷◌, codes, Option, None, Some}
-use Rattle.ct_bytes.specs.declared.address.Address.TheVariants.{V4}
+use Rattle.std.specs.Prelude.{[], ◌∷◌, codes}
 use Rattle.ct_msg.specs.Config.{lock_db}
-use Rattle.ct_msg.specs.declared.config.Config.{Config}
-use Rattle.ct_msg.specs.declared.config.DbKind.TheVariants.{Volatile, ReadOnly, Persistent}
+use Rattle.ct_msg.specs.declared.config.DbKind.TheVariants.{ReadOnly}
 use Rattle.ct_msg.specs.declared.client.Answer.TheVariants as answer
 use Rattle.ct_msg.specs.declared.client.ClientOp.TheVariants as op
-use Rattle.ct_msg.specs.declared.client.Why.TheVariants as why
-use Rattle.ct_frame.specs.declared.event.Note.TheVariants as note
 use Rattle.ct_frame.specs.declared.frame.CallKind.TheVariants as kind
 use Rattle.ct_frame.specs.declared.frame.Msg.TheVariants as msg
 use Rattle.ct_runs.specs.Examples.{Prints, a_db, sent}
@@ -27,7 +23,7 @@ CopyForReading = Prints (record { nodes = 2; dbs = lock_db ∷ a_db (codes "r") 
     step.Deliver 4 ∷
     step.Client 0 (op.Read 1 (codes "a")) ∷
     []
-  ) (
+    ) (
     line.Answered 1 (answer.Locked []) ∷
     line.Answered 2 (answer.Stored) ∷
     line.Answered 3 (answer.Unlocked) ∷
@@ -38,7 +34,7 @@ CopyForReading = Prints (record { nodes = 2; dbs = lock_db ∷ a_db (codes "r") 
     line.Answered 4 (answer.Read (codes "x")) ∷
     line.Answered 5 (answer.Read (codes "x")) ∷
     []
-  )
+    )
 
 -- a lock waits until every copy for reading is called in; a reader then asks anew
 abbrev pub CopiesAreCalledIn : Type 0
@@ -69,7 +65,7 @@ CopiesAreCalledIn = Prints (record { nodes = 3; dbs = lock_db ∷ a_db (codes "r
     step.Deliver 15 ∷
     step.Deliver 16 ∷
     []
-  ) (
+    ) (
     line.Answered 1 (answer.Locked []) ∷
     line.Answered 2 (answer.Stored) ∷
     line.Answered 3 (answer.Unlocked) ∷
@@ -96,7 +92,7 @@ CopiesAreCalledIn = Prints (record { nodes = 3; dbs = lock_db ∷ a_db (codes "r
     sent 16 1 1 1 (msg.Done 1 (codes "a") 0 2) ∷
     line.Answered 7 (answer.Read (codes "y")) ∷
     []
-  )
+    )
 
 -- a grant that comes after the revocation it raced with is ignored
 abbrev pub LateGrant : Type 0
@@ -112,7 +108,7 @@ LateGrant = Prints (record { nodes = 3; dbs = lock_db ∷ a_db (codes "r") ReadO
     step.Deliver 3 ∷
     step.Deliver 6 ∷
     []
-  ) (
+    ) (
     line.Answered 1 (answer.Locked []) ∷
     line.Answered 2 (answer.Stored) ∷
     line.Answered 3 (answer.Unlocked) ∷
@@ -125,4 +121,4 @@ LateGrant = Prints (record { nodes = 3; dbs = lock_db ∷ a_db (codes "r") ReadO
     sent 7 0 1 1 (msg.Call 1 (codes "a") 2 kind.Read) ∷
     line.Answered 5 (answer.Locked (codes "x")) ∷
     []
-  )
+    )

@@ -1,9 +1,7 @@
 -- Rounds of recovery.
-use Rattle.std.specs.Prelude.{ℕ, true, false, List, [], ◌∷◌, codes, Option, None, Some}
-use Rattle.ct_bytes.specs.declared.address.Address.TheVariants.{V4}
+use Rattle.std.specs.Prelude.{[], ◌∷◌, codes, None, Some}
 use Rattle.ct_msg.specs.Config.{lock_db}
-use Rattle.ct_msg.specs.declared.config.Config.{Config}
-use Rattle.ct_msg.specs.declared.config.DbKind.TheVariants.{Volatile, ReadOnly, Persistent}
+use Rattle.ct_msg.specs.declared.config.DbKind.TheVariants.{Volatile, ReadOnly}
 use Rattle.ct_msg.specs.declared.client.Answer.TheVariants as answer
 use Rattle.ct_msg.specs.declared.client.ClientOp.TheVariants as op
 use Rattle.ct_msg.specs.declared.client.Why.TheVariants as why
@@ -54,7 +52,7 @@ RoundEndsVacuum = Prints (record { nodes = 3; dbs = lock_db ∷ a_db (codes "t")
     step.Deliver 26 ∷
     step.Deliver 27 ∷
     []
-  ) (
+    ) (
     sent 1 0 1 1 (msg.Call 1 (codes "a") 1 kind.Lock) ∷
     sent 2 1 1 1 (msg.Recall 1 (codes "a") 0 0 1 kind.Lock) ∷
     sent 3 1 1 1 (msg.Give 1 (codes "a") 0 []) ∷
@@ -95,7 +93,7 @@ RoundEndsVacuum = Prints (record { nodes = 3; dbs = lock_db ∷ a_db (codes "t")
     sent 27 2 2 2 (msg.Pass 1 (codes "a") 1 3 []) ∷
     line.Answered 5 (answer.Read []) ∷
     []
-  )
+    )
 
 -- a round of members of different generations takes the records of the newest one
 abbrev pub DifferentBases : Type 0
@@ -141,7 +139,7 @@ DifferentBases = Prints (record { nodes = 2; dbs = lock_db ∷ a_db (codes "t") 
     step.Deliver 28 ∷
     step.Deliver 29 ∷
     []
-  ) (
+    ) (
     sent 1 1 0 1 (msg.Call 1 (codes "b") 1 kind.Lock) ∷
     sent 2 0 0 1 (msg.Recall 1 (codes "b") 0 1 1 kind.Lock) ∷
     sent 3 0 0 1 (msg.Give 1 (codes "b") 0 []) ∷
@@ -191,7 +189,7 @@ DifferentBases = Prints (record { nodes = 2; dbs = lock_db ∷ a_db (codes "t") 
     sent 29 0 1 3 (msg.Pass 1 (codes "b") 2 2 (codes "z")) ∷
     line.Answered 9 (answer.Read (codes "z")) ∷
     []
-  )
+    )
 
 -- a round that is broken off by the stop of its leader is followed by another one
 abbrev pub BrokenOffRound : Type 0
@@ -238,7 +236,7 @@ BrokenOffRound = Prints (record { nodes = 3; dbs = lock_db ∷ a_db (codes "t") 
     step.Deliver 33 ∷
     step.Deliver 34 ∷
     []
-  ) (
+    ) (
     line.Answered 1 (answer.Locked []) ∷
     line.Answered 2 (answer.Stored) ∷
     line.Answered 3 (answer.Unlocked) ∷
@@ -290,7 +288,7 @@ BrokenOffRound = Prints (record { nodes = 3; dbs = lock_db ∷ a_db (codes "t") 
     sent 34 2 2 3 (msg.Pass 1 (codes "a") 1 2 (codes "x")) ∷
     line.Answered 4 (answer.Read (codes "x")) ∷
     []
-  )
+    )
 
 -- a node that stopped and started takes no part in the round that it promised
 abbrev pub RestartedNode : Type 0
@@ -313,7 +311,7 @@ RestartedNode = Prints (record { nodes = 1; dbs = lock_db ∷ a_db (codes "t") V
     step.Repeat 7 ∷
     step.Client 0 (op.Lock 1 (codes "k")) ∷
     []
-  ) (
+    ) (
     line.Answered 1 (answer.Locked []) ∷
     line.Answered 2 (answer.Stored) ∷
     line.Answered 3 (answer.Unlocked) ∷
@@ -332,7 +330,7 @@ RestartedNode = Prints (record { nodes = 1; dbs = lock_db ∷ a_db (codes "t") V
     line.Started 0 ∷
     line.Answered 4 (answer.Refused why.NotServing) ∷
     []
-  )
+    )
 
 -- a member that was data master stays so after a round
 abbrev pub SurvivingMaster : Type 0
@@ -361,7 +359,7 @@ SurvivingMaster = Prints (record { nodes = 2; dbs = lock_db ∷ a_db (codes "t")
     step.Deliver 18 ∷
     step.Client 1 (op.Lock 1 (codes "b")) ∷
     []
-  ) (
+    ) (
     sent 1 1 0 1 (msg.Call 1 (codes "b") 1 kind.Lock) ∷
     sent 2 0 0 1 (msg.Recall 1 (codes "b") 0 1 1 kind.Lock) ∷
     sent 3 0 0 1 (msg.Give 1 (codes "b") 0 []) ∷
@@ -391,7 +389,7 @@ SurvivingMaster = Prints (record { nodes = 2; dbs = lock_db ∷ a_db (codes "t")
     line.Noted 1 (note.Thawed 2) ∷
     line.Answered 4 (answer.Locked (codes "x")) ∷
     []
-  )
+    )
 
 -- a copy at its own data master is taken before a copy for reading of the same RSN
 abbrev pub MasterBeforeReader : Type 0
@@ -420,7 +418,7 @@ MasterBeforeReader = Prints (record { nodes = 2; dbs = lock_db ∷ a_db (codes "
     step.Deliver 17 ∷
     step.Deliver 18 ∷
     []
-  ) (
+    ) (
     line.Answered 1 (answer.Locked []) ∷
     line.Answered 2 (answer.Stored) ∷
     line.Answered 3 (answer.Unlocked) ∷
@@ -450,4 +448,4 @@ MasterBeforeReader = Prints (record { nodes = 2; dbs = lock_db ∷ a_db (codes "
     line.Noted 0 (note.Thawed 2) ∷
     line.Noted 1 (note.Thawed 2) ∷
     []
-  )
+    )

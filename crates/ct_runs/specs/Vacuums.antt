@@ -1,12 +1,9 @@
 -- Deleted records are removed everywhere.
-use Rattle.std.specs.Prelude.{ℕ, true, false, List, [], ◌∷◌, codes, Option, None, Some}
-use Rattle.ct_bytes.specs.declared.address.Address.TheVariants.{V4}
+use Rattle.std.specs.Prelude.{[], ◌∷◌, codes}
 use Rattle.ct_msg.specs.Config.{lock_db}
-use Rattle.ct_msg.specs.declared.config.Config.{Config}
-use Rattle.ct_msg.specs.declared.config.DbKind.TheVariants.{Volatile, ReadOnly, Persistent}
+use Rattle.ct_msg.specs.declared.config.DbKind.TheVariants.{Volatile}
 use Rattle.ct_msg.specs.declared.client.Answer.TheVariants as answer
 use Rattle.ct_msg.specs.declared.client.ClientOp.TheVariants as op
-use Rattle.ct_msg.specs.declared.client.Why.TheVariants as why
 use Rattle.ct_frame.specs.declared.event.Note.TheVariants as note
 use Rattle.ct_frame.specs.declared.frame.CallKind.TheVariants as kind
 use Rattle.ct_frame.specs.declared.frame.Msg.TheVariants as msg
@@ -38,7 +35,7 @@ VacuumThenRecreate = Prints (record { nodes = 3; dbs = lock_db ∷ a_db (codes "
     step.Deliver 13 ∷
     step.Client 1 (op.Lock 1 (codes "a")) ∷
     []
-  ) (
+    ) (
     sent 1 0 1 1 (msg.Call 1 (codes "a") 1 kind.Lock) ∷
     sent 2 1 1 1 (msg.Recall 1 (codes "a") 0 0 1 kind.Lock) ∷
     sent 3 1 1 1 (msg.Give 1 (codes "a") 0 []) ∷
@@ -59,7 +56,7 @@ VacuumThenRecreate = Prints (record { nodes = 3; dbs = lock_db ∷ a_db (codes "
     line.Noted 1 (note.Vacuumed 1 (codes "a")) ∷
     line.Answered 5 (answer.Locked []) ∷
     []
-  )
+    )
 
 -- messages of before a vacuum that come again do not bring the old record back
 abbrev pub GiveAfterVacuum : Type 0
@@ -90,7 +87,7 @@ GiveAfterVacuum = Prints (record { nodes = 3; dbs = lock_db ∷ a_db (codes "t")
     step.Client 1 (op.Unlock 1 (codes "a")) ∷
     step.Client 1 (op.Read 1 (codes "a")) ∷
     []
-  ) (
+    ) (
     sent 1 0 1 1 (msg.Call 1 (codes "a") 1 kind.Lock) ∷
     sent 2 1 1 1 (msg.Recall 1 (codes "a") 0 0 1 kind.Lock) ∷
     sent 3 1 1 1 (msg.Give 1 (codes "a") 0 []) ∷
@@ -114,7 +111,7 @@ GiveAfterVacuum = Prints (record { nodes = 3; dbs = lock_db ∷ a_db (codes "t")
     line.Answered 7 (answer.Unlocked) ∷
     line.Answered 8 (answer.Read (codes "y")) ∷
     []
-  )
+    )
 
 -- a vacuum that runs asks those again that are missing, and ends once
 abbrev pub VacuumAsksAgain : Type 0
@@ -143,7 +140,7 @@ VacuumAsksAgain = Prints (record { nodes = 3; dbs = lock_db ∷ a_db (codes "t")
     step.Deliver 15 ∷
     step.Deliver 16 ∷
     []
-  ) (
+    ) (
     sent 1 0 1 1 (msg.Call 1 (codes "a") 1 kind.Lock) ∷
     sent 2 1 1 1 (msg.Recall 1 (codes "a") 0 0 1 kind.Lock) ∷
     sent 3 1 1 1 (msg.Give 1 (codes "a") 0 []) ∷
@@ -166,7 +163,7 @@ VacuumAsksAgain = Prints (record { nodes = 3; dbs = lock_db ∷ a_db (codes "t")
     sent 16 2 1 1 (msg.VDeleted 1 (codes "a") 2) ∷
     line.Noted 1 (note.Vacuumed 1 (codes "a")) ∷
     []
-  )
+    )
 
 -- a lock of the record ends its vacuum
 abbrev pub LockEndsVacuum : Type 0
@@ -188,7 +185,7 @@ LockEndsVacuum = Prints (record { nodes = 3; dbs = lock_db ∷ a_db (codes "t") 
     step.Deliver 8 ∷
     step.Deliver 9 ∷
     []
-  ) (
+    ) (
     sent 1 0 1 1 (msg.Call 1 (codes "a") 1 kind.Lock) ∷
     sent 2 1 1 1 (msg.Recall 1 (codes "a") 0 0 1 kind.Lock) ∷
     sent 3 1 1 1 (msg.Give 1 (codes "a") 0 []) ∷
@@ -204,4 +201,4 @@ LockEndsVacuum = Prints (record { nodes = 3; dbs = lock_db ∷ a_db (codes "t") 
     sent 8 0 1 1 (msg.VStored 1 (codes "a") 2) ∷
     sent 9 2 1 1 (msg.VStored 1 (codes "a") 2) ∷
     []
-  )
+    )
