@@ -5,3 +5,5 @@
 #![tactic(auto)]
 
 pub mod step;
+#[cfg(test)]
+mod tests;
