@@ -1,9 +1,8 @@
 -- Why a step is refused, apart from a number that would reach its limit.
 use Rattle.std.specs.Prelude.{ℕ, nat_eq, nat_lt, Bool, true, false, not, if◌then◌else◌, List, [], ◌∷◌, Option, None, Some, is_none}
-use Rattle.ct_msg.specs.declared.client.ClientOp.{ClientOp}
-use Rattle.ct_msg.specs.declared.client.ClientOp.TheVariants as op
 use Rattle.ct_msg.specs.declared.config.Config.{Config}
-use Rattle.ct_frame.specs.Fields.{ascends, is_one_to_sixteen}
+use Rattle.ct_frame.specs.Fields.{ascends}
+use Rattle.ct_rules_node.specs.Given.{is_allowed_op}
 use Rattle.ct_rules_node.specs.Node.{Lead, Completed, is_serving, is_persistent, is_among, kind_at}
 use Rattle.ct_cluster.specs.Cluster.{Cluster, is_up, node_at, sent_at, is_waiting, is_delivered}
 use Rattle.ct_cluster.specs.declared.step.Step.{Step}
@@ -102,11 +101,6 @@ fault_of c w (step.Takeover n) = first_of (no_such_node c n ∷ node_down w n �
 fault_of c w (step.Able n able) = no_such_node c n
 
 -- ---- what is asked of a step: a commit has 1 to 16 writes, and the members of a round ascend
-
--- what is asked of a client's call: a commit has 1 to 16 writes
-unfoldable pub is_allowed_op : ClientOp → Bool
-is_allowed_op (op.Commit db writes) = is_one_to_sixteen writes
-is_allowed_op _ = true
 
 -- what is asked of a step: a commit has 1 to 16 writes, and the members of a recovery ascend
 unfoldable pub is_allowed : Step → Bool
