@@ -13,7 +13,7 @@ use Rattle.ct_rules.specs.declared.state.RecState.{RecState}
 use Rattle.ct_rules_node.specs.Node as node
 use Rattle.ct_rules_node.specs.Node.{Node}
 use Rattle.ct_cluster.specs.Cluster as cluster
-use Rattle.ct_register.specs.Stands.{HasCopy, HoldsAddress, OpeningStands}
+use Rattle.ct_register.specs.Stands.{HasCopy, HoldsAddress, OpeningRecordsStand, OpeningStands}
 use Rattle.ct_register.proofs.Small.{nought, none_not_some}
 
 -- one of many that are alike, or what stands for one that is not there
@@ -23,7 +23,7 @@ one_of_all P x none all zero n = none
 one_of_all P x none all (suc k) zero = all
 one_of_all P x none all (suc k) (suc n) = one_of_all P x none all k n
 
-untouched_one : {X : Type 0} (xs : List X) (db : ℕ) → node.or_untouched (slice_get (node.untouched_all xs) db) ≡ node.untouched
+pub untouched_one : {X : Type 0} (xs : List X) (db : ℕ) → node.or_untouched (slice_get (node.untouched_all xs) db) ≡ node.untouched
 unfolding node.untouched_all node.or_untouched
 untouched_one [] db = refl
 untouched_one (x ∷ xs) zero = refl
@@ -34,7 +34,7 @@ opened_db : (c : Config) (n db : ℕ) → node.db_at db (cluster.node_at n (clus
 unfolding node.db_at node.opening node.or_untouched cluster.node_at cluster.opening cluster.absent
 opened_db c n db = one_of_all (λ (x : Node). node.db_at db x ≡ node.untouched) (node.opening c (cluster.everyone c)) refl (untouched_one c.dbs db) c.nodes n
 
-opened_state : (c : Config) (n db : ℕ) (key : List ℕ) → node.state_at db key (cluster.node_at n (cluster.opening c)) ≡ nothing_kept
+pub opened_state : (c : Config) (n db : ℕ) (key : List ℕ) → node.state_at db key (cluster.node_at n (cluster.opening c)) ≡ nothing_kept
 unfolding node.state_at node.untouched node.or_nothing
 opened_state c n db key = ap (λ (d : node.Database). node.or_nothing (look key d.records)) (opened_db c n db)
 
@@ -42,7 +42,7 @@ opened_held : (c : Config) (n : ℕ) → (cluster.node_at n (cluster.opening c))
 unfolding node.opening cluster.node_at cluster.opening cluster.absent
 opened_held c n = one_of_all (λ (x : Node). x.held ≡ []) (node.opening c (cluster.everyone c)) refl refl c.nodes n
 
-no_copy : (c : Config) (n db : ℕ) (key : List ℕ) (copy : RecCopy) → HasCopy (cluster.opening c) n db key copy → ⊥
+pub no_copy : (c : Config) (n db : ℕ) (key : List ℕ) (copy : RecCopy) → HasCopy (cluster.opening c) n db key copy → ⊥
 no_copy c n db key copy has = none_not_some (sym (ap (λ (s : RecState). s.copy) (opened_state c n db key)) ∙ has)
 
 false_not_true : false ≡ true → ⊥
@@ -54,13 +54,18 @@ no_lock c n db key has = false_not_true (subst (λ (s : RecState). is_some s.loc
 no_address : (c : Config) (n : ℕ) (a : Address) → HoldsAddress (cluster.opening c) n a → ⊥
 no_address c n a has = false_not_true (subst (λ held. list_any (same_address a) held ≡ true) (opened_held c n) has)
 
-pub opening_stands : OpeningStands
-unfolding Updates.contents node.untouched
-opening_stands c = record {
+pub opening_records_stand : OpeningRecordsStand
+opening_records_stand c = record {
   locks = λ n db key up. ((λ has. absurd (no_lock c n db key has)), λ owns. absurd (none_not_some owns.1));
   masters = λ n db key copy has is. absurd (no_copy c n db key copy has);
   one_master = λ n m db key copy other up line has is has' is'. absurd (no_copy c n db key copy has);
   readers = λ n db key copy has is. absurd (no_copy c n db key copy has);
+}
+
+pub opening_stands : OpeningStands
+unfolding Updates.contents node.untouched
+opening_stands c = record {
+  records = opening_records_stand c;
   databases = λ n db there kind. (0, (let e = opened_db c n db in record { number = ap (λ (d : node.Database). d.store.seq) e; pairs = ap (λ (d : node.Database). d.store.pairs) e; acked = nought 0; seen = nought 0; within = nought 0 }));
   addresses = λ n m a up up' some line has has'. absurd (no_address c n a has);
 }

@@ -34,8 +34,8 @@ HasCopy w n db key c = (state_at db key (node_at n w)).copy ≡ Some c
 abbrev pub HoldsAddress : Cluster → ℕ → Address → Type 0
 HoldsAddress w n a = list_any (same_address a) (node_at n w).held ≡ true
 
--- the cluster stands for the registers
-pub record StandsFor (config : Config) (w : Cluster) (r : Lines) : Type 0 where
+-- the cluster stands for the registers of records, which are those of volatile and read-only databases
+pub record RecordsStand (w : Cluster) (r : Lines) : Type 0 where
   -- a running node has locked a record exactly where it owns it in its line
   pub locks : (n db : ℕ) (key : List ℕ) → is_up n w ≡ true →
       (is_some (state_at db key (node_at n w)).locked ≡ true) ↔ (r.line n ≢ 0) × ((r.records (r.line n) db key).owner ≡ Some n)
@@ -48,11 +48,20 @@ pub record StandsFor (config : Config) (w : Cluster) (r : Lines) : Type 0 where
   -- a read-only copy has the reading as its value, and nobody owns the record
   pub readers : (n db : ℕ) (key : List ℕ) (c : RecCopy) → HasCopy w n db key c → c.header.flags ≡ for_reading →
       (r.line n ≢ 0) × (c.value ≡ reading (r.records (r.line n) db key).versions) × ((r.records (r.line n) db key).owner ≡ None)
+
+-- the cluster stands for the registers
+pub record StandsFor (config : Config) (w : Cluster) (r : Lines) : Type 0 where
+  -- for those of records
+  pub records : RecordsStand w r
   -- each node, running or not, has each persistent database as it was after some of its line's commits
   pub databases : (n db : ℕ) → nat_lt n config.nodes ≡ true → kind_at config db ≡ Some Persistent →
       (j : ℕ) × IsAfter j n (r.databases (r.pline n) db) (db_at db (node_at n w)).store
   -- no two running nodes of one line hold the same address
   pub addresses : (n m : ℕ) (a : Address) → is_up n w ≡ true → is_up m w ≡ true → r.line n ≢ 0 → r.line m ≡ r.line n → HoldsAddress w n a → HoldsAddress w m a → m ≡ n
+
+-- at the opening the cluster stands for the registers of records
+abbrev pub OpeningRecordsStand : Type 0
+OpeningRecordsStand = (config : Config) → RecordsStand (cluster.opening config) (Lines.opening config)
 
 -- the cluster stands for the registers at the opening
 abbrev pub OpeningStands : Type 0

@@ -1,7 +1,7 @@
 //! What follows of the registers alone.
 ghost use Rattle.ct_register.specs.Laws.{GoOnInOneWay};
 ghost use Rattle.ct_register.specs.Formed.{LegalIsFormed};
-ghost use Rattle.ct_register.specs.Stands.{OpeningStands};
+ghost use Rattle.ct_register.specs.Stands.{OpeningRecordsStand, OpeningStands};
 
 /// A label leaves no choice, unless it is of a birth or of a read of a persistent database.
 #[tactic(auto, using(crate::proofs::Ways::one_way))]
@@ -16,8 +16,13 @@ pub fn legal_is_formed()
     ensures { LegalIsFormed }
 {}
 
-/// At the opening the cluster stands for the registers.
-#[tactic(auto, using(crate::proofs::Opened::opening_stands))]
+/// At the opening the cluster stands for the registers of records.
+#[tactic(auto, using(crate::proofs::Opened::opening_records_stand))]
+pub fn opening_records_stand()
+    ensures { OpeningRecordsStand }
+{}
+
+/// At the opening the cluster stands for the registers, of records, of persistent databases and of addresses.
 pub fn opening_stands()
     ensures { OpeningStands }
 {}

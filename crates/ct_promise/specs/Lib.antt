@@ -1,0 +1,5 @@
+pub mod Promises
+pub mod Generation
+pub mod Born
+pub mod Marked
+pub mod Small

@@ -1,0 +1,72 @@
+-- What is promised of RSNs: each stands for one place among the versions of its record.
+use Rattle.std.specs.Prelude.{◌≡◌, ℕ, nat_eq, Bool, true, false, ◌&&◌, bytes_eq, List, [], ◌∷◌, Some}
+use Rattle.std.specs.List.{list_any}
+use Rattle.ct_msg.specs.declared.config.Config.{Config}
+use Rattle.ct_frame.specs.declared.event.Note.{Note}
+use Rattle.ct_frame.specs.declared.event.Note.TheVariants as note
+use Rattle.ct_frame.specs.declared.header.RecCopy.{RecCopy}
+use Rattle.ct_call.specs.Rules.{Rules}
+use Rattle.ct_rules.specs.declared.state.Entry.{Entry}
+use Rattle.ct_rules_node.specs.Node.{is_present_in, state_at}
+use Rattle.ct_cluster.specs.Cluster.{Cluster, node_at, opening}
+use Rattle.ct_cluster.specs.Labels.{Label, Noted}
+use Rattle.ct_cluster.specs.Traces.{ran_one}
+use Rattle.ct_cluster.specs.declared.step.Step.{Step}
+use Rattle.ct_register.specs.Lines
+use Rattle.ct_register.specs.Lines.{Lines}
+use Rattle.ct_register.specs.Legal.{AcceptsLabels}
+use Rattle.ct_register.specs.Stands.{HasCopy, StandsFor}
+use Rattle.ct_register.specs.Marks.{Marks, AreMarks, IsCopyAt, IsEntryAt, MarksStep}
+use Rattle.ct_promise.specs.Promises.{IsConfig}
+
+-- the marks of each line, database and key
+abbrev pub AllMarks : Type 0
+AllMarks = ℕ → ℕ → List ℕ → Marks
+
+-- nothing is marked
+abbrev pub no_marks : AllMarks
+no_marks g db key = record { marks = []; low = 0 }
+
+-- the node, present in line g, has this entry for a record
+abbrev pub HasEntry : Cluster → ℕ → ℕ → List ℕ → Entry → Type 0
+HasEntry w n db key e = (state_at db key (node_at n w)).entry ≡ Some e
+
+pub record MarksHold (w : Cluster) (r : Lines) (marks : AllMarks) : Type 0 where
+  -- of each line that was born
+  pub marked : (g db : ℕ) (key : List ℕ) → r.born g ≡ true → AreMarks (r.records g db key).versions (marks g db key)
+  -- a copy at a node that is present in a line has the value at the place of its RSN
+  pub copies : (g n db : ℕ) (key : List ℕ) (c : RecCopy) → is_present_in g (node_at n w) ≡ true → HasCopy w n db key c →
+      IsCopyAt (marks g db key).marks (r.records g db key).versions c.header.rsn c.value
+  -- and an entry there a value from the place before its least RSN to the place of that
+  pub entries : (g n db : ℕ) (key : List ℕ) (e : Entry) → is_present_in g (node_at n w) ≡ true → HasEntry w n db key e →
+      IsEntryAt (marks g db key).marks (r.records g db key).versions e.least e.value
+
+-- does the note say that this record was removed?
+unfoldable pub removes : ℕ → List ℕ → Note → Bool
+removes db key (note.Vacuumed d k) = nat_eq d db && bytes_eq k key
+removes db key noted = false
+
+-- does the label say that a node of line g removed this record?
+unfoldable pub is_removal : Lines → ℕ → ℕ → List ℕ → Label → Bool
+is_removal r g db key (Noted n noted) = nat_eq (r.line n) g && removes db key noted
+is_removal r g db key label = false
+
+-- was this record of line g removed by a step that tells these labels?
+abbrev pub is_removed : Lines → ℕ → ℕ → List ℕ → List Label → Bool
+is_removed r g db key labels = list_any (is_removal r g db key) labels
+
+-- the marks of each line that was born before go on through a step that tells these labels
+abbrev pub MarksGoOn : Lines → List Label → AllMarks → AllMarks → Type 0
+MarksGoOn r labels marks after = (g db : ℕ) (key : List ℕ) → r.born g ≡ true → MarksStep (is_removed r g db key labels) (marks g db key) (after g db key)
+
+-- Step by step there are registers that accept what the step tells and that its cluster stands for, and marks that hold of
+-- them and go on.
+unfoldable pub MarksRun : Config → Rules → Cluster → Lines → AllMarks → List Step → Type 0
+MarksRun config rules w r marks [] = Unit {0}
+MarksRun config rules w r marks (s ∷ steps) = let run = ran_one config rules w s in
+    (t : Lines) × (after : AllMarks) × AcceptsLabels config rules r run.trace t × StandsFor config run.cluster t × MarksHold run.cluster t after ×
+    MarksGoOn r run.trace marks after × MarksRun config rules run.cluster t after steps
+
+-- so it is of every list of steps from the opening on, where nothing is marked
+abbrev pub LawOfMarks : Type 0
+LawOfMarks = (config : Config) (rules : Rules) (steps : List Step) → IsConfig config → MarksRun config rules (opening config) (Lines.opening config) no_marks steps

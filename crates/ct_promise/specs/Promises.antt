@@ -1,0 +1,27 @@
+-- What is promised of every run of the cluster.
+use Rattle.std.specs.Prelude.{List, Ok}
+use Rattle.ct_bytes.specs.declared.address.Address.{Address}
+use Rattle.ct_msg.specs.Config.{Configures}
+use Rattle.ct_msg.specs.declared.config.Config.{Config}
+use Rattle.ct_msg.specs.declared.config.DbDecl.{DbDecl}
+use Rattle.ct_call.specs.Rules.{Rules}
+use Rattle.ct_cluster.specs.Cluster.{opening}
+use Rattle.ct_cluster.specs.Traces.{Ran, ran}
+use Rattle.ct_cluster.specs.declared.step.Step.{Step}
+use Rattle.ct_register.specs.Lines.{Lines}
+use Rattle.ct_register.specs.Legal.{Legal}
+use Rattle.ct_register.specs.Stands.{StandsFor}
+
+-- some databases and addresses make this configuration
+abbrev pub IsConfig : Config → Type 0
+IsConfig c = (dbs : List DbDecl) × (addresses : List Address) × Configures (Ok c) c.nodes dbs addresses
+
+-- the registers accept what a run tells, from the opening on, and its last cluster stands for them
+abbrev pub Keeps : Config → Rules → Ran → Type 0
+Keeps config rules run = (r : Lines) × Legal config rules run.trace r × StandsFor config run.cluster r
+
+-- So it is of every list of steps: of client calls, deliveries, losses, repeats, retries, vacuums, recoveries, stops, starts
+-- and takeovers, in every order. A step that is refused is as if it were not there. The first steps of a list are a list,
+-- too: so what a run told at any moment is legal, and the cluster of that moment stands for registers.
+abbrev pub Promise : Type 0
+Promise = (config : Config) (rules : Rules) (steps : List Step) → IsConfig config → Keeps config rules (ran config rules (opening config) steps)
