@@ -1,5 +1,5 @@
 -- The cluster stands for the registers at the opening.
-use Rattle.std.proofs.Common.{◌≡◌, ℕ, zero, suc, true, false, List, [], ◌∷◌, refl, sym, subst, ap, ◌∙◌}
+use Rattle.std.proofs.Common.{arith, ◌≡◌, ℕ, zero, suc, nat_lt, Bool, true, false, if◌then◌else◌, List, [], ◌∷◌, refl, sym, subst, ap, ◌∙◌}
 use Rattle.std.specs.Prelude.{slice_get, replicate, is_some}
 use Rattle.std.specs.List.{list_any}
 use Rattle.ct_bytes.specs.declared.address.Address.{Address}
@@ -54,6 +54,51 @@ no_lock c n db key has = false_not_true (subst (λ (s : RecState). is_some s.loc
 no_address : (c : Config) (n : ℕ) (a : Address) → HoldsAddress (cluster.opening c) n a → ⊥
 no_address c n a has = false_not_true (subst (λ held. list_any (same_address a) held ≡ true) (opened_held c n) has)
 
+below_zero : (n : ℕ) → nat_lt n 0 ≡ true → ⊥
+below_zero n = grind arith
+
+zero_below : (k : ℕ) → nat_lt 0 (suc k) ≡ true
+zero_below k = grind arith
+
+suc_below : (n k : ℕ) → nat_lt (suc n) (suc k) ≡ true → nat_lt n k ≡ true
+suc_below n k = grind arith
+
+below_suc : (n k : ℕ) → nat_lt n k ≡ true → nat_lt (suc n) (suc k) ≡ true
+below_suc n k = grind arith
+
+-- of so many that are alike, one whose number is below
+one_below : (x : Node) (k n : ℕ) → nat_lt n k ≡ true → cluster.or_absent (slice_get (replicate k x) n) ≡ x
+unfolding cluster.or_absent
+one_below x zero n lt = absurd (below_zero n lt)
+one_below x (suc k) zero lt = refl
+one_below x (suc k) (suc n) lt = one_below x k n (suc_below n k lt)
+
+up_below : (k n : ℕ) → cluster.is_true (slice_get (replicate k true) n) ≡ true → nat_lt n k ≡ true
+unfolding cluster.is_true
+up_below zero n up = absurd (cc)
+up_below (suc k) zero up = zero_below k
+up_below (suc k) (suc n) up = below_suc n k (up_below k n up)
+
+opened_below : (c : Config) (n : ℕ) → nat_lt n c.nodes ≡ true → cluster.node_at n (cluster.opening c) ≡ node.opening c (cluster.everyone c)
+unfolding cluster.node_at cluster.opening
+opened_below c n lt = one_below (node.opening c (cluster.everyone c)) c.nodes n lt
+
+opened_up : (c : Config) (n : ℕ) → cluster.is_up n (cluster.opening c) ≡ true → nat_lt n c.nodes ≡ true
+unfolding cluster.is_up cluster.opening
+opened_up c n up = up_below c.nodes n up
+
+one_if : (b : Bool) → b ≡ true → ◌≡◌ {A = ℕ} (if b then 1 else 0) 1
+one_if true e = refl
+one_if false e = absurd (cc)
+
+in_line_one : (c : Config) (n : ℕ) → nat_lt n c.nodes ≡ true → (cluster.node_at n (cluster.opening c)).generation ≡ (if nat_lt n c.nodes then 1 else 0)
+unfolding node.opening
+in_line_one c n lt = ap (λ (x : Node). x.generation) (opened_below c n lt) ∙ sym (one_if (nat_lt n c.nodes) lt)
+
+of_base_one : (c : Config) (n : ℕ) → nat_lt n c.nodes ≡ true → (cluster.node_at n (cluster.opening c)).pbase ≡ (if nat_lt n c.nodes then 1 else 0)
+unfolding node.opening
+of_base_one c n lt = ap (λ (x : Node). x.pbase) (opened_below c n lt) ∙ sym (one_if (nat_lt n c.nodes) lt)
+
 pub opening_records_stand : OpeningRecordsStand
 opening_records_stand c = record {
   locks = λ n db key up. ((λ has. absurd (no_lock c n db key has)), λ owns. absurd (none_not_some owns.1));
@@ -66,6 +111,10 @@ pub opening_stands : OpeningStands
 unfolding Updates.contents node.untouched
 opening_stands c = record {
   records = opening_records_stand c;
+  generations = λ n up. in_line_one c n (opened_up c n up);
+  bases = λ n lt. of_base_one c n lt;
+  holds = λ n a up. ((λ has. absurd (no_address c n a has)), λ held. absurd (false_not_true held));
+  assigned = λ n a up has. absurd (no_address c n a has);
   databases = λ n db there kind. (0, (let e = opened_db c n db in record { number = ap (λ (d : node.Database). d.store.seq) e; pairs = ap (λ (d : node.Database). d.store.pairs) e; acked = nought 0; seen = nought 0; within = nought 0 }));
   addresses = λ n m a up up' some line has has'. absurd (no_address c n a has);
 }

@@ -140,7 +140,7 @@ AcceptsNote config n (note.Released a) r s = AcceptsReleased a n r s
 AcceptsNote config n (note.Took a) r s = AcceptsTook a n r s
 
 -- The registers accept the label and go on as the last ones. Tickets are counted, each is given to who holds the recovery
--- lock then, and only the holder yields it. A push needs only that its line was born; a take is of its sender's line.
+-- lock then, and only the holder yields it. A push needs that its line was born, and assigns as every push of it did; a take is of its sender's line.
 abbrev pub AcceptsLabel : Config → Rules → Lines → Label → Lines → Type 0
 AcceptsLabel config rules r (Answered n asked given) s = AcceptsAnswer config rules n asked given r s
 AcceptsLabel config rules r (Begun n db writes) s = AtDatabase config n db (AcceptsBegin n writes (lock_owner config (r.line n) db r)) r s

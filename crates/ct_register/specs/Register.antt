@@ -73,7 +73,8 @@ OwnedByNoOther n (Some m) = m ≡ n
 -- node owns it, and answers the reading. A write needs that nobody owns it, and a store that the node does: each adds its
 -- value as a version. An unlock needs the owner. A function needs that nobody owns the record, and answers its rule's
 -- value of the reading and the argument, which is a new version; or, where that has above 1,024 bytes, its length, and
--- nothing changes. Any other refusal changes nothing. No other answer is accepted.
+-- nothing changes. Any other refusal changes nothing. No other answer is accepted. Each of these but an unlock and a
+-- refusal makes the node see all versions.
 abbrev pub Accepts : Rules → ℕ → ClientOp → Answer → Register → Register → Type 0
 Accepts rules n (op.Lock db key) (answer.Locked v) r s = (r.owner ≡ None) × (v ≡ reading r.versions) × (s ≡ owned_by n r)
 Accepts rules n (op.Read db key) (answer.Read v) r s = OwnedByNoOther n r.owner × (v ≡ reading r.versions) × (s ≡ seen_by n r)

@@ -13,6 +13,8 @@ use Rattle.ct_cluster.specs.Cluster as cluster
 use Rattle.ct_cluster.specs.Cluster.{Cluster, is_up, node_at}
 use Rattle.ct_register.specs.Register.{reading}
 use Rattle.ct_register.specs.Database.{Database, contents_after}
+use Rattle.ct_frame.specs.declared.frame.Assigned.{Assigned}
+use Rattle.ct_register.specs.Placing.{given_placement, node_of}
 use Rattle.ct_register.specs.Lines
 use Rattle.ct_register.specs.Lines.{Lines}
 use Rattle.ct_register.specs.Legal.{kind_at}
@@ -53,9 +55,18 @@ pub record RecordsStand (w : Cluster) (r : Lines) : Type 0 where
 pub record StandsFor (config : Config) (w : Cluster) (r : Lines) : Type 0 where
   -- for those of records
   pub records : RecordsStand w r
+  -- a running node is in the generation that is its line
+  pub generations : (n : ℕ) → is_up n w ≡ true → (node_at n w).generation ≡ r.line n
+  -- each node, running or not, has the persistent databases of the line that the registers say
+  pub bases : (n : ℕ) → nat_lt n config.nodes ≡ true → (node_at n w).pbase ≡ r.pline n
   -- each node, running or not, has each persistent database as it was after some of its line's commits
   pub databases : (n db : ℕ) → nat_lt n config.nodes ≡ true → kind_at config db ≡ Some Persistent →
       (j : ℕ) × IsAfter j n (r.databases (r.pline n) db) (db_at db (node_at n w)).store
+  -- a running node holds exactly the addresses that it took, without those that it released since
+  pub holds : (n : ℕ) (a : Address) → is_up n w ≡ true → HoldsAddress w n a ↔ (r.held n a ≡ true)
+  -- it holds an address only where the last take of its line assigns it, or the push before any take
+  pub assigned : (n : ℕ) (a : Address) → is_up n w ≡ true → HoldsAddress w n a →
+      (xs : List Assigned) × (given_placement (r.placing (r.line n)).pushed (r.placing (r.line n)).last ≡ Some xs) × (node_of a xs ≡ Some n)
   -- no two running nodes of one line hold the same address
   pub addresses : (n m : ℕ) (a : Address) → is_up n w ≡ true → is_up m w ≡ true → r.line n ≢ 0 → r.line m ≡ r.line n → HoldsAddress w n a → HoldsAddress w m a → m ≡ n
 
