@@ -1,4 +1,4 @@
--- That what the statements ask for is there.
+-- A small cluster that began with rows, and its registers.
 use Rattle.std.specs.Prelude.{ℕ, zero, suc, true, bytes_eq, if◌then◌else◌, List, [], ◌∷◌, length, Option, None, Some}
 use Rattle.ct_msg.specs.Config.{lock_db}
 use Rattle.ct_msg.specs.declared.client.ClientOp.TheVariants as op
@@ -11,7 +11,6 @@ use Rattle.ct_rules.specs.declared.state.RecState.{RecState}
 use Rattle.ct_rules_node.specs.Node as node
 use Rattle.ct_rules_node.specs.Node.{Node, Frozen}
 use Rattle.ct_rules_node.specs.Rounds.{installed_node}
-use Rattle.ct_cluster.specs.Cluster as cluster
 use Rattle.ct_cluster.specs.Cluster.{Cluster}
 use Rattle.ct_register.specs.Words.{at, is_in}
 use Rattle.ct_register.specs.Register
@@ -20,11 +19,6 @@ use Rattle.ct_register.specs.Lines
 use Rattle.ct_register.specs.Lines.{Lines}
 use Rattle.ct_promise.specs.Promises.{IsConfig}
 use Rattle.ct_promise.specs.Born.{Rows, IsBornWith, BornRegisters}
-use Rattle.ct_promise.specs.Marked.{MarksHold, no_marks}
-
--- at the opening nothing is marked, and that holds
-abbrev pub OpeningIsMarked : Type 0
-OpeningIsMarked = (config : Config) → MarksHold (cluster.opening config) (Lines.opening config) no_marks
 
 -- ---- two nodes, where both have just installed generation 2, with one row, and a call waits
 

@@ -1,5 +1,6 @@
-//! That what the statements ask for is there: marks at the opening, and a small cluster that began with a row.
-ghost use Rattle.ct_promise.specs.Small.{OpeningIsMarked, RowsAreThere};
+//! What is shown of the statements. The promises themselves are not shown here.
+ghost use Rattle.ct_promise.specs.Laws.{OpeningIsMarked, PromiseFollows};
+ghost use Rattle.ct_promise.specs.Small.{RowsAreThere};
 
 /// At the opening nothing is marked, and that holds.
 #[tactic(auto, using(crate::proofs::Opened::opening_is_marked))]
@@ -12,4 +13,10 @@ pub fn opening_is_marked()
 #[tactic(auto, using(crate::proofs::Born::rows_are_there))]
 pub fn rows_are_there()
     ensures { RowsAreThere }
+{}
+
+/// The promise of every run follows from the law of marks. That law itself is not shown here.
+#[tactic(auto, using(crate::proofs::Follows::promise_follows))]
+pub fn promise_follows()
+    ensures { PromiseFollows }
 {}
