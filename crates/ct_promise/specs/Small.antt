@@ -5,13 +5,10 @@ use Rattle.ct_msg.specs.declared.client.ClientOp.TheVariants as op
 use Rattle.ct_msg.specs.declared.config.Config.{Config}
 use Rattle.ct_msg.specs.declared.config.DbKind.TheVariants.{Volatile}
 use Rattle.ct_frame.specs.declared.frame.TableRow.{TableRow}
-use Rattle.ct_store.specs.Map.{Pairs}
-use Rattle.ct_rules.specs.State.{nothing_kept}
-use Rattle.ct_rules.specs.declared.state.RecState.{RecState}
-use Rattle.ct_rules_node.specs.Node as node
-use Rattle.ct_rules_node.specs.Node.{Node, Frozen}
-use Rattle.ct_rules_node.specs.Rounds.{installed_node}
-use Rattle.ct_cluster.specs.Cluster.{Cluster}
+use Rattle.ct_cluster.specs.Cluster.{Cluster, opening}
+use Rattle.ct_cluster.specs.Traces.{ran}
+use Rattle.ct_cluster.specs.declared.step.Step.{Step}
+use Rattle.ct_cluster.specs.declared.step.Step.TheVariants as step
 use Rattle.ct_register.specs.Words.{at, is_in}
 use Rattle.ct_register.specs.Register
 use Rattle.ct_register.specs.Register.{Register}
@@ -20,7 +17,7 @@ use Rattle.ct_register.specs.Lines.{Lines}
 use Rattle.ct_promise.specs.Promises.{IsConfig}
 use Rattle.ct_promise.specs.Born.{Rows, IsBornWith, BornRegisters}
 
--- ---- two nodes, where both have just installed generation 2, with one row, and a call waits
+-- ---- two nodes: a value is written, a call waits, and both install a generation
 
 -- the database of locks and the volatile one `t`
 abbrev pub config : Config
@@ -36,43 +33,37 @@ a = 97 ∷ []
 abbrev pub x : List ℕ
 x = 120 ∷ []
 
+-- Node 1 writes, a lock of node 0 waits, and node 0 leads a round until both have installed it. The message of the lock is
+-- never delivered, and those that tell of the installations are still on their way.
+abbrev pub run : List Step
+run =
+    step.Client 1 (op.Write 1 a x) ∷
+    step.Client 0 (op.Lock 1 a) ∷
+    step.Recover 0 both ∷
+    step.Deliver 2 ∷
+    step.Deliver 3 ∷
+    step.Deliver 4 ∷
+    step.Deliver 5 ∷
+    step.Deliver 6 ∷
+    step.Deliver 7 ∷
+    step.Deliver 8 ∷
+    step.Deliver 9 ∷
+    step.Deliver 10 ∷
+    step.Deliver 11 ∷
+    []
+
+abbrev pub born : Cluster
+born = (ran config [] (opening config) run).cluster
+
 -- the row of `a` in `t`, whose data master is node 1
 abbrev pub the_row : TableRow
-the_row = record { db = 1; key = a; rsn = 3; value = x; master = Some 1 }
+the_row = record { db = 1; key = a; rsn = 0; value = x; master = Some 1 }
 
 -- and no other one
 unfoldable pub rows : Rows
 rows zero key = None
 rows (suc zero) key = if bytes_eq key a then Some the_row else None
 rows (suc (suc db)) key = None
-
--- a node that is frozen for the round, with these states of keys in `t` and this next request number
-abbrev pub frozen : Pairs RecState → ℕ → Node
-frozen records next = record (node.opening config both) {
-  promise = 2;
-  phase = Frozen 2;
-  dbs = node.untouched ∷ record node.untouched { records = records } ∷ [];
-  next = next;
-}
-
--- a lock that waits for `a`, under request 1
-abbrev pub waits : Pairs RecState
-waits = (a, record nothing_kept { wish = Some (record { call = 1; request = 1; op = op.Lock 1 a }) }) ∷ []
-
--- what the node becomes that installs the row
-abbrev pub installed : ℕ → Node → Node
-installed n before = installed_node config n 0 2 both (the_row ∷ []) [] [] before
-
-abbrev pub born : Cluster
-born = record {
-  nodes = installed 0 (frozen waits 2) ∷ installed 1 (frozen [] 1) ∷ [];
-  running = true ∷ true ∷ [];
-  able = true ∷ true ∷ [];
-  sent = [];
-  holder = Some 0;
-  ticket = 2;
-  calls = 1;
-}
 
 -- the versions that a record begins with: the row's value, where there is one
 unfoldable pub versions_of : Option TableRow → List (List ℕ)

@@ -8,9 +8,9 @@ pub fn opening_is_marked()
     ensures { OpeningIsMarked }
 {}
 
-/// Two nodes that have installed a generation with one row, as the rules of an installation make them, while a call waits:
-/// they began with this row, and there are registers for it.
-#[tactic(auto, using(crate::proofs::Born::rows_are_there))]
+/// A small run comes to a cluster of which the promise from rows speaks, and there are registers for it: a record is written,
+/// a lock waits, and both members of a round have installed it.
+#[tactic(auto, using(crate::proofs::Reached::rows_are_there))]
 pub fn rows_are_there()
     ensures { RowsAreThere }
 {}
