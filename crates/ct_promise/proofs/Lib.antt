@@ -1,1 +1,5 @@
 mod Opened
+mod Nodes
+mod Born
+mod Reached
+mod Follows

@@ -4,7 +4,7 @@ use Rattle.ct_rules.specs.declared.state.RecState.{RecState}
 use Rattle.ct_register.specs.Marks
 use Rattle.ct_register.proofs.Opened.{opened_state, no_copy}
 use Rattle.ct_register.proofs.Small.{none_not_some}
-use Rattle.ct_promise.specs.Small.{OpeningIsMarked}
+use Rattle.ct_promise.specs.Laws.{OpeningIsMarked}
 
 pub opening_is_marked : OpeningIsMarked
 unfolding Marks.Rises Marks.EndsAt Marks.AreBelow

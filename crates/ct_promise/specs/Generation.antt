@@ -32,18 +32,18 @@ is_note_of_records noted = true
 
 -- Does the label speak of records, or of generations? The answer to a call on a persistent database does not, nor the begin of
 -- a commit, nor what is told of addresses.
-unfoldable pub is_of_records : Config → Label → Bool
-is_of_records config (Answered n asked given) = not (is_persistent (kind_at config (db_of asked)))
-is_of_records config (Begun n db writes) = false
-is_of_records config (Noted n noted) = is_note_of_records noted
-is_of_records config (Pushed g assigned) = false
-is_of_records config (Takeover n able) = false
-is_of_records config (Taken n g number assigned) = false
-is_of_records config label = true
+unfoldable pub speaks_of_records : Config → Label → Bool
+speaks_of_records config (Answered n asked given) = not (is_persistent (kind_at config (db_of asked)))
+speaks_of_records config (Begun n db writes) = false
+speaks_of_records config (Noted n noted) = is_note_of_records noted
+speaks_of_records config (Pushed g assigned) = false
+speaks_of_records config (Takeover n able) = false
+speaks_of_records config (Taken n g number assigned) = false
+speaks_of_records config label = true
 
 -- the labels that do, in their order
 abbrev pub record_labels : Config → List Label → List Label
-record_labels config labels = filter (is_of_records config) labels
+record_labels config labels = filter (speaks_of_records config) labels
 
 -- from these registers on they accept what a run tells of records, and its last cluster stands for those of records
 abbrev pub KeepsRecords : Config → Rules → Lines → Ran → Type 0

@@ -2,4 +2,5 @@ pub mod Promises
 pub mod Generation
 pub mod Born
 pub mod Marked
+pub mod Laws
 pub mod Small

@@ -1,8 +1,22 @@
-//! That what the statements ask for is there: marks at the opening, and a small cluster that began with a row.
-ghost use Rattle.ct_promise.specs.Small.{OpeningIsMarked};
+//! What is shown of the statements. The promises themselves are not shown here.
+ghost use Rattle.ct_promise.specs.Laws.{OpeningIsMarked, PromiseFollows};
+ghost use Rattle.ct_promise.specs.Small.{RowsAreThere};
 
 /// At the opening nothing is marked, and that holds.
 #[tactic(auto, using(crate::proofs::Opened::opening_is_marked))]
 pub fn opening_is_marked()
     ensures { OpeningIsMarked }
+{}
+
+/// A small run comes to a cluster of which the promise from rows speaks, and there are registers for it: a record is written,
+/// a lock waits, and both members of a round have installed it.
+#[tactic(auto, using(crate::proofs::Reached::rows_are_there))]
+pub fn rows_are_there()
+    ensures { RowsAreThere }
+{}
+
+/// The promise of every run follows from the law of marks. That law itself is not shown here.
+#[tactic(auto, using(crate::proofs::Follows::promise_follows))]
+pub fn promise_follows()
+    ensures { PromiseFollows }
 {}
