@@ -31,6 +31,7 @@ no_marks g db key = record { marks = []; low = 0 }
 abbrev pub HasEntry : Cluster → ℕ → ℕ → List ℕ → Entry → Type 0
 HasEntry w n db key e = (state_at db key (node_at n w)).entry ≡ Some e
 
+-- the marks hold of a cluster and its registers
 pub record MarksHold (w : Cluster) (r : Lines) (marks : AllMarks) : Type 0 where
   -- of each line that was born
   pub marked : (g db : ℕ) (key : List ℕ) → r.born g ≡ true → AreMarks (r.records g db key).versions (marks g db key)

@@ -7,6 +7,7 @@ use Rattle.ct_store.specs.Map.{Pairs, look}
 use Rattle.ct_persist.specs.Updates.{contents}
 use Rattle.ct_register.specs.Words.{at, is_in}
 
+-- one persistent database in one line
 pub record Database : Type 0 where
   -- the number and the pairs with which its generation began
   pub seq : ℕ
@@ -28,6 +29,7 @@ newborn seq base = record { seq = seq; base = base; commits = []; committer = No
 abbrev pub contents_after : ℕ → Database → Pairs (List ℕ)
 contents_after j d = contents (take j d.commits) d.base
 
+-- a value, and the empty one where there is none
 unfoldable pub value_or_empty : Option (List ℕ) → List ℕ
 value_or_empty None = []
 value_or_empty (Some v) = v

@@ -33,6 +33,7 @@ pub record AreInOrder (is_born : ℕ → Bool) (last : ℕ) (leader : ℕ → Op
   -- who has installed a line has that one or a newer one
   pub newer : (g n : ℕ) → installed g n ≡ true → g ≤ pline n
 
+-- what the registers of every legal trace look like
 pub record IsFormed (r : Lines) : Type 0 where
   pub owners : OwnersAreThere r.records r.line
   pub order : AreInOrder r.born r.last r.leader r.line r.pline r.had r.phad r.installed

@@ -30,6 +30,7 @@ use Rattle.ct_register.specs.Births.{Birth, PersistentBirth, born_of}
 unfoldable pub kind_at : Config → ℕ → Option DbKind
 kind_at config db = option_map (λ d. d.kind) (slice_get config.dbs db)
 
+-- the name of a database, and no name where there is none
 unfoldable pub name_of : Option DbDecl → List ℕ
 name_of None = []
 name_of (Some d) = d.name
@@ -55,6 +56,7 @@ db_of (op.Store db key value) = db
 db_of (op.Unlock db key) = db
 db_of (op.Commit db writes) = db
 
+-- the key of a request; a commit speaks of no single one
 abbrev pub key_of : ClientOp → List ℕ
 key_of (op.Lock db key) = key
 key_of (op.Read db key) = key
@@ -130,6 +132,7 @@ AcceptsTook a n r s =
 
 -- ---- all labels
 
+-- a node noted this: the registers accept it and go on as the last ones
 abbrev pub AcceptsNote : Config → ℕ → Note → Lines → Lines → Type 0
 AcceptsNote config n (note.Vacuumed db key) r s = AtRecord config n db key AcceptsVacuum r s
 AcceptsNote config n (note.Ended db key) r s = AtRecord config n db key (AcceptsEnd n) r s

@@ -10,6 +10,7 @@ use Rattle.ct_register.specs.Database
 use Rattle.ct_register.specs.Database.{Database}
 use Rattle.ct_register.specs.Placing.{Placing, nothing_placed}
 
+-- all that the registers are
 pub record Lines : Type 0 where
   -- of each line, database and key
   pub records : ℕ → ℕ → List ℕ → Register
@@ -42,12 +43,15 @@ pub record Lines : Type 0 where
 
 -- ---- a change of one register
 
+-- another register of one record in a line
 abbrev pub with_record : ℕ → ℕ → List ℕ → Register → Lines → Lines
 with_record g db key t r = record r { records = at g (at db (at_key key t (r.records g db)) (r.records g)) r.records }
 
+-- another register of one persistent database in a line
 abbrev pub with_database : ℕ → ℕ → Database → Lines → Lines
 with_database g db d r = record r { databases = at g (at db d (r.databases g)) r.databases }
 
+-- another placing of a line
 abbrev pub with_placing : ℕ → Placing → Lines → Lines
 with_placing g p r = record r { placing = at g p r.placing }
 

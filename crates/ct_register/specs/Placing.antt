@@ -12,6 +12,7 @@ pub record Run : Type 0 where
   pub able : List ℕ
   pub given : List Assigned
 
+-- what was placed in one line
 pub record Placing : Type 0 where
   -- what the push assigns
   pub pushed : Option (List Assigned)

@@ -10,6 +10,7 @@ use Rattle.ct_call.specs.Table.{applied}
 use Rattle.ct_call.specs.declared.fault.CallFault.TheVariants as call
 use Rattle.ct_register.specs.Words.{at}
 
+-- the register of one record in one line
 pub record Register : Type 0 where
   -- the values that it was given, the newest last
   pub versions : List (List ℕ)

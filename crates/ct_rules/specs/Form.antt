@@ -25,18 +25,22 @@ unfoldable pub least_of : Option Entry → ℕ
 least_of None = 0
 least_of (Some e) = e.least
 
+-- the number of the request that the entry was sent for, 0 where there is none
 unfoldable pub sent_for : Option Entry → ℕ
 sent_for None = 0
 sent_for (Some e) = e.request
 
+-- the number of the request that the wish was called for under, 0 where there is none
 unfoldable pub wished_as : Option Wish → ℕ
 wished_as None = 0
 wished_as (Some w) = w.request
 
+-- the RSN of the revocation that runs, 0 where none does
 unfoldable pub revoked_rsn : Option Revocation → ℕ
 revoked_rsn None = 0
 revoked_rsn (Some r) = r.rsn
 
+-- the RSN of the vacuum that runs, 0 where none does
 unfoldable pub vacuumed_rsn : Option Vacuuming → ℕ
 vacuumed_rsn None = 0
 vacuumed_rsn (Some v) = v.rsn
@@ -49,6 +53,7 @@ is_wanting (op.Write db key v) = true
 is_wanting (op.Apply db key f arg) = true
 is_wanting _ = false
 
+-- the operation of a wish wants the record; no wish is none that does not
 unfoldable pub wants_record : Option Wish → Bool
 wants_record None = true
 wants_record (Some w) = is_wanting w.op

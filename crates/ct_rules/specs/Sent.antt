@@ -25,6 +25,7 @@ is_sound me (act.Finished floor) = true
 unfoldable pub is_of_node : Waiter → Bool
 is_of_node w = is_node w.node
 
+-- a recall that waits is of a node
 unfoldable pub is_for_node : RecallNote → Bool
 is_for_node r = is_node r.node
 

@@ -48,6 +48,7 @@ pub record IsChanged (f : RecState → RecState) (m : Pairs RecState) : Type 0 w
   pub seen : (key : List ℕ) → look key (changed f m) ≡ changed_at f (look key m)
   pub order : Ascends (changed f m)
 
+-- so it is of every map that ascends
 abbrev pub ChangesEach : Type 0
 ChangesEach = (f : RecState → RecState) (m : Pairs RecState) → Ascends m → IsChanged f m
 
@@ -57,6 +58,7 @@ pub record IsKeptAt (key : List ℕ) (s : RecState) (m : Pairs RecState) : Type 
   pub others : (other : List ℕ) → other ≢ key → look other (kept key s m) ≡ look other m
   pub order : Ascends (kept key s m)
 
+-- so it is of every map that ascends
 abbrev pub KeepsOne : Type 0
 KeepsOne = (key : List ℕ) (s : RecState) (m : Pairs RecState) → Ascends m → IsKeptAt key s m
 
@@ -73,6 +75,7 @@ pub record IsInstalled (me db : ℕ) (members : List ℕ) (table : List TableRow
       look key (install_rows me db members table (changed bared m)) ≡ installed_at me (master_of members key) (changed_at bared (look key m)) (row_at db key table)
   pub order : Ascends (install_rows me db members table (changed bared m))
 
+-- so it is of every table and map that ascend
 abbrev pub InstallsEach : Type 0
 InstallsEach = (me db : ℕ) (members : List ℕ) (table : List TableRow) (m : Pairs RecState) →
     ascends row_before table ≡ true → Ascends m → IsInstalled me db members table m
@@ -94,6 +97,7 @@ pub record IsTable (me : ℕ) (dbs : List Database) : Type 0 where
       row_at db key (table_of me 0 dbs) ≡ first_row (row_of me db key (or_nothing (look key (or_untouched (slice_get dbs db)).records)).copy)
   pub order : ascends row_before (table_of me 0 dbs) ≡ true
 
+-- so it is of all databases whose maps ascend
 abbrev pub TellsEach : Type 0
 TellsEach = (me : ℕ) (dbs : List Database) → AllAscend dbs → IsTable me dbs
 
@@ -115,6 +119,7 @@ pub record IsAtRecord (c : Config) (me db : ℕ) (key : List ℕ) (part : Place 
   pub other_dbs : (other : ℕ) → other ≢ db → db_at other (at_record c me db key part t).node ≡ db_at other t.node
   pub order : NodeAscends (at_record c me db key part t).node
 
+-- so it is of every part of the rule of a record, at every node whose maps ascend
 abbrev pub MovesOne : Type 0
 MovesOne = (c : Config) (me db : ℕ) (key : List ℕ) (part : Place → Moving → Moving) (t : Turn) → NodeAscends t.node → IsAtRecord c me db key part t
 
@@ -210,6 +215,7 @@ pub record SeesLocks (n : Node) : Type 0 where
   pub all : any_locked n.dbs ≡ false → (db : ℕ) (key : List ℕ) → is_locked db key n ≡ false
   pub one : any_locked n.dbs ≡ true → (db : ℕ) × (key : List ℕ) × (is_locked db key n ≡ true)
 
+-- so it is of every node whose maps ascend
 abbrev pub TestsLocks : Type 0
 TestsLocks = (n : Node) → NodeAscends n → SeesLocks n
 
