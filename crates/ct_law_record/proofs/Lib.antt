@@ -8,3 +8,6 @@ pub mod Acts
 pub mod Revoking
 pub mod Frames
 pub mod Receive
+pub mod Finish
+pub mod Floor
+pub mod Vacuuming
