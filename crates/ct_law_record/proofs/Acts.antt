@@ -207,6 +207,7 @@ module _ (rules : Rules) (ps : List ℕ) (m me : ℕ) (nodes : ℕ → Node) (fr
         value = top.1;
         locked = λ a. absurd (cc);
         owner = h.good.mine.owner;
+        unwished = λ a. absurd (cc);
         next = refl;
         recalls = refl;
         wishes = wishes;
@@ -250,15 +251,16 @@ module _ (rules : Rules) (ps : List ℕ) (m me : ℕ) (nodes : ℕ → Node) (fr
 
   -- what the holder's own change of the register owes
   own_register : (g g' : Ghost) (o : Out) (copy : Option Copy) (locked : Bool) → is_here o.node.copy ≡ true → o.node.tracked ≡ [] → o.node.revoking ≡ None → g.vacuum ≡ None → g'.vacuum ≡ g.vacuum → g'.readers ≡ g.readers → g'.revoking ≡ g.revoking → g'.top ≡ g.top →
-      is_here copy ≡ true → rank copy ≡ rank o.node.copy → value_of copy ≡ reading g'.register.versions → (locked ≡ true → g'.register.owner ≡ Some me) → (g'.register.owner ≡ Some me → locked ≡ true) → g'.register.seen me ≤ g'.place (rank copy) →
+      is_here copy ≡ true → rank copy ≡ rank o.node.copy → value_of copy ≡ reading g'.register.versions → (locked ≡ true → g'.register.owner ≡ Some me) → (g'.register.owner ≡ Some me → locked ≡ true) → g'.register.seen me ≤ g'.place (rank copy) → (locked ≡ true → o.node.wish ≡ None) →
       NodeInv g me o.node → Own g g' me o.node (record o.node { copy = copy; locked = locked })
-  own_register g g' o copy locked here untracked idle calm vacuum readers revoking top here' same value own1 own2 seen h = record {
+  own_register g g' o copy locked here untracked idle calm vacuum readers revoking top here' same value own1 own2 seen unwished h = record {
     here = here';
     up = omega arith;
     top = (let at = h.here here in same ∙ (h.holds at.0 at.1).0 ∙ sym top);
     value = value;
     locked = λ a. (own1 a, untracked, idle, vacuum ∙ calm);
     owner = own2;
+    unwished = unwished;
     next = refl;
     recalls = refl;
     wishes = λ w e. inl e;
@@ -301,7 +303,7 @@ module _ (rules : Rules) (ps : List ℕ) (m me : ℕ) (nodes : ℕ → Node) (fr
       act_holds l g (grown v owner me g) o (record o.node { copy = with_value v o.node.copy }) here (global_grown ps m g v owner me calm (omega arith) h.good.all) (change_grown ps m g v owner me h.good.all)
       (own_register g (grown v owner me g) o (with_value v o.node.copy) o.node.locked here untracked idle calm refl refl refl refl
       (here-with_value v _ ∙ here) same (value-with_value v _ here ∙ sym (reading-append g.register.versions v)) own1 own2
-      (let u = changed_me me (length (g.register.versions ++ (v ∷ []))) g.register.seen in let e = length-append g.register.versions (v ∷ []) in rw (le-leb g.top (rank (with_value v o.node.copy)) (omega arith)) (omega arith)) h.good.mine)
+      (let u = changed_me me (length (g.register.versions ++ (v ∷ []))) g.register.seen in let e = length-append g.register.versions (v ∷ []) in rw (le-leb g.top (rank (with_value v o.node.copy)) (omega arith)) (omega arith)) h.good.mine.unwished h.good.mine)
       (λ n ne. (let b = below_top g o here untracked idle h n ne in let f = h.good.others n ne in
       shift_register g _ _ n (nodes n) none (others n ne) (f.value ∙ sym (grown_below ps m g v (rank (nodes n).copy) h.good.all b))
       (rw (ne_eqb n me ne, lt-leb g.top (rank (nodes n).copy) b) f.seen) f))
@@ -310,10 +312,10 @@ module _ (rules : Rules) (ps : List ℕ) (m me : ℕ) (nodes : ℕ → Node) (fr
   -- the lock changes
   pub lock_holds : (locked : Bool) (l : Label) (owner : Option ℕ) (seen : ℕ → ℕ) (g : Ghost) (o : Out) → is_here o.node.copy ≡ true → o.node.tracked ≡ [] → o.node.revoking ≡ None → g.vacuum ≡ None →
       AcceptsLabel rules g.register l (record g.register { owner = owner; seen = seen }) → (locked ≡ true → owner ≡ Some me) → (owner ≡ Some me → locked ≡ true) → ((n : ℕ) → n ≢ me → owner ≢ Some n) →
-      seen me ≤ length g.register.versions → ((n : ℕ) → n ≢ me → seen n ≡ g.register.seen n) →
+      (locked ≡ true → o.node.wish ≡ None) → seen me ≤ length g.register.versions → ((n : ℕ) → n ≢ me → seen n ≡ g.register.seen n) →
       Holds rules ps m me nodes frames r g o → Holds rules ps m me nodes frames r (registers (record g.register { owner = owner; seen = seen }) g.place g) (tell l (with_node (record o.node { locked = locked }) o))
   unfolding Others changed
-  lock_holds locked l owner seen g o here untracked idle calm accepts own1 own2 others mine seens h =
+  lock_holds locked l owner seen g o here untracked idle calm accepts own1 own2 others unwished mine seens h =
       let at = h.good.mine.here here in
       let holds = h.good.mine.holds at.0 at.1 in
       let up = holds.0 in
@@ -322,7 +324,7 @@ module _ (rules : Rules) (ps : List ℕ) (m me : ℕ) (nodes : ℕ → Node) (fr
       let g' = registers (record g.register { owner = owner; seen = seen }) g.place g in
       act_holds l g g' o (record o.node { locked = locked }) here h.good.all
       (record { entry = refl; queue = refl; sent = refl; top = inr (refl, λ a. a); empty = λ a b c. c; joined = λ a b c. c })
-      (own_register g g' o o.node.copy locked here untracked idle calm refl refl refl refl here refl holds.1 own1 own2 (omega arith) h.good.mine)
+      (own_register g g' o o.node.copy locked here untracked idle calm refl refl refl refl here refl holds.1 own1 own2 (omega arith) unwished h.good.mine)
       (λ n ne. (let f = h.good.others n ne in let s = f.seen in let e = seens n ne in shift_register g _ g.place n (nodes n) none (others n ne) f.value (omega arith) f))
       h.good.master (λ _. refl) accepts h
 
@@ -338,29 +340,29 @@ module _ (rules : Rules) (ps : List ℕ) (m me : ℕ) (nodes : ℕ → Node) (fr
       let none = owner_none g o.node h.good here unlocked g.register.owner refl in
       (_, grow_holds v (Told me (op.Apply db key f arg) (answer.Applied v)) g.register.owner g o here untracked idle calm (none, is, refl) (λ a. absurd (cc)) (λ a. absurd (cc)) (λ n ne e. absurd (cc)) h)
 
-  pub satisfy_holds : (asked : ClientOp) (g : Ghost) (o : Out) → is_here o.node.copy ≡ true → o.node.locked ≡ false → o.node.tracked ≡ [] → o.node.revoking ≡ None → g.vacuum ≡ None → Holds rules ps m me nodes frames r g o → Kept rules ps m me nodes frames r (satisfy rules me asked o)
+  pub satisfy_holds : (asked : ClientOp) (g : Ghost) (o : Out) → o.node.wish ≡ None → is_here o.node.copy ≡ true → o.node.locked ≡ false → o.node.tracked ≡ [] → o.node.revoking ≡ None → g.vacuum ≡ None → Holds rules ps m me nodes frames r g o → Kept rules ps m me nodes frames r (satisfy rules me asked o)
   unfolding satisfy is_read_op
-  satisfy_holds (op.Lock db key) g o here unlocked untracked idle calm h =
+  satisfy_holds (op.Lock db key) g o free here unlocked untracked idle calm h =
       let none = owner_none g o.node h.good here unlocked g.register.owner refl in
       let at = h.good.mine.here here in
       let value = (h.good.mine.holds at.0 at.1).1 in (
         _,
-        lock_holds true (Told me (op.Lock db key) (answer.Locked (value_of o.node.copy))) (Some me) (changed me (length g.register.versions) g.register.seen) g o here untracked idle calm (none, value, refl) (λ _. refl) (λ _. refl) (λ n ne e. absurd (ne (grind arith)))
+        lock_holds true (Told me (op.Lock db key) (answer.Locked (value_of o.node.copy))) (Some me) (changed me (length g.register.versions) g.register.seen) g o here untracked idle calm (none, value, refl) (λ _. refl) (λ _. refl) (λ n ne e. absurd (ne (grind arith))) (λ _. free)
             (changed_me me _ _) (λ n ne. changed_other me n _ _ ne) h,
       )
-  satisfy_holds (op.Write db key v) g o here unlocked untracked idle calm h =
+  satisfy_holds (op.Write db key v) g o free here unlocked untracked idle calm h =
       let none = owner_none g o.node h.good here unlocked g.register.owner refl in
       (_, grow_holds v (Told me (op.Write db key v) answer.Written) g.register.owner g o here untracked idle calm (none, refl) (λ a. absurd (cc)) (λ a. absurd (cc)) (λ n ne e. absurd (cc)) h)
-  satisfy_holds (op.Read db key) g o here unlocked untracked idle calm h =
+  satisfy_holds (op.Read db key) g o free here unlocked untracked idle calm h =
       let at = h.good.mine.here here in
       let k = h.good.mine.holds at.0 at.1 in
       (_, see_holds g o k.0 (owner_me g o.node h.good here) (op.Read db key) refl (value_of o.node.copy) k.1 h)
-  satisfy_holds (op.Apply db key f arg) g o here unlocked untracked idle calm h =
+  satisfy_holds (op.Apply db key f arg) g o free here unlocked untracked idle calm h =
       let at = h.good.mine.here here in
       applies_holds db key f arg g o (applied f (value_of o.node.copy) arg rules) (ap (λ (x : List ℕ). applied f x arg rules) (sym (h.good.mine.holds at.0 at.1).1)) here unlocked untracked idle calm h
-  satisfy_holds (op.Store db key v) g o here unlocked untracked idle calm h = (g, h)
-  satisfy_holds (op.Unlock db key) g o here unlocked untracked idle calm h = (g, h)
-  satisfy_holds (op.Commit db writes) g o here unlocked untracked idle calm h = (g, h)
+  satisfy_holds (op.Store db key v) g o free here unlocked untracked idle calm h = (g, h)
+  satisfy_holds (op.Unlock db key) g o free here unlocked untracked idle calm h = (g, h)
+  satisfy_holds (op.Commit db writes) g o free here unlocked untracked idle calm h = (g, h)
 
   -- the node of a recall that was sent has drawn its number
   recalled_low : (g : Ghost) (n : ℕ) (node : Node) (x : RecallNote) → NodeInv g n node → Recalled x g.frames → x.node ≡ n → (x.request < node.next) × (x.request ≢ 0)
@@ -428,6 +430,7 @@ module _ (rules : Rules) (ps : List ℕ) (m me : ℕ) (nodes : ℕ → Node) (fr
             value = holds.1;
             locked = λ a. absurd (cc);
             owner = h.good.mine.owner;
+            unwished = λ a. absurd (cc);
             next = refl;
             recalls = refl;
             wishes = λ w e. inl e;

@@ -91,6 +91,7 @@ NodeInv-touched g n node d away t h =
       passing = λ a b. h.passing a (under a).0;
       locked = λ a. absurd (let b = (h.locked a).0 in cc);
       owner = h.owner;
+      unwished = h.unwished;
       wish = h.wish;
       own = λ w e a b c l. (let u = under a in omega arith);
       request = h.request;

@@ -47,6 +47,7 @@ NodeInv-finished m floor g n node up top none idle unowned unlocked unrevoked un
   passing = λ _ _. (top, sym empty_reading);
   locked = λ a. absurd (cc);
   owner = λ a. absurd (cc);
+  unwished = λ a. absurd (cc);
   wish = h.wish;
   own = λ w a b c d e. omega arith;
   request = λ _ a. absurd (a refl);

@@ -20,12 +20,12 @@ use Rattle.ct_law_record.proofs.Rule
 use Rattle.ct_law_record.proofs.Rule.{wait_for_copies, Body, Call, Copy, Done, Frame, Give, Grant, Here, Kind, Node, Op, Out, Pass, Recalls, Refuse, Revoke, RevokeAck, Wish, become, drain, has_node, is_here, is_idle, is_read, is_reading, rank, reads_op, rsn_of, satisfy, send, tell, value_of, with_node, with_value}
 
 module _ (rules : Rules) (ps : List ℕ) (m me : ℕ) (nodes : ℕ → Node) (frames : List Frame) (r : Register) where
-  pub call_holds : (op : Op) (g : Ghost) (o : Out) → Holds rules ps m me nodes frames r g o → Kept rules ps m me nodes frames r (Rule.call me m op o)
+  pub call_holds : (op : Op) (g : Ghost) (o : Out) → is_here o.node.copy ≡ false → Holds rules ps m me nodes frames r g o → Kept rules ps m me nodes frames r (Rule.call me m op o)
   unfolding Rule.call with_node Says
-  call_holds op g o h = (
+  call_holds op g o away h = (
     _,
     send_holds rules ps m me nodes frames r m (Call o.node.next (kind_of op.readonly op.real)) g (with_node (called op o.node) o) (λ q s v is. absurd (cc))
-        (node_holds rules ps m me nodes frames r (called op o.node) g o h (NodeInv-called g me o.node op h.good.mine) h.good.master)
+        (node_holds rules ps m me nodes frames r (called op o.node) g o h (NodeInv-called g me o.node op (false_from_ne_true _ (λ t. (let z = (h.good.mine.locked t).0 in cc))) h.good.mine) h.good.master)
         (λ _. (omega arith, (let n = h.good.mine.next in omega arith)))
         (λ n ne e. absurd (ne (sym e))),
   )
@@ -50,6 +50,7 @@ module _ (rules : Rules) (ps : List ℕ) (m me : ℕ) (nodes : ℕ → Node) (fr
               value = top.1;
               locked = λ a. absurd (cc);
               owner = h.good.mine.owner;
+              unwished = λ a. absurd (cc);
               next = refl;
               recalls = refl;
               wishes = λ w e. (let k : record { request = 0; op = op } ≡ w = cc in inr (ap (λ (x : Wish). x.request) (sym k), ap (λ (x : Wish). reads_op x.op) (sym k) ∙ writes));
@@ -65,11 +66,11 @@ module _ (rules : Rules) (ps : List ℕ) (m me : ℕ) (nodes : ℕ → Node) (fr
       )
 
   -- a holder wants the lock, or to write
-  hold_want : (op : Op) (g : Ghost) (o : Out) → reads_op op ≡ false → o.node.locked ≡ false → is_here o.node.copy ≡ true → g.vacuum ≡ None → Holds rules ps m me nodes frames r g o →
+  hold_want : (op : Op) (g : Ghost) (o : Out) → o.node.wish ≡ None → reads_op op ≡ false → o.node.locked ≡ false → is_here o.node.copy ≡ true → g.vacuum ≡ None → Holds rules ps m me nodes frames r g o →
       Kept rules ps m me nodes frames r (cond (is_nil o.node.tracked) (satisfy rules me op.real o) (wait_for_copies me op o))
   unfolding Rule.wish_kept wait_for_copies
-  hold_want op g o writes unlocked here calm h = cond_both (is_nil o.node.tracked) _ _ (Kept rules ps m me nodes frames r)
-      (λ t. (let none = nil_none _ t in satisfy_holds rules ps m me nodes frames r op.real g o here unlocked none (h.good.mine.quiet none) calm h))
+  hold_want op g o none_now writes unlocked here calm h = cond_both (is_nil o.node.tracked) _ _ (Kept rules ps m me nodes frames r)
+      (λ t. (let none = nil_none _ t in satisfy_holds rules ps m me nodes frames r op.real g o none_now here unlocked none (h.good.mine.quiet none) calm h))
       (λ some. cond_both (is_idle o.node.revoking) _ _ (Kept rules ps m me nodes frames r)
       (λ i. revoke_holds rules ps m me nodes frames r (Some (record { request = 0; op = op })) g o some here unlocked (idle_none _ i) calm
       (λ w e. inr ((let k : record { request = 0; op = op } ≡ w = cc in ap (λ (x : Wish). x.request) (sym k)), (let k : record { request = 0; op = op } ≡ w = cc in ap (λ (x : Wish). reads_op x.op) (sym k) ∙ writes))) h)
@@ -89,13 +90,13 @@ module _ (rules : Rules) (ps : List ℕ) (m me : ℕ) (nodes : ℕ → Node) (fr
       let r : is_read_op op.real ≡ false = false_from_ne_true _ (λ a. (let z : (is_read_op op.real && (is_here o.node.copy || is_reading o.node.copy)) ≡ true = rw (a, here) refl in cc)) in
       (r, false_from_ne_true _ (λ a. (let z = reads_is_read op a in cc)))
 
-  pub want_of_holds : (op : Op) (g : Ghost) (o : Out) → (is_read_op op.real ≡ false → o.node.locked ≡ false) → (is_here o.node.copy ≡ true → g.vacuum ≡ None) → Holds rules ps m me nodes frames r g o → Kept rules ps m me nodes frames r (Rule.want_of rules me m op o)
+  pub want_of_holds : (op : Op) (g : Ghost) (o : Out) → o.node.wish ≡ None → (is_read_op op.real ≡ false → o.node.locked ≡ false) → (is_here o.node.copy ≡ true → g.vacuum ≡ None) → Holds rules ps m me nodes frames r g o → Kept rules ps m me nodes frames r (Rule.want_of rules me m op o)
   unfolding Rule.want_of
-  want_of_holds op g o unlocked calm h = cond_both (is_read_op op.real && (is_here o.node.copy || is_reading o.node.copy)) _ _ (Kept rules ps m me nodes frames r)
+  want_of_holds op g o none_now unlocked calm h = cond_both (is_read_op op.real && (is_here o.node.copy || is_reading o.node.copy)) _ _ (Kept rules ps m me nodes frames r)
       (λ t. (let p = and_parts (is_read_op op.real) (is_here o.node.copy || is_reading o.node.copy) t in read_holds op g o p.0 p.1 h))
       (λ f. cond_both (is_here o.node.copy) _ _ (Kept rules ps m me nodes frames r)
-      (λ here. (let w = writes_else op g o f here in hold_want op g o w.1 (unlocked w.0) here (calm here) h))
-      (λ _. call_holds op g o h))
+      (λ here. (let w = writes_else op g o f here in hold_want op g o none_now w.1 (unlocked w.0) here (calm here) h))
+      (λ away. call_holds op g o away h))
 
   next_of_holds : (entry : Option Entry) (asks : List Waiter) (g : Ghost) (o : Out) → ((a : Waiter) → Asked a asks → Asked a g.queue) → Holds rules ps m me nodes frames r g o → Kept rules ps m me nodes frames r (Rule.next_of me o entry asks)
   unfolding Rule.next_of Says Asked

@@ -59,6 +59,7 @@ NodeInv-holding ps m g n node wish all is small wishes unasked h =
       passing = λ _ b. absurd (omega arith);
       locked = λ a. absurd (let k = (h.locked a).0 in cc);
       owner = h.owner;
+      unwished = λ a. absurd (let k = (h.locked a).0 in cc);
       wish = λ w e. h.wish w (wishes w e).0;
       own = λ w e a b c d. absurd ((wishes w e).1 c b d);
       request = h.request;
@@ -147,6 +148,7 @@ NodeInv-shift g g' k node ne c d h = record {
   passing = λ a. absurd (ne (a ∙ ap (λ (e : Entry). e.holder) c.entry));
   locked = λ a. absurd (ne (h.here (h.locked a).0).0);
   owner = λ a. h.owner (d.owner a);
+  unwished = h.unwished;
   wish = h.wish;
   own = λ w a b. absurd (ne (b ∙ ap (λ (e : Entry). e.holder) c.entry));
   request = λ a. absurd (ne (a ∙ ap (λ (e : Entry). e.holder) c.entry));
@@ -219,6 +221,7 @@ pub record Own (g g' : Ghost) (n : ℕ) (node node' : Node) : Type 0 where
   pub value : value_of node'.copy ≡ reading g'.register.versions
   pub locked : node'.locked ≡ true → (g'.register.owner ≡ Some n) × (node'.tracked ≡ []) × (node'.revoking ≡ None) × (g'.vacuum ≡ None)
   pub owner : g'.register.owner ≡ Some n → node'.locked ≡ true
+  pub unwished : node'.locked ≡ true → node'.wish ≡ None
   pub next : node'.next ≡ node.next
   pub recalls : node'.recalls ≡ node.recalls
   pub wishes : Wishes node node'
@@ -243,6 +246,7 @@ NodeInv-own ps m g g' n node node' all here c d h =
       passing = λ _ b. absurd (omega arith);
       locked = λ a. (let k = d.locked a in (d.here, k.0, k.1, k.2, k.3));
       owner = d.owner;
+      unwished = d.unwished;
       wish = λ w e. ⊎_elim
           (λ (x : node.wish ≡ Some w). rw d.next (h.wish w x))
           (λ (x : (w.request ≡ 0) × (reads_op w.op ≡ false)). (let k = h.next in let e = d.next in let z = x.0 in omega arith))

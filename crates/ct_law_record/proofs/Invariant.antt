@@ -148,6 +148,7 @@ pub record Facts (g : Ghost) (n : ℕ) (copy : Option Copy) (now : Option Wish) 
   pub passing : n ≡ g.entry.holder → rank copy ≤ g.entry.least → (g.top ≤ g.entry.least) × (g.entry.value ≡ reading g.register.versions)
   pub locked : lock ≡ true → (is_here copy ≡ true) × (g.register.owner ≡ Some n) × (tracked ≡ []) × (revoking ≡ None) × (g.vacuum ≡ None)
   pub owner : g.register.owner ≡ Some n → lock ≡ true
+  pub unwished : lock ≡ true → now ≡ None
   pub wish : (w : Wish) → now ≡ Some w → w.request < number
   pub own : (w : Wish) → now ≡ Some w → n ≡ g.entry.holder → w.request ≢ 0 → w.request ≡ g.entry.request → reads_op w.op ≡ false → rank copy ≤ g.entry.least
   pub request : n ≡ g.entry.holder → g.entry.request ≢ 0 → (1 ≤ g.entry.least) × (g.entry.request < number)

@@ -146,8 +146,8 @@ says_called g n copy next wish op new from to (Grant q rsn value) k = λ p. (let
 says_called g n copy next wish op new from to (RevokeAck rsn) k = λ p. (let r = k p in record { below = r.below; running = r.running; none = r.none; ungranted = λ _. new })
 says_called g n copy next wish op new from to _ k = k
 
-pub NodeInv-called : (g : Ghost) (n : ℕ) (node : Node) (op : Op) → NodeInv g n node → NodeInv g n (called op node)
-NodeInv-called g n node op h = grind (arith, says_called g n node.copy node.next node.wish op (ungranted_new g n node op h))
+pub NodeInv-called : (g : Ghost) (n : ℕ) (node : Node) (op : Op) → node.locked ≡ false → NodeInv g n node → NodeInv g n (called op node)
+NodeInv-called g n node op unlocked h = grind (arith, says_called g n node.copy node.next node.wish op (ungranted_new g n node op h))
 
 -- the wish ends
 says_nowish : (g : Ghost) (n : ℕ) (copy : Option Copy) (next : ℕ) (now : Option Wish) → (from to : ℕ) (b : Body) → Says g n copy next now from to b → Says g n copy next None from to b

@@ -282,7 +282,7 @@ module _ (rules : Rules) (ps : List ℕ) (m me : ℕ) (nodes : ℕ → Node) (fr
       (λ e. ⊎_elim (λ (k : o.node.entry ≡ Some g.entry). k) (λ k. absurd (came.asked (sym at.2 ∙ ap (λ (x : Entry). x.request) k.1))) (h.good.master e).entry) h in
       let p2 = subst (λ (x : ℕ × List ℕ). Holds rules ps m me nodes frames r (held g) (with_node (record o.node { copy = Some (record { rsn = x.0; kind = Here; value = x.1 }); wish = None; tracked = []; revoking = None }) o)) (λ i. (at.1 i, at.3 i)) p in
       let away : is_here o.node.copy ≡ false = false_from_ne_true _ (λ t. (let up = (h.good.mine.here t).1 in omega arith)) in
-      let s = satisfy_holds rules ps m me nodes frames r w.0.op.real (held g) (with_node (record o.node { copy = Some (record { rsn = rsn + 1; kind = Here; value = value }); wish = None; tracked = []; revoking = None }) o) refl unlocked refl refl (h.good.mine.nobody (sym at.0) away).2 p2 in
+      let s = satisfy_holds rules ps m me nodes frames r w.0.op.real (held g) (with_node (record o.node { copy = Some (record { rsn = rsn + 1; kind = Here; value = value }); wish = None; tracked = []; revoking = None }) o) refl refl unlocked refl refl (h.good.mine.nobody (sym at.0) away).2 p2 in
       let j : Kept rules ps m me nodes frames r (satisfy_wish rules me o.node.wish (Rule.becomes (rsn + 1) value o)) = subst (λ (x : Option Wish). Kept rules ps m me nodes frames r (satisfy_wish rules me x (Rule.becomes (rsn + 1) value o))) (sym w.1) s in
       drain_holds rules ps m me nodes frames r _ j.0 _ (λ s w. w) j.1
 
@@ -380,11 +380,11 @@ module _ (rules : Rules) (ps : List ℕ) (m me : ℕ) (nodes : ℕ → Node) (fr
       let asked : q ≢ 0 = ⊎_elim (λ (e : x ≡ me). (came.0 e).1) (λ (ne : x ≢ me). (came.1 x ne refl).1) (cases_eq x me) in
       on_call_of_holds x q k p.0 (Rule.opened me (end_vacuum o)) (Rule.opened me (end_vacuum o)).node.entry refl at asked ((λ e. (let j = came.0 e in (rw p.4 j.0, j.1))), came.1) p.1
 
-  pub want_holds : (op : Op) (g : Ghost) (o : Out) → (is_read_op op.real ≡ false → o.node.locked ≡ false) → Holds rules ps m me nodes frames r g o → Kept rules ps m me nodes frames r (Rule.want rules me m op o)
+  pub want_holds : (op : Op) (g : Ghost) (o : Out) → o.node.wish ≡ None → (is_read_op op.real ≡ false → o.node.locked ≡ false) → Holds rules ps m me nodes frames r g o → Kept rules ps m me nodes frames r (Rule.want rules me m op o)
   unfolding Rule.want
-  want_holds op g o free h = cond_both (me == m && not o.node.locked) (Rule.opened me (end_vacuum o)) o (λ x. Kept rules ps m me nodes frames r (Rule.want_of rules me m op x))
-      (λ t. (let q = and_parts (me == m) (not o.node.locked) t in let p = opened_holds g o (eqb-true me m q.0) h in want_of_holds rules ps m me nodes frames r op p.0 (Rule.opened me (end_vacuum o)) (λ w. p.3 ∙ free w) (λ _. p.2) p.1))
-      (λ f. want_of_holds rules ps m me nodes frames r op g o free (λ here. ⊎_elim
+  want_holds op g o none_now free h = cond_both (me == m && not o.node.locked) (Rule.opened me (end_vacuum o)) o (λ x. Kept rules ps m me nodes frames r (Rule.want_of rules me m op x))
+      (λ t. (let q = and_parts (me == m) (not o.node.locked) t in let p = opened_holds g o (eqb-true me m q.0) h in want_of_holds rules ps m me nodes frames r op p.0 (Rule.opened me (end_vacuum o)) (p.5 ∙ none_now) (λ w. p.3 ∙ free w) (λ _. p.2) p.1))
+      (λ f. want_of_holds rules ps m me nodes frames r op g o none_now free (λ here. ⊎_elim
       (λ (e : me ≡ m). (h.good.mine.locked (shut e f)).4)
       (λ (ne : me ≢ m). calm_other rules ps m me nodes frames r g o.node h.good here ne)
       (cases_eq me m)) h)
@@ -408,7 +408,7 @@ module _ (rules : Rules) (ps : List ℕ) (m me : ℕ) (nodes : ℕ → Node) (fr
       let s = h.good.mine.seen in
       let w = h.good.all.within (rank o.node.copy) in
       drain_holds rules ps m me nodes frames r o.node.recalls _ _ (λ s w. w)
-      (lock_holds rules ps m me nodes frames r false (Told me (op.Unlock db key) answer.Unlocked) None g.register.seen g o k.0 k.2 k.3 k.4 (k.1, refl) (λ a. absurd (cc)) (λ a. absurd (cc)) (λ n ne e. absurd (cc)) (omega arith) (λ n ne. refl) h)
+      (lock_holds rules ps m me nodes frames r false (Told me (op.Unlock db key) answer.Unlocked) None g.register.seen g o k.0 k.2 k.3 k.4 (k.1, refl) (λ a. absurd (cc)) (λ a. absurd (cc)) (λ n ne e. absurd (cc)) (λ a. absurd (cc)) (omega arith) (λ n ne. refl) h)
 
   pub retry_holds : (wish : Option Wish) (g : Ghost) (o : Out) → o.node.wish ≡ wish → Holds rules ps m me nodes frames r g o → Kept rules ps m me nodes frames r (Rule.retry me m o wish)
   unfolding Rule.retry Says

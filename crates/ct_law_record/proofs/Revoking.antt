@@ -53,6 +53,7 @@ module _ (rules : Rules) (ps : List ℕ) (m me : ℕ) (nodes : ℕ → Node) (fr
         value = holds.1;
         locked = λ a. absurd (cc);
         owner = h.good.mine.owner;
+        unwished = λ a. absurd (cc);
         next = refl;
         recalls = refl;
         wishes = λ w e. inl (wishes w e);
@@ -73,7 +74,7 @@ module _ (rules : Rules) (ps : List ℕ) (m me : ℕ) (nodes : ℕ → Node) (fr
   unfolding end_wish with_node ended is_here is_kind_here
   end_wish_holds None g o is here unlocked calm mine_gone gone h = (_, ended_holds o.node.wish g o here unlocked calm (λ w e. absurd (cc)) mine_gone gone h)
   end_wish_holds (Some w) g o is here unlocked calm mine_gone gone h = cond_both (w.request == 0) _ _ (Kept rules ps m me nodes frames r)
-      (λ _. satisfy_holds rules ps m me nodes frames r w.op.real _ (with_node (ended None o.node) o) refl unlocked refl refl calm (ended_holds None g o here unlocked calm (λ v e. absurd (cc)) mine_gone gone h))
+      (λ _. satisfy_holds rules ps m me nodes frames r w.op.real _ (with_node (ended None o.node) o) refl refl unlocked refl refl calm (ended_holds None g o here unlocked calm (λ v e. absurd (cc)) mine_gone gone h))
       (λ f. (_, ended_holds o.node.wish g o here unlocked calm (λ v e. e) mine_gone gone h))
 
   pub end_holds : (g : Ghost) (o : Out) → is_here o.node.copy ≡ true → o.node.locked ≡ false → g.vacuum ≡ None →
@@ -127,6 +128,7 @@ module _ (rules : Rules) (ps : List ℕ) (m me : ℕ) (nodes : ℕ → Node) (fr
               value = holds.1;
               locked = λ a. absurd (cc);
               owner = h.good.mine.owner;
+              unwished = λ a. absurd (cc);
               next = refl;
               recalls = refl;
               wishes = λ w e. inl e;
@@ -168,7 +170,7 @@ module _ (rules : Rules) (ps : List ℕ) (m me : ℕ) (nodes : ℕ → Node) (fr
       let s = stale_holds rsn g o h in
       let node : Node = record o.node { copy = stale rsn o.node.copy } in
       let new : Node = called w.op node in
-      let c = node_holds rules ps m me nodes frames r new g (with_node node o) s (NodeInv-called g me node w.op s.good.mine) s.good.master in
+      let c = node_holds rules ps m me nodes frames r new g (with_node node o) s (NodeInv-called g me node w.op (false_from_ne_true _ (λ t. (let z = h.good.mine.unwished t in cc))) s.good.mine) s.good.master in
       let a = ack_sent x rsn g (with_node new o) k (λ a. rw rank-stale (reading-stale rsn o.node.copy a).1) (ungranted_new g me node w.op s.good.mine) c in
       (_, send_holds rules ps m me nodes frames r m (Call o.node.next kind.Read) _ _ (λ q s v is. absurd (cc)) a (λ _. (omega arith, (let n = h.good.mine.next in omega arith))) (λ n ne e. absurd (ne (sym e)))))
       (λ f. (

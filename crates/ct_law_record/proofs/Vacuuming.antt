@@ -223,6 +223,7 @@ module _ (rules : Rules) (ps : List ℕ) (m me : ℕ) (nodes : ℕ → Node) (fr
     runs = λ w e. absurd (let k = form.3 in cc);
     readers = readers ∙ (h.mirror form.0).0;
     quiet = λ _. form.3;
+    unwished = λ a. absurd (let k = form.1 in cc);
     revoking = revoking ∙ (h.mirror form.0).1;
     granted = granted_end g g' me o.node.copy o.node.wish (inl (nobody_has me g.readers ((readers_idle g me o.node form.0 form.3 h).0 ∙ form.2)));
     seen = subst (λ (x : Register). x.seen me ≤ g'.place (rank copy)) (sym register) seen;
