@@ -398,6 +398,7 @@ module _ (rules : Rules) (ps : List ℕ) (m me : ℕ) (nodes : ℕ → Node) (fr
       (λ e. absurd (ne e))
       (λ n apart e. (let low = recalled_low g n (nodes n) x (h.good.others n apart) asked e in let k = rank_of o.node.copy here in let b = holds in record {
         low = low.0;
+        apart = (λ z. ne (e ∙ sym z));
         below = omega arith;
         current = λ w _ _ _. (subst (λ (k : ℕ). has_node k (placed x.node o.node.tracked) ≡ true) e (has-track_new x.node o.node.tracked), holds.1, sym k ∙ holds.0);
       })))))

@@ -7,7 +7,7 @@ use Rattle.std.specs.Prelude.{List}
 use Rattle.ct_vacuum.specs.Vacuum.{Vacuuming}
 use Rattle.ct_rules.specs.declared.state.Entry.{Entry}
 use Rattle.ct_register.specs.Register.{reading}
-use Rattle.ct_law_record.proofs.Rule.{Body, Copy, For_reading, Give, Given, Grant, Node, Pass, Refuse, RevokeAck, Stale, VDeleted, VStored, Wish, drop_copy, has_node, is_here, is_kind_here, is_kind_reading, is_reading, raise_copy, rank, reads_op, value_of}
+use Rattle.ct_law_record.proofs.Rule.{is_odd, is_kind_odd, Body, Copy, For_reading, Give, Given, Grant, Node, Pass, Refuse, RevokeAck, Stale, VDeleted, VStored, Wish, drop_copy, has_node, is_here, is_kind_here, is_kind_reading, is_reading, raise_copy, rank, reads_op, value_of}
 
 -- who stands at the top stands for the whole list
 pub whole_reading : (ps : List ℕ) (m : ℕ) (g : Ghost) (a : ℕ) → GlobalInv ps m g → g.top ≤ a → reading g.register.versions ≡ reading (take (g.place a) g.register.versions)
@@ -23,7 +23,7 @@ unfolding Says rank Ungranted
 says_granted g n copy next now s v ne at met from to (Give rsn value) k = λ p. (let r = k p in record { below = r.below; held = λ a. absurd (ne a) })
 says_granted g n copy next now s v ne at met from to (Pass q rsn value) k = λ p. (let r = k p in record { low = r.low; asked = r.asked; below = r.below; current = λ w e. absurd (cc) })
 says_granted g n copy next now s v ne at met from to (Refuse q rsn) k = λ p. (let r = k p in record { low = r.low; asked = r.asked; below = r.below; gone = λ w e. absurd (cc); stale = λ a. absurd (ne (sym a)) })
-says_granted g n copy next now s v ne at met from to (Grant q rsn value) k = λ p. (let r = k p in record { low = r.low; below = r.below; current = λ w e. absurd (cc) })
+says_granted g n copy next now s v ne at met from to (Grant q rsn value) k = λ p. (let r = k p in record { apart = r.apart; low = r.low; below = r.below; current = λ w e. absurd (cc) })
 says_granted g n copy next now s v ne at met from to (RevokeAck rsn) k = λ p. (let r = k p in record { below = r.below; running = r.running; none = λ e. absurd (met (r.ungranted e)); ungranted = λ e f' s' to' q' r' v' is' w we. absurd (cc) })
 says_granted g n copy next now s v ne at met from to (VStored rsn) k = λ p. (let r = k p in let b = r.below in record { below = r.below; past = past_top (rsn + 1) _ (omega arith) })
 says_granted g n copy next now s v ne at met from to (VDeleted rsn) k = λ p. (let r = k p in let b = r.below in record { below = r.below; past = past_top (rsn + 2) _ (omega arith) })
@@ -31,7 +31,7 @@ says_granted g n copy next now s v ne at met from to _ k = k
 
 pub NodeInv-granted : (ps : List ℕ) (m : ℕ) (g : Ghost) (n : ℕ) (node : Node) (rsn : ℕ) (value : List ℕ) → GlobalInv ps m g → n ≢ g.entry.holder → rsn + 1 ≡ g.top → is_here node.copy ≡ false → has_node n g.readers ≡ true → value ≡ reading g.register.versions →
     (Ungranted g.frames n node.wish → ⊥) → NodeInv g n node → NodeInv g n (granted rsn value node)
-unfolding rank is_here is_kind_here value_of is_reading is_kind_reading
+unfolding rank is_here is_kind_here is_odd is_kind_odd value_of is_reading is_kind_reading
 NodeInv-granted ps m g n node rsn value all ne at away has new met h =
     let whole = whole_reading ps m g (rsn + 1) all (omega arith) in
     let seen : g.register.seen n ≤ g.place (rsn + 1) = (let s = h.seen in let a = all.within (rank node.copy) in let b = all.whole (rsn + 1) (omega arith) in omega arith) in
@@ -48,6 +48,7 @@ pub record Touch (g : Ghost) (c d : Option Copy) : Type 0 where
   pub some : 1 ≤ rank d → (1 ≤ rank c) × (rank c ≤ rank d)
   pub away : is_here d ≡ false
   pub unread : is_reading d ≡ false
+  pub even : is_odd d ≡ false
   pub value : value_of d ≡ reading (take (g.place (rank d)) g.register.versions)
   pub more : g.place (rank c) ≤ g.place (rank d)
 
@@ -86,6 +87,7 @@ NodeInv-touched g n node d away t h =
     let more = t.more in
     let seen = h.seen in record {
       under = omega arith;
+      even = t.even;
       here = λ a. absurd (let b = t.away in cc);
       holds = λ a b. absurd (let u = under a in omega arith);
       passing = λ a b. h.passing a (under a).0;
@@ -122,7 +124,7 @@ drop_is rsn l None = inl refl
 drop_is rsn l (Some c) = grind arith
 
 pub NodeInv-raised : (ps : List ℕ) (m : ℕ) (g : Ghost) (n rsn : ℕ) (node : Node) (l : Bool) → GlobalInv ps m g → rsn + 2 ≤ g.top → Emptied g.place g.register.versions (rsn + 1) → NodeInv g n node → NodeInv g n (touched (raise_copy rsn l node.copy) node)
-unfolding rank is_here is_reading is_kind_here is_kind_reading value_of Emptied
+unfolding rank is_here is_reading is_odd is_kind_odd is_kind_here is_kind_reading value_of Emptied
 NodeInv-raised ps m g n rsn node l all below empty h = ⊎_elim
     (λ (e : raise_copy rsn l node.copy ≡ node.copy). subst (λ (d : Option Copy). NodeInv g n (touched d node)) (sym e) h)
     (λ (e : (1 ≤ rank node.copy) × (rank node.copy ≤ rsn) × (is_here node.copy ≡ false) × (raise_copy rsn l node.copy ≡ Some (record { rsn = rsn; kind = Stale; value = [] }))).
@@ -133,13 +135,14 @@ NodeInv-raised ps m g n rsn node l all below empty h = ⊎_elim
       some = λ a. (e.0, omega arith);
       away = refl;
       unread = refl;
+      even = refl;
       value = sym empty;
       more = all.rises _ _ (omega arith);
     }) h))
     (raise_is rsn l node.copy)
 
 pub NodeInv-dropped : (ps : List ℕ) (m : ℕ) (g : Ghost) (n rsn : ℕ) (node : Node) (l : Bool) → GlobalInv ps m g → rsn + 2 ≤ g.top → Joined g.place (rsn + 1) → NodeInv g n node → NodeInv g n (touched (drop_copy rsn l node.copy) node)
-unfolding rank is_here is_reading is_kind_here is_kind_reading value_of Emptied Joined
+unfolding rank is_here is_reading is_odd is_kind_odd is_kind_here is_kind_reading value_of Emptied Joined
 NodeInv-dropped ps m g n rsn node l all below joined h = ⊎_elim
     (λ (e : drop_copy rsn l node.copy ≡ node.copy). subst (λ (d : Option Copy). NodeInv g n (touched d node)) (sym e) h)
     (λ (e : (1 ≤ rank node.copy) × (rank node.copy ≤ rsn + 1) × (is_here node.copy ≡ false) × (drop_copy rsn l node.copy ≡ None)).
@@ -150,6 +153,7 @@ NodeInv-dropped ps m g n rsn node l all below joined h = ⊎_elim
       some = λ a. absurd (omega arith);
       away = refl;
       unread = refl;
+      even = refl;
       value = sym all.absent;
       more = (let u = all.rises (rank node.copy) (rsn + 1) low in omega arith);
     }) h))

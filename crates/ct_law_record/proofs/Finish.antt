@@ -11,7 +11,7 @@ use Rattle.ct_deleg.specs.Tracked.{Revocation}
 use Rattle.ct_register.specs.Register.{Register, reading, emptied}
 use Rattle.ct_law_record.specs.Labels.{Vacuumed}
 use Rattle.ct_law_record.proofs.Rule
-use Rattle.ct_law_record.proofs.Rule.{Body, Call, Copy, Done, Frame, Give, Grant, Node, Out, Pass, Recalls, Refuse, Revoke, RevokeAck, VDelete, VDeleted, VStore, VStored, Wish, greater, has_node, is_here, is_reading, rank, reads_op, tell, value_of, with_node}
+use Rattle.ct_law_record.proofs.Rule.{is_odd, Body, Call, Copy, Done, Frame, Give, Grant, Node, Out, Pass, Recalls, Refuse, Revoke, RevokeAck, VDelete, VDeleted, VStore, VStored, Wish, greater, has_node, is_here, is_reading, rank, reads_op, tell, value_of, with_node}
 
 abbrev pub finished : ℕ → ℕ → Ghost → Ghost
 finished m floor g = record { entry = default_entry m floor; queue = g.queue; frames = g.frames; register = emptied g.register; readers = []; revoking = false; top = g.top; place = λ _. 0; vacuum = None }
@@ -27,10 +27,10 @@ unfolding Says rank is_reading Emptied Joined
 says_finished m floor g n copy next now up top none idle unmet from to (Give rsn value) k = λ p. (let r = k p in let b = r.below in record { below = b; held = λ _ a. absurd (omega arith) })
 says_finished m floor g n copy next now up top none idle unmet from to (Pass q rsn value) k = λ p. (let r = k p in record { low = r.low; asked = r.asked; below = (let b = r.below in omega arith); current = λ w is at l. (let c = r.current w is at l in absurd (unmet w is l (sym c.0) (λ z. r.asked (sym at ∙ z)) (at ∙ sym c.2))) })
 says_finished m floor g n copy next now up top none idle unmet from to (Refuse q rsn) k = λ p. (let r = k p in let b = r.below in record { low = r.low; asked = r.asked; below = omega arith; gone = r.gone; stale = λ _ a _. absurd (omega arith) })
-says_finished m floor g n copy next now up top none idle unmet from to (Grant q rsn value) k = λ p. (let r = k p in record { low = r.low; below = r.below; current = λ w a b c. absurd (nobody_has n g.readers none (r.current w a b c).0) })
+says_finished m floor g n copy next now up top none idle unmet from to (Grant q rsn value) k = λ p. (let r = k p in record { apart = r.apart; low = r.low; below = r.below; current = λ w a b c. absurd (nobody_has n g.readers none (r.current w a b c).0) })
 says_finished m floor g n copy next now up top none idle unmet from to (Revoke rsn) k = record { below = k.below; running = λ e. absurd (let y = k.running e in cc) }
 says_finished m floor g n copy next now up top none idle unmet from to (RevokeAck rsn) k = λ p. (let r = k p in record { below = r.below; running = λ e. absurd (let y = r.running e in cc); none = λ _. refl; ungranted = r.ungranted })
-says_finished m floor g n copy next now up top none idle unmet from to (VStore rsn) k = record { below = k.below; empty = empty_reading }
+says_finished m floor g n copy next now up top none idle unmet from to (VStore rsn) k = record { apart = k.apart; below = k.below; empty = empty_reading }
 says_finished m floor g n copy next now up top none idle unmet from to (VStored rsn) k = λ p. (let r = k p in record { below = r.below; past = past_none (rsn + 1) None refl })
 says_finished m floor g n copy next now up top none idle unmet from to (VDelete rsn) k = record { below = k.below; joined = omega arith }
 says_finished m floor g n copy next now up top none idle unmet from to (VDeleted rsn) k = λ p. (let r = k p in record { below = r.below; past = past_none (rsn + 2) None refl })
@@ -39,9 +39,10 @@ says_finished m floor g n copy next now up top none idle unmet from to _ k = k
 pub NodeInv-finished : (m floor : ℕ) (g : Ghost) (n : ℕ) (node : Node) → g.entry.least < floor → g.top ≤ floor → g.readers ≡ [] → g.revoking ≡ false → g.register.owner ≡ None → node.locked ≡ false → node.revoking ≡ None → node.tracked ≡ [] →
     ((w : Wish) → node.wish ≡ Some w → reads_op w.op ≡ false → n ≡ g.entry.holder → w.request ≢ 0 → w.request ≢ g.entry.request) →
     NodeInv g n node → Facts (finished m floor g) n None node.wish node.next node.locked node.recalls node.tracked node.revoking
-unfolding rank is_here is_reading value_of
+unfolding rank is_here is_odd is_reading value_of
 NodeInv-finished m floor g n node up top none idle unowned unlocked unrevoked untracked unmet h = record {
   under = omega arith;
+  even = refl;
   here = λ a. absurd (cc);
   holds = λ _ a. absurd (omega arith);
   passing = λ _ _. (top, sym empty_reading);

@@ -9,7 +9,12 @@ use Rattle.ct_deleg.specs.Tracked.{Revocation}
 use Rattle.ct_vacuum.specs.Vacuum.{Vacuuming}
 use Rattle.ct_rules.specs.declared.state.Entry.{Entry}
 use Rattle.ct_register.specs.Register.{reading}
-use Rattle.ct_law_record.proofs.Rule.{Body, Call, Copy, Done, Frame, Give, Grant, Here, Node, Pass, Recalls, Refuse, Revoke, RevokeAck, VDelete, VDeleted, VStore, VStored, Wish, has_node, is_here, is_kind_here, is_kind_reading, is_reading, rank, reads_op, value_of}
+use Rattle.ct_law_record.proofs.Rule.{is_odd, is_kind_odd, Body, Call, Copy, Done, Frame, Give, Grant, Here, Node, Pass, Recalls, Refuse, Revoke, RevokeAck, VDelete, VDeleted, VStore, VStored, Wish, has_node, is_here, is_kind_here, is_kind_reading, is_reading, rank, reads_op, value_of}
+
+here_even : (c : Option Copy) → is_here c ≡ true → is_odd c ≡ false
+unfolding is_here is_odd is_kind_here is_kind_odd
+here_even None h = absurd (cc)
+here_even (Some c) h = grind arith
 
 reading_not_here : (c : Option Copy) → is_here c ≡ true → is_reading c ≡ true → ⊥
 unfolding is_here is_reading is_kind_here is_kind_reading
@@ -33,11 +38,11 @@ says_holding g n copy next now wish is small up none wishes unasked from to (Rec
 says_holding g n copy next now wish is small up none wishes unasked from to (Give rsn value) k = λ p. (let r = k p in let b = r.below in record { below = omega arith; held = λ _ a. absurd (omega arith) })
 says_holding g n copy next now wish is small up none wishes unasked from to (Pass q rsn value) k = λ p. (let r = k p in record { low = r.low; asked = r.asked; below = r.below; current = λ w e. r.current w (wishes w e) })
 says_holding g n copy next now wish is small up none wishes unasked from to (Refuse q rsn) k = λ p. (let r = k p in record { low = r.low; asked = r.asked; below = r.below; gone = λ w e. r.gone w (wishes w e); stale = λ a b c. absurd (unasked q rsn r c) })
-says_holding g n copy next now wish is small up none wishes unasked from to (Grant q rsn value) k = λ p. (let r = k p in record { low = r.low; below = (let b = r.below in omega arith); current = λ w e a b. absurd (let c = (r.current w (wishes w e) a b).0 in let z : has_node n [] ≡ true = subst (λ l. has_node n l ≡ true) none c in cc) })
+says_holding g n copy next now wish is small up none wishes unasked from to (Grant q rsn value) k = λ p. (let r = k p in record { apart = r.apart; low = r.low; below = (let b = r.below in omega arith); current = λ w e a b. absurd (let c = (r.current w (wishes w e) a b).0 in let z : has_node n [] ≡ true = subst (λ l. has_node n l ≡ true) none c in cc) })
 says_holding g n copy next now wish is small up none wishes unasked from to (Done m q) k = k
 says_holding g n copy next now wish is small up none wishes unasked from to (Revoke rsn) k = record { below = (let b = k.below in omega arith); running = λ e. (let b = k.below in absurd (omega arith)) }
 says_holding g n copy next now wish is small up none wishes unasked from to (RevokeAck rsn) k = λ p. (let r = k p in let b = r.below in record { below = omega arith; running = λ e. absurd (omega arith); none = λ _. refl; ungranted = λ e. absurd (omega arith) })
-says_holding g n copy next now wish is small up none wishes unasked from to (VStore rsn) k = record { below = (let b = k.below in omega arith); empty = k.empty }
+says_holding g n copy next now wish is small up none wishes unasked from to (VStore rsn) k = record { apart = k.apart; below = (let b = k.below in omega arith); empty = k.empty }
 says_holding g n copy next now wish is small up none wishes unasked from to (VStored rsn) k = λ p. (let r = k p in let b = r.below in record { below = omega arith; past = past_top (rsn + 1) _ (omega arith) })
 says_holding g n copy next now wish is small up none wishes unasked from to (VDelete rsn) k = record { below = (let b = k.below in omega arith); joined = k.joined }
 says_holding g n copy next now wish is small up none wishes unasked from to (VDeleted rsn) k = λ p. (let r = k p in let b = r.below in record { below = omega arith; past = past_top (rsn + 2) _ (omega arith) })
@@ -46,7 +51,7 @@ pub NodeInv-holding : (ps : List ℕ) (m : ℕ) (g : Ghost) (n : ℕ) (node : No
     ((w : Wish) → wish ≡ Some w → (node.wish ≡ Some w) × (w.request ≡ g.entry.request → w.request ≢ 0 → reads_op w.op ≡ false → ⊥)) →
     ((q rsn : ℕ) → RefuseAt g.entry n node.next node.wish (rank node.copy) q rsn → g.entry.request ≢ q) →
     NodeInv g n node → NodeInv (held g) n (holding g.entry wish node)
-unfolding rank is_here is_kind_here value_of is_reading is_kind_reading readers_of is_revoking
+unfolding rank is_here is_kind_here is_odd is_kind_odd value_of is_reading is_kind_reading readers_of is_revoking
 NodeInv-holding ps m g n node wish all is small wishes unasked h =
     let away : is_here node.copy ≡ false = false_from_ne_true _ (λ t. (let up = (h.here t).1 in omega arith)) in
     let none = h.nobody is away in
@@ -54,6 +59,7 @@ NodeInv-holding ps m g n node wish all is small wishes unasked h =
     let top = pass.0 in
     record {
       under = omega arith;
+      even = refl;
       here = λ _. (is, omega arith);
       holds = λ _ _. (refl, pass.1);
       passing = λ _ b. absurd (omega arith);
@@ -122,6 +128,7 @@ says_shift g g' k copy next wish d gr f s from to at (Give rsn value) is h = λ 
 says_shift g g' k copy next wish d gr f s from to at (Pass q rsn value) is h = λ p. subst (λ e. PassAt e k next wish q rsn value) (sym d.entry) (h p)
 says_shift g g' k copy next wish d gr f s from to at (Refuse q rsn) is h = λ p. subst (λ e. RefuseAt e k next wish (rank copy) q rsn) (sym d.entry) (h p)
 says_shift g g' k copy next wish d gr f s from to at (Grant q rsn value) is h = λ p. (let r = h p in record {
+  apart = r.apart;
   low = r.low;
   below = (let b = r.below in let t = top_up g g' d in omega arith);
   current = λ w e same reads. (let c = r.current w e same reads in let n = gr f s (at ∙ p) q rsn value is w e same reads c.0 in (n.0, c.1 ∙ sym n.1, c.2 ∙ n.2));
@@ -135,7 +142,7 @@ says_shift g g' k copy next wish d gr f s from to at (RevokeAck rsn) is h = λ p
       none = λ e. r.none (same e).0;
       ungranted = λ e. subst (λ fs. Ungranted fs k wish) (sym d.sent) (r.ungranted (same e).0);
     })
-says_shift g g' k copy next wish d gr f s from to at (VStore rsn) is h = (let b = h.below in let t = top_up g g' d in record { below = omega arith; empty = d.empty (rsn + 1) (omega arith) h.empty })
+says_shift g g' k copy next wish d gr f s from to at (VStore rsn) is h = (let b = h.below in let t = top_up g g' d in record { apart = h.apart; below = omega arith; empty = d.empty (rsn + 1) (omega arith) h.empty })
 says_shift g g' k copy next wish d gr f s from to at (VStored rsn) is h = λ p. (let r = h p in let b = r.below in let t = top_up g g' d in record { below = omega arith; past = r.past })
 says_shift g g' k copy next wish d gr f s from to at (VDelete rsn) is h = (let b = h.below in let t = top_up g g' d in record { below = omega arith; joined = d.joined (rsn + 1) (omega arith) h.joined })
 says_shift g g' k copy next wish d gr f s from to at (VDeleted rsn) is h = λ p. (let r = h p in let b = r.below in let t = top_up g g' d in record { below = omega arith; past = r.past })
@@ -143,6 +150,7 @@ says_shift g g' k copy next wish d gr f s from to at (VDeleted rsn) is h = λ p.
 pub NodeInv-shift : (g g' : Ghost) (k : ℕ) (node : Node) → k ≢ g.entry.holder → Change g g' → Shift g g' k node.copy node.wish → NodeInv g k node → NodeInv g' k node
 NodeInv-shift g g' k node ne c d h = record {
   under = (let u = h.under in let t = top_up g g' c in omega arith);
+  even = h.even;
   here = λ a. absurd (ne (h.here a).0);
   holds = λ a. absurd (ne (a ∙ ap (λ (e : Entry). e.holder) c.entry));
   passing = λ a. absurd (ne (a ∙ ap (λ (e : Entry). e.holder) c.entry));
@@ -190,6 +198,7 @@ says_own g g' n copy copy' next now now' here here' up lower holder locks reads 
   stale = λ a b c. absurd (let m = r.stale (ap (λ (e : Entry). e.holder) (sym d.entry) ∙ a) (ap (λ (e : Entry). e.least) (sym d.entry) ∙ b) (ap (λ (e : Entry). e.request) (sym d.entry) ∙ c) in omega arith);
 })
 says_own g g' n copy copy' next now now' here here' up lower holder locks reads d gr f s from to at (Grant q rsn value) is h = λ p. (let r = h p in record {
+  apart = r.apart;
   low = r.low;
   below = (let b = r.below in let t = top_up g g' d in omega arith);
   current = λ w e same k. (let e' = reads w e k in let c = r.current w e' same k in let n' = gr f s (at ∙ p) q rsn value is w e' same k c.0 in (n'.0, c.1 ∙ sym n'.1, c.2 ∙ n'.2));
@@ -203,7 +212,7 @@ says_own g g' n copy copy' next now now' here here' up lower holder locks reads 
       none = λ _. false_from_ne_true _ (λ a. reading_not_here copy' here' a);
       ungranted = λ e. (let u = r.ungranted (same e).0 in λ f' s' to' q' r' v' is' w we k. u f' (subst (λ fs. Sent f' fs) d.sent s') to' q' r' v' is' w (reads w we k) k);
     })
-says_own g g' n copy copy' next now now' here here' up lower holder locks reads d gr f s from to at (VStore rsn) is h = (let b = h.below in let t = top_up g g' d in record { below = omega arith; empty = d.empty (rsn + 1) (omega arith) h.empty })
+says_own g g' n copy copy' next now now' here here' up lower holder locks reads d gr f s from to at (VStore rsn) is h = (let b = h.below in let t = top_up g g' d in record { apart = h.apart; below = omega arith; empty = d.empty (rsn + 1) (omega arith) h.empty })
 says_own g g' n copy copy' next now now' here here' up lower holder locks reads d gr f s from to at (VStored rsn) is h = λ p. (let r = h p in let b = r.below in let t = top_up g g' d in record { below = omega arith; past = past_more (rsn + 1) copy copy' up (λ _. omega arith) r.past })
 says_own g g' n copy copy' next now now' here here' up lower holder locks reads d gr f s from to at (VDelete rsn) is h = (let b = h.below in let t = top_up g g' d in record { below = omega arith; joined = d.joined (rsn + 1) (omega arith) h.joined })
 says_own g g' n copy copy' next now now' here here' up lower holder locks reads d gr f s from to at (VDeleted rsn) is h = λ p. (let r = h p in let b = r.below in let t = top_up g g' d in record { below = omega arith; past = past_more (rsn + 2) copy copy' up (λ _. omega arith) r.past })
@@ -241,6 +250,7 @@ NodeInv-own ps m g g' n node node' all here c d h =
     let up = d.up in
     let top = d.top in record {
       under = omega arith;
+      even = here_even node'.copy d.here;
       here = λ _. (at.0 ∙ sym holder, omega arith);
       holds = λ _ _. (top, d.value);
       passing = λ _ b. absurd (omega arith);

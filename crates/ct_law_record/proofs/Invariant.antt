@@ -8,7 +8,7 @@ use Rattle.ct_rules.specs.declared.state.RecallNote.{RecallNote}
 use Rattle.ct_rules.specs.declared.state.Waiter.{Waiter}
 use Rattle.ct_register.specs.Register.{Register, reading}
 use Rattle.ct_law_record.specs.Labels.{AcceptsAll}
-use Rattle.ct_law_record.proofs.Rule.{Body, Call, Copy, Done, Frame, Give, Given, Grant, Node, Out, Pass, Recalls, Refuse, Revoke, RevokeAck, VDelete, VDeleted, VStore, VStored, Wish, has_node, is_here, is_reading, is_storing, rank, reads_op, value_of}
+use Rattle.ct_law_record.proofs.Rule.{is_odd, Body, Call, Copy, Done, Frame, Give, Given, Grant, Node, Out, Pass, Recalls, Refuse, Revoke, RevokeAck, VDelete, VDeleted, VStore, VStored, Wish, has_node, is_here, is_reading, is_storing, rank, reads_op, value_of}
 
 -- the frame was sent
 unfoldable pub Sent : Frame → List Frame → Type 0
@@ -65,8 +65,9 @@ pub record RefuseAt (e : Entry) (n next : ℕ) (wish : Option Wish) (rank : ℕ)
   pub gone : (w : Wish) → wish ≡ Some w → reads_op w.op ≡ false → w.request ≢ q
   pub stale : e.holder ≡ n → e.least ≡ rsn + 1 → e.request ≡ q → rank ≤ e.least
 
-pub record GrantAt (top : ℕ) (readers : List ℕ) (newest : List ℕ) (n next : ℕ) (wish : Option Wish) (q rsn : ℕ) (value : List ℕ) : Type 0 where
+pub record GrantAt (from top : ℕ) (readers : List ℕ) (newest : List ℕ) (n next : ℕ) (wish : Option Wish) (q rsn : ℕ) (value : List ℕ) : Type 0 where
   pub low : q < next
+  pub apart : from ≢ n
   pub below : rsn + 1 ≤ top
   pub current : (w : Wish) → wish ≡ Some w → w.request ≡ q → reads_op w.op ≡ true → (has_node n readers ≡ true) × (value ≡ newest) × (rsn + 1 ≡ top)
 
@@ -96,7 +97,8 @@ Emptied place versions a = reading (take (place a) versions) ≡ []
 unfoldable pub Joined : (ℕ → ℕ) → ℕ → Type 0
 Joined place a = place a ≤ place 0
 
-pub record VStoreAt (top : ℕ) (place : ℕ → ℕ) (versions : List (List ℕ)) (rsn : ℕ) : Type 0 where
+pub record VStoreAt (from to top : ℕ) (place : ℕ → ℕ) (versions : List (List ℕ)) (rsn : ℕ) : Type 0 where
+  pub apart : from ≢ to
   pub below : rsn + 2 ≤ top
   pub empty : Emptied place versions (rsn + 1)
 
@@ -119,11 +121,11 @@ Says g n copy next wish from to (Recalls r) = r.node ≡ n → (r.request < next
 Says g n copy next wish from to (Give rsn value) = from ≡ n → GiveAt g.entry g.top n copy rsn value
 Says g n copy next wish from to (Pass q rsn value) = to ≡ n → PassAt g.entry n next wish q rsn value
 Says g n copy next wish from to (Refuse q rsn) = from ≡ n → RefuseAt g.entry n next wish (rank copy) q rsn
-Says g n copy next wish from to (Grant q rsn value) = to ≡ n → GrantAt g.top g.readers (reading g.register.versions) n next wish q rsn value
+Says g n copy next wish from to (Grant q rsn value) = to ≡ n → GrantAt from g.top g.readers (reading g.register.versions) n next wish q rsn value
 Says g n copy next wish from to (Done node q) = Unit {0}
 Says g n copy next wish from to (Revoke rsn) = RevokeAt g.top g.revoking rsn
 Says g n copy next wish from to (RevokeAck rsn) = from ≡ n → AckAt g.top g.revoking g.frames n copy wish rsn
-Says g n copy next wish from to (VStore rsn) = VStoreAt g.top g.place g.register.versions rsn
+Says g n copy next wish from to (VStore rsn) = VStoreAt from to g.top g.place g.register.versions rsn
 Says g n copy next wish from to (VStored rsn) = from ≡ n → VStoredAt g.top copy rsn
 Says g n copy next wish from to (VDelete rsn) = VDeleteAt g.top g.place rsn
 Says g n copy next wish from to (VDeleted rsn) = from ≡ n → VDeletedAt g.top copy rsn
@@ -143,6 +145,7 @@ pub record VacuumAt (v : Vacuuming) (n : ℕ) (copy : Option Copy) : Type 0 wher
 -- what holds of one node
 pub record Facts (g : Ghost) (n : ℕ) (copy : Option Copy) (now : Option Wish) (number : ℕ) (lock : Bool) (recalls_now : List RecallNote) (tracked : List ℕ) (revoking : Option Revocation) : Type 0 where
   pub under : rank copy ≤ g.top
+  pub even : is_odd copy ≡ false
   pub here : is_here copy ≡ true → (n ≡ g.entry.holder) × (g.entry.least < rank copy)
   pub holds : n ≡ g.entry.holder → g.entry.least < rank copy → (rank copy ≡ g.top) × (value_of copy ≡ reading g.register.versions)
   pub passing : n ≡ g.entry.holder → rank copy ≤ g.entry.least → (g.top ≤ g.entry.least) × (g.entry.value ≡ reading g.register.versions)
@@ -190,6 +193,8 @@ MasterInv m g node = MasterFacts m g.entry g.queue g.vacuum node.entry node.queu
 pub record Emptying (ps : List ℕ) (m holder top : ℕ) (versions : List (List ℕ)) (place : ℕ → ℕ) (readers : List ℕ) (revoking : Bool) (v : Vacuuming) : Type 0 where
   pub at : holder ≡ m
   pub others : v.others ≡ ps
+  pub peers : has_node m ps ≡ false
+  pub home : has_node m v.missing ≡ false
   pub above : top ≡ v.rsn + 2
   pub empty : reading versions ≡ []
   pub past : Emptied place versions (v.rsn + 1)

@@ -6,7 +6,7 @@ use Rattle.std.specs.Prelude.{List}
 use Rattle.ct_vacuum.specs.Vacuum.{Vacuuming}
 use Rattle.ct_rules.specs.declared.state.RecallNote.{RecallNote}
 use Rattle.ct_rules.specs.declared.state.Waiter.{Waiter}
-use Rattle.ct_law_record.proofs.Rule.{Body, Call, Copy, Frame, Give, Given, Grant, Node, Op, Pass, Recalls, Refuse, RevokeAck, VDeleted, VStored, Wish, is_here, is_kind_here, is_kind_reading, is_reading, rank, reads_op, rsn_of, stale, value_of}
+use Rattle.ct_law_record.proofs.Rule.{is_odd, is_kind_odd, Body, Call, Copy, Frame, Give, Given, Grant, Node, Op, Pass, Recalls, Refuse, RevokeAck, VDeleted, VStored, Wish, is_here, is_kind_here, is_kind_reading, is_reading, rank, reads_op, rsn_of, stale, value_of}
 
 -- what holds of each frame sent, and of one more
 pub each_sent : (P : Frame → Type 0) (g : Frame) (fs : List Frame) → ((f : Frame) → Sent f fs → P f) → P g → (f : Frame) → Sent f (fs ++ (g ∷ [])) → P f
@@ -114,7 +114,7 @@ waits_none r w = elim w [ ]
 
 pub NodeInv-given : (g : Ghost) (n : ℕ) (node : Node) → is_here node.copy ≡ true → node.locked ≡ false → node.tracked ≡ [] → node.revoking ≡ None → g.vacuum ≡ None →
     NodeInv g n node → NodeInv g n (given node)
-unfolding rank is_here is_kind_here value_of is_reading is_kind_reading readers_of is_revoking
+unfolding rank is_here is_kind_here is_odd is_kind_odd value_of is_reading is_kind_reading readers_of is_revoking
 NodeInv-given g n node here unlocked untracked idle calm h = grind (arith, says_given, rank_of, waits_none)
 
 -- a wish is drawn the next number
@@ -142,7 +142,7 @@ says_called g n copy next wish op new from to (Call q asks) k = λ p. (let r = k
 says_called g n copy next wish op new from to (Recalls q) k = λ p. (let r = k p in (omega arith, r.1))
 says_called g n copy next wish op new from to (Pass q rsn value) k = λ p. (let r = k p in let low = r.low in record { low = omega arith; asked = r.asked; below = r.below; current = grind arith })
 says_called g n copy next wish op new from to (Refuse q rsn) k = λ p. (let r = k p in let low = r.low in record { low = omega arith; asked = r.asked; below = r.below; gone = grind arith; stale = r.stale })
-says_called g n copy next wish op new from to (Grant q rsn value) k = λ p. (let r = k p in let low = r.low in record { low = omega arith; below = r.below; current = grind arith })
+says_called g n copy next wish op new from to (Grant q rsn value) k = λ p. (let r = k p in let low = r.low in record { apart = r.apart; low = omega arith; below = r.below; current = grind arith })
 says_called g n copy next wish op new from to (RevokeAck rsn) k = λ p. (let r = k p in record { below = r.below; running = r.running; none = r.none; ungranted = λ _. new })
 says_called g n copy next wish op new from to _ k = k
 
@@ -154,7 +154,7 @@ says_nowish : (g : Ghost) (n : ℕ) (copy : Option Copy) (next : ℕ) (now : Opt
 unfolding Says Ungranted
 says_nowish g n copy next now from to (Pass q rsn value) k = λ p. (let r = k p in record { low = r.low; asked = r.asked; below = r.below; current = λ w e. absurd (cc) })
 says_nowish g n copy next now from to (Refuse q rsn) k = λ p. (let r = k p in record { low = r.low; asked = r.asked; below = r.below; gone = λ w e. absurd (cc); stale = r.stale })
-says_nowish g n copy next now from to (Grant q rsn value) k = λ p. (let r = k p in record { low = r.low; below = r.below; current = λ w e. absurd (cc) })
+says_nowish g n copy next now from to (Grant q rsn value) k = λ p. (let r = k p in record { apart = r.apart; low = r.low; below = r.below; current = λ w e. absurd (cc) })
 says_nowish g n copy next now from to (RevokeAck rsn) k = λ p. (let r = k p in record { below = r.below; running = r.running; none = r.none; ungranted = λ e f' s' to' q' r' v' is' w we. absurd (cc) })
 says_nowish g n copy next now from to _ k = k
 
@@ -174,6 +174,11 @@ pub here-stale : (rsn : ℕ) (c : Option Copy) → is_here (stale rsn c) ≡ is_
 unfolding is_here stale is_kind_here is_kind_reading
 here-stale rsn None = refl
 here-stale rsn (Some c) = grind arith
+
+even-stale : (rsn : ℕ) (c : Option Copy) → is_odd c ≡ false → is_odd (stale rsn c) ≡ false
+unfolding is_odd stale is_kind_odd
+even-stale rsn None h = refl
+even-stale rsn (Some c) h = grind arith
 
 pub value-stale : (rsn : ℕ) (c : Option Copy) → value_of (stale rsn c) ≡ value_of c
 unfolding value_of stale
@@ -206,7 +211,7 @@ vacuum-stale : (v : Vacuuming) (n s : ℕ) (c : Option Copy) → VacuumAt v n c 
 vacuum-stale v n s c h = (let same = rank-stale s c in vacuum_more v n c (stale s c) (omega arith) (λ a. omega arith) h)
 
 pub NodeInv-stale : (g : Ghost) (n : ℕ) (node : Node) (s : ℕ) → NodeInv g n node → NodeInv g n (record node { copy = stale s node.copy })
-NodeInv-stale g n node s h = grind (arith, says_stale, rank-stale, here-stale, value-stale, reading-stale s node.copy, vacuum-stale)
+NodeInv-stale g n node s h = grind (arith, says_stale, rank-stale, here-stale, even-stale, value-stale, reading-stale s node.copy, vacuum-stale)
 
 -- one request more waits, or one less
 pub each_asked : (P : Waiter → Type 0) (b : Waiter) (as' : List Waiter) → ((a : Waiter) → Asked a as' → P a) → P b → (a : Waiter) → Asked a (as' ++ (b ∷ [])) → P a

@@ -247,6 +247,7 @@ module _ (rules : Rules) (ps : List ℕ) (m me : ℕ) (nodes : ℕ → Node) (fr
     where
       go : (k : Kind) → c.kind ≡ k → is_kind_given k ≡ true → Some c ≡ Some (record { rsn = c.rsn; kind = Given; value = c.value })
       go Given e h = ap (λ k. Some (record c { kind = k })) e
+      go Rule.Odd e h = absurd (cc)
       go Here e h = absurd (cc)
       go Kind.For_reading e h = absurd (cc)
       go Kind.Stale e h = absurd (cc)

@@ -22,12 +22,14 @@ use Rattle.ct_rules.specs.declared.state.RecallNote.{RecallNote}
 use Rattle.ct_rules.specs.declared.state.Waiter.{Waiter}
 use Rattle.ct_law_record.specs.Labels.{Label, Told, Vacuumed}
 
--- Here: the data master is the node itself. Given: it is nobody. For_reading: a copy for reading. Stale: any other
+-- Here: the data master is the node itself. Given: it is nobody. For_reading: a copy for reading. Odd: both of the last two, which there is none of.
+-- Stale: any other
 pub data Kind : Type 0 where
   Here : Kind
   Given : Kind
   For_reading : Kind
   Stale : Kind
+  Odd : Kind
 
 pub record Copy : Type 0 where
   pub rsn : ℕ
@@ -107,6 +109,14 @@ is_kind_given _ = false
 unfoldable pub is_kind_reading : Kind → Bool
 is_kind_reading For_reading = true
 is_kind_reading _ = false
+
+unfoldable pub is_kind_odd : Kind → Bool
+is_kind_odd Odd = true
+is_kind_odd _ = false
+
+unfoldable pub is_odd : Option Copy → Bool
+is_odd None = false
+is_odd (Some c) = is_kind_odd c.kind
 
 unfoldable pub is_here : Option Copy → Bool
 is_here None = false

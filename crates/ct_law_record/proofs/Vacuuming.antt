@@ -1,6 +1,6 @@
 -- The frames of a vacuum, and the vacuum event.
 use Rattle.std.proofs.Common.{◌≡◌, ◌≢◌, ◌⊎◌, ℕ, ◌+◌, ◌<◌, ◌≤◌, Bool, true, false, Option, Some, None, List, [], ◌∷◌, take, refl, sym, ap, ◌∙◌, inl, inr, ⊎_elim, arith, subst, ◌&&◌, ◌==◌, eqb-true}
-use Rattle.std.proofs.lemmas.Bool.{and_parts, cond_both, cases_eq, eqb-false, false_from_ne_true}
+use Rattle.std.proofs.lemmas.Bool.{and_parts, cond_both, cases_eq, eq-eqb, eqb-false, false_from_ne_true}
 use Rattle.ct_law_record.proofs.Invariant.{readers_of, Ghost, Past, Emptied, Joined, VStoreAt, VDeleteAt, Says, VacuumAt, NodeInv, Emptying, GlobalInv, Holds, Kept}
 use Rattle.ct_law_record.proofs.Nodes.{rank_of, past_none}
 use Rattle.ct_law_record.proofs.Copies.{touched, NodeInv-raised, NodeInv-dropped, raised_past, dropped_past, lt_cases, whole_reading}
@@ -20,6 +20,11 @@ use Rattle.ct_rules.specs.State.{is_nil}
 use Rattle.ct_register.specs.Register.{Register, reading}
 use Rattle.ct_law_record.proofs.Rule
 use Rattle.ct_law_record.proofs.Rule.{is_storing, risen, Body, Copy, Frame, Grant, Here, Node, Out, VDelete, VDeleted, VStore, VStored, Wish, drop_copy, give, greater, has_node, is_free, is_here, is_idle, is_reading, raise_copy, rank, reads_op, rsn_of, send, send_all, tell, value_of, with_node}
+
+fewer_has : (k n : ℕ) (ns : List ℕ) → has_node k ns ≡ false → has_node k (without n ns) ≡ false
+unfolding has_node
+fewer_has k n [] h = refl
+fewer_has k n (m ∷ ms) h = grind (arith, fewer_has k n ms)
 
 not_has : (k n : ℕ) (ns : List ℕ) → k ≢ n → has_node k (without n ns) ≡ false → has_node k ns ≡ false
 not_has k n ns ne e = false_from_ne_true _ (λ t. (let a = has-without k n ns ne t in cc))
@@ -108,6 +113,8 @@ global_deleting ps m g v all is =
           record {
             at = f.at;
             others = sym (ap (λ (x : Vacuuming). x.others) k) ∙ f.others;
+            peers = f.peers;
+            home = ap (λ (x : Vacuuming). has_node m x.missing) (sym k) ∙ ap (has_node m) f.others ∙ f.peers;
             above = omega arith;
             empty = f.empty;
             past = subst (λ (x : ℕ). reading (take (g.place (greater (x + 1) (v.rsn + 1))) g.register.versions) ≡ []) same (rw (greater_low (v.rsn + 1) (v.rsn + 1) (omega arith)) f.past);
@@ -162,7 +169,7 @@ last_parts phase n rsn v t =
     (q.0, q.1, none_left (without n v.missing) p.1)
 
 module _ (rules : Rules) (ps : List ℕ) (m me : ℕ) (nodes : ℕ → Node) (frames : List Frame) (r : Register) where
-  pub on_vstore_holds : (x rsn : ℕ) (g : Ghost) (o : Out) → VStoreAt g.top g.place g.register.versions rsn → Holds rules ps m me nodes frames r g o → Kept rules ps m me nodes frames r (Rule.on_vstore me x rsn o)
+  pub on_vstore_holds : (x rsn : ℕ) (g : Ghost) (o : Out) → VStoreAt x me g.top g.place g.register.versions rsn → Holds rules ps m me nodes frames r g o → Kept rules ps m me nodes frames r (Rule.on_vstore me x rsn o)
   unfolding Rule.on_vstore Says raise_copy with_node
   on_vstore_holds x rsn g o k h =
       let b = k.below in
@@ -229,10 +236,17 @@ module _ (rules : Rules) (ps : List ℕ) (m me : ℕ) (nodes : ℕ → Node) (fr
     seen = subst (λ (x : Register). x.seen me ≤ g'.place (rank copy)) (sym register) seen;
   }
 
-  store_all : (ns : List ℕ) (rsn : ℕ) (g : Ghost) (o : Out) → VStoreAt g.top g.place g.register.versions rsn → Holds rules ps m me nodes frames r g o → Kept rules ps m me nodes frames r (send_all me ns (VStore rsn) o)
+  apart_from : (n : ℕ) (ns : List ℕ) → has_node me (n ∷ ns) ≡ false → (me ≢ n) × (has_node me ns ≡ false)
+  unfolding has_node
+  apart_from n ns e = ((λ z. absurd (let y = eq-eqb n me (sym z) in grind arith)), grind arith)
+
+  store_all : (ns : List ℕ) (rsn : ℕ) (g : Ghost) (o : Out) → has_node me ns ≡ false → rsn + 2 ≤ g.top → Emptied g.place g.register.versions (rsn + 1) → Holds rules ps m me nodes frames r g o → Kept rules ps m me nodes frames r (send_all me ns (VStore rsn) o)
   unfolding send_all Says
-  store_all [] rsn g o k h = (g, h)
-  store_all (n ∷ ns) rsn g o k h = store_all ns rsn _ _ k (send_holds rules ps m me nodes frames r n (VStore rsn) g o (λ q s v is. absurd (cc)) h k (λ _ _. k))
+  store_all [] rsn g o away below empty h = (g, h)
+  store_all (n ∷ ns) rsn g o away below empty h =
+      let p = apart_from n ns away in
+      let k : VStoreAt me n g.top g.place g.register.versions rsn = record { apart = p.0; below = below; empty = empty } in
+      store_all ns rsn _ _ p.1 below empty (send_holds rules ps m me nodes frames r n (VStore rsn) g o (λ q s v is. absurd (cc)) h k (λ _ _. k))
 
   delete_all : (ns : List ℕ) (rsn : ℕ) (g : Ghost) (o : Out) → VDeleteAt g.top g.place rsn → Holds rules ps m me nodes frames r g o → Kept rules ps m me nodes frames r (send_all me ns (VDelete rsn) o)
   unfolding send_all Says
@@ -262,10 +276,10 @@ module _ (rules : Rules) (ps : List ℕ) (m me : ℕ) (nodes : ℕ → Node) (fr
       (λ e. (let k = h.good.master e in record { entry = k.entry; queue = k.queue; vacuum = refl })) (λ ne. absurd (ne at)) refl h)
 
   -- one node less is missed
-  missing_holds : (v : Vacuuming) (l : List ℕ) (g : Ghost) (o : Out) → me ≡ m → g.vacuum ≡ Some v → ((n : ℕ) → n ≢ me → VacuumAt (record v { missing = l }) n (nodes n).copy) → Holds rules ps m me nodes frames r g o →
+  missing_holds : (v : Vacuuming) (l : List ℕ) (g : Ghost) (o : Out) → me ≡ m → (has_node m v.missing ≡ false → has_node m l ≡ false) → g.vacuum ≡ Some v → ((n : ℕ) → n ≢ me → VacuumAt (record v { missing = l }) n (nodes n).copy) → Holds rules ps m me nodes frames r g o →
       Holds rules ps m me nodes frames r (record g { vacuum = Some (record v { missing = l }) }) (with_node (record o.node { vacuum = Some (record v { missing = l }) }) o)
   unfolding Others
-  missing_holds v l g o at is each h =
+  missing_holds v l g o at fewer is each h =
       let f = h.good.all.vacuum v is in
       let form = formed g o v is at h in
       let up = h.good.mine.here form.0 in
@@ -280,7 +294,7 @@ module _ (rules : Rules) (ps : List ℕ) (m me : ℕ) (nodes : ℕ → Node) (fr
         within = k.within;
         absent = k.absent;
         vacuum = λ u e. subst (λ (x : Vacuuming). Emptying ps m g.entry.holder g.top g.register.versions g.place g.readers g.revoking x) (let k : w ≡ u = cc in k)
-            (record { at = f.at; others = f.others; above = f.above; empty = f.empty; past = f.past; joined = f.joined; nobody = f.nobody; idle = f.idle });
+            (record { at = f.at; others = f.others; peers = f.peers; home = fewer f.home; above = f.above; empty = f.empty; past = f.past; joined = f.joined; nobody = f.nobody; idle = f.idle });
       })
       (record { entry = refl; queue = refl; sent = refl; top = inr (refl, λ a. a); empty = λ a b c. c; joined = λ a b c. c })
       (own_vacuum g g' o o.node.copy (Some w) form form.0 (omega arith) top refl refl refl refl h.good.mine.seen h.good.mine)
@@ -315,7 +329,7 @@ module _ (rules : Rules) (ps : List ℕ) (m me : ℕ) (nodes : ℕ → Node) (fr
       Kept rules ps m me nodes frames r (Rule.set_vacuum (acknowledged phase x rsn v) o)
   unfolding Rule.set_vacuum
   less_holds phase x rsn g o v is at each h = cond_both (awaits phase x rsn v) (record v { missing = without x v.missing }) v (λ (y : Vacuuming). Kept rules ps m me nodes frames r (Rule.set_vacuum y o))
-      (λ t. (_, missing_holds v (without x v.missing) g o at (runs_is g o v at is h) (each t) h))
+      (λ t. (_, missing_holds v (without x v.missing) g o at (fewer_has m x v.missing) (runs_is g o v at is h) (each t) h))
       (λ _. same_holds v g o is h)
 
   past_stored : (x rsn : ℕ) (g : Ghost) (o : Out) (v : Vacuuming) → g.vacuum ≡ Some v → v.rsn ≡ rsn → is_storing v.phase ≡ true → Came rules ps m me nodes frames r g o x (VStored rsn) → Holds rules ps m me nodes frames r g o →
@@ -385,10 +399,10 @@ module _ (rules : Rules) (ps : List ℕ) (m me : ℕ) (nodes : ℕ → Node) (fr
       })) h)
 
   -- a vacuum begins
-  start_storing_holds : (g : Ghost) (o : Out) → me ≡ m → g.vacuum ≡ None → Formed o → value_of o.node.copy ≡ [] → Apart → Holds rules ps m me nodes frames r g o →
+  start_storing_holds : (g : Ghost) (o : Out) → has_node m ps ≡ false → me ≡ m → g.vacuum ≡ None → Formed o → value_of o.node.copy ≡ [] → Apart → Holds rules ps m me nodes frames r g o →
       Kept rules ps m me nodes frames r (send_all me ps (VStore (rsn_of o.node.copy)) (with_node (record o.node { copy = risen o.node.copy; vacuum = Some (begun (rsn_of o.node.copy) ps) }) o))
   unfolding Others is_storing Emptied rank is_here Rule.is_kind_here value_of
-  start_storing_holds g o at calm form empty outside h =
+  start_storing_holds g o peers at calm form empty outside h =
       let rsn = rsn_of o.node.copy in
       let v : Vacuuming = begun rsn ps in
       let copy : Option Copy = Some (record { rsn = rsn + 1; kind = Here; value = value_of o.node.copy }) in
@@ -402,7 +416,7 @@ module _ (rules : Rules) (ps : List ℕ) (m me : ℕ) (nodes : ℕ → Node) (fr
       let g' = record g { top = g.top + 1; vacuum = Some v } in
       let past : reading (take (g.place (rsn + 1)) g.register.versions) ≡ [] = sym (whole_reading ps m g (rsn + 1) all (omega arith)) ∙ sym holds.1 ∙ empty in
       subst (λ (c : Option Copy). Kept rules ps m me nodes frames r (send_all me ps (VStore rsn) (with_node (record o.node { copy = c; vacuum = Some (begun rsn ps) }) o))) (sym (risen_is o.node.copy form.0))
-      (store_all ps rsn g' _ (record { below = omega arith; empty = past })
+      (store_all ps rsn g' _ (subst (λ (x : ℕ). has_node x ps ≡ false) (sym at) peers) (omega arith) past
       (own_holds rules ps m me nodes frames r g g' o (record o.node { copy = copy; vacuum = Some v }) form.0
       (record {
         rises = all.rises;
@@ -410,7 +424,7 @@ module _ (rules : Rules) (ps : List ℕ) (m me : ℕ) (nodes : ℕ → Node) (fr
         within = all.within;
         absent = all.absent;
         vacuum = λ u e. subst (λ (x : Vacuuming). Emptying ps m g.entry.holder (g.top + 1) g.register.versions g.place g.readers g.revoking x) (let k : v ≡ u = cc in k)
-            (record { at = sym up.0 ∙ at; others = refl; above = omega arith; empty = sym holds.1 ∙ empty; past = past; joined = λ a. absurd (cc); nobody = none; idle = readers.1 });
+            (record { at = sym up.0 ∙ at; others = refl; peers = peers; home = peers; above = omega arith; empty = sym holds.1 ∙ empty; past = past; joined = λ a. absurd (cc); nobody = none; idle = readers.1 });
       })
       (record { entry = refl; queue = refl; sent = refl; top = inl (omega arith); empty = λ a b c. c; joined = λ a b c. c })
       (own_vacuum g g' o copy (Some v) form refl (omega arith) (omega arith) refl refl refl refl (let s = h.good.mine.seen in let u = all.rises (rank o.node.copy) (rsn + 1 + 1) (omega arith) in omega arith) h.good.mine)
@@ -427,43 +441,43 @@ module _ (rules : Rules) (ps : List ℕ) (m me : ℕ) (nodes : ℕ → Node) (fr
       (λ e. (let k = master_copy rules ps m me nodes frames r g o copy form.0 h e in record { entry = k.entry; queue = k.queue; vacuum = refl })) (λ ne. absurd (ne at)) refl h))
 
   -- the frame of the running phase may be sent again
-  again_holds : (v : Vacuuming) (g : Ghost) (o : Out) → g.vacuum ≡ Some v → Holds rules ps m me nodes frames r g o → Kept rules ps m me nodes frames r (send_all me v.missing (Rule.phase_frame v.rsn v.phase) o)
+  again_holds : (v : Vacuuming) (g : Ghost) (o : Out) → me ≡ m → g.vacuum ≡ Some v → Holds rules ps m me nodes frames r g o → Kept rules ps m me nodes frames r (send_all me v.missing (Rule.phase_frame v.rsn v.phase) o)
   unfolding Rule.phase_frame is_storing
-  again_holds v g o is h =
+  again_holds v g o at is h =
       let f = h.good.all.vacuum v is in
       let above = f.above in
-      go v.phase refl above f.past f.joined
+      go v.phase refl above f.past f.joined f.home
     where
-      go : (p : VacuumPhase) → v.phase ≡ p → g.top ≡ v.rsn + 2 → Emptied g.place g.register.versions (v.rsn + 1) → (is_storing v.phase ≡ false → Joined g.place (v.rsn + 1)) → Kept rules ps m me nodes frames r (send_all me v.missing (Rule.phase_frame v.rsn p) o)
-      go Storing e above past joined = store_all v.missing v.rsn g o (record { below = omega arith; empty = past }) h
-      go Deleting e above past joined = delete_all v.missing v.rsn g o (record { below = omega arith; joined = joined (ap is_storing e) }) h
+      go : (p : VacuumPhase) → v.phase ≡ p → g.top ≡ v.rsn + 2 → Emptied g.place g.register.versions (v.rsn + 1) → (is_storing v.phase ≡ false → Joined g.place (v.rsn + 1)) → has_node m v.missing ≡ false → Kept rules ps m me nodes frames r (send_all me v.missing (Rule.phase_frame v.rsn p) o)
+      go Storing e above past joined home = store_all v.missing v.rsn g o (subst (λ (x : ℕ). has_node x v.missing ≡ false) (sym at) home) (omega arith) past h
+      go Deleting e above past joined home = delete_all v.missing v.rsn g o (record { below = omega arith; joined = joined (ap is_storing e) }) h
 
-  begin_holds : (l : List ℕ) (g : Ghost) (o : Out) → l ≡ ps → me ≡ m → g.vacuum ≡ None → Formed o → value_of o.node.copy ≡ [] → Apart → Holds rules ps m me nodes frames r g o → Kept rules ps m me nodes frames r (Rule.begin_vacuum me o l)
+  begin_holds : (l : List ℕ) (g : Ghost) (o : Out) → has_node m ps ≡ false → l ≡ ps → me ≡ m → g.vacuum ≡ None → Formed o → value_of o.node.copy ≡ [] → Apart → Holds rules ps m me nodes frames r g o → Kept rules ps m me nodes frames r (Rule.begin_vacuum me o l)
   unfolding Rule.begin_vacuum
-  begin_holds [] g o is at calm form empty outside h =
+  begin_holds [] g o peers is at calm form empty outside h =
       let up = h.good.mine.here form.0 in
       let top = (h.good.mine.holds up.0 up.1).0 in
       let same = rank_of o.node.copy form.0 in
       finish_holds rules ps m me nodes frames r (rsn_of o.node.copy) g o at form.0 form.1 form.2 form.3 empty (omega arith)
       (λ n ne. outside n ne (ap (has_node n) (sym is) ∙ has_none n)) h
-  begin_holds (n ∷ ns) g o is at calm form empty outside h =
+  begin_holds (n ∷ ns) g o peers is at calm form empty outside h =
       subst (λ (l : List ℕ). Kept rules ps m me nodes frames r (send_all me l (VStore (rsn_of o.node.copy)) (with_node (record o.node { copy = risen o.node.copy; vacuum = Some (begun (rsn_of o.node.copy) l) }) o))) (sym is)
-      (start_storing_holds g o at calm form empty outside h)
+      (start_storing_holds g o peers at calm form empty outside h)
 
-  vacuum_of_holds : (g : Ghost) (o : Out) (vac : Option Vacuuming) → o.node.vacuum ≡ vac → me ≡ m → Formed o → value_of o.node.copy ≡ [] → Apart → Holds rules ps m me nodes frames r g o →
+  vacuum_of_holds : (g : Ghost) (o : Out) (vac : Option Vacuuming) → has_node m ps ≡ false → o.node.vacuum ≡ vac → me ≡ m → Formed o → value_of o.node.copy ≡ [] → Apart → Holds rules ps m me nodes frames r g o →
       Kept rules ps m me nodes frames r (Rule.vacuum_of me ps o vac)
   unfolding Rule.vacuum_of
-  vacuum_of_holds g o (Some v) is at form empty outside h = again_holds v g o (runs_is g o v at is h) h
-  vacuum_of_holds g o None is at form empty outside h = begin_holds ps g o refl at (sym (h.good.master at).vacuum ∙ is) form empty outside h
+  vacuum_of_holds g o (Some v) peers is at form empty outside h = again_holds v g o at (runs_is g o v at is h) h
+  vacuum_of_holds g o None peers is at form empty outside h = begin_holds ps g o peers refl at (sym (h.good.master at).vacuum ∙ is) form empty outside h
 
   empty_value : (v : List ℕ) → is_nil v ≡ true → v ≡ []
   empty_value [] h = refl
   empty_value (x ∷ xs) h = absurd (cc)
 
   -- the vacuum event: the list has all who take part, where the node is the location master
-  pub vacuum_event_holds : (peers : List ℕ) (g : Ghost) (o : Out) → (me ≡ m → peers ≡ ps) → Apart → Holds rules ps m me nodes frames r g o → Kept rules ps m me nodes frames r (Rule.vacuum_event me m peers o)
+  pub vacuum_event_holds : (all : List ℕ) (g : Ghost) (o : Out) → has_node m ps ≡ false → (me ≡ m → all ≡ ps) → Apart → Holds rules ps m me nodes frames r g o → Kept rules ps m me nodes frames r (Rule.vacuum_event me m all o)
   unfolding Rule.vacuum_event Rule.is_vacuumed
-  vacuum_event_holds peers g o peers_are outside h = cond_both (Rule.is_vacuumed o.node) _ _ (Kept rules ps m me nodes frames r)
+  vacuum_event_holds all g o peers all_are outside h = cond_both (Rule.is_vacuumed o.node) _ _ (Kept rules ps m me nodes frames r)
       (λ t.
       let p1 = and_parts (is_free o.node && is_nil (value_of o.node.copy) && is_nil o.node.tracked && is_nil o.node.recalls && is_nil o.node.queue) (is_none o.node.wish) t in
       let p2 = and_parts (is_free o.node && is_nil (value_of o.node.copy) && is_nil o.node.tracked && is_nil o.node.recalls) (is_nil o.node.queue) p1.0 in
@@ -473,6 +487,6 @@ module _ (rules : Rules) (ps : List ℕ) (m me : ℕ) (nodes : ℕ → Node) (fr
       let free = free_parts rules ps m me nodes frames r o.node p5.0 in
       let untracked = nil_none _ p4.1 in
       cond_both (me == m) _ _ (Kept rules ps m me nodes frames r)
-      (λ at. (let is = eqb-true me m at in subst (λ (l : List ℕ). Kept rules ps m me nodes frames r (Rule.vacuum_of me l o o.node.vacuum)) (sym (peers_are is)) (vacuum_of_holds g o o.node.vacuum refl is (free.0, free.1, untracked, free.2) (empty_value _ p5.1) outside h)))
+      (λ at. (let is = eqb-true me m at in subst (λ (l : List ℕ). Kept rules ps m me nodes frames r (Rule.vacuum_of me l o o.node.vacuum)) (sym (all_are is)) (vacuum_of_holds g o o.node.vacuum peers refl is (free.0, free.1, untracked, free.2) (empty_value _ p5.1) outside h)))
       (λ ne. give_holds rules ps m me nodes frames r g o free.0 free.1 untracked free.2 (calm_other rules ps m me nodes frames r g o.node h.good free.0 (eqb-false me m ne)) h))
       (λ _. (g, h))

@@ -5,14 +5,17 @@ use Rattle.ct_msg.specs.declared.client.ClientOp.{ClientOp}
 use Rattle.ct_call.specs.Rules.{Rules}
 use Rattle.ct_register.specs.Register.{Register, Accepts, AcceptsVacuum}
 
--- a client of a node asked for this and was answered this; or the record was vacuumed at a node
+-- a client of a node asked for this and was answered this; a call was answered that nobody asked; or the record was
+-- vacuumed at a node
 pub data Label : Type 0 where
   Told : (node : ℕ) (asked : ClientOp) (answer : Answer) → Label
+  Unasked : (node : ℕ) (answer : Answer) → Label
   Vacuumed : (node : ℕ) → Label
 
--- the register accepts the label and goes on as the second
+-- the register accepts the label and goes on as the second; it accepts no answer that nobody asked
 abbrev pub AcceptsLabel : Rules → Register → Label → Register → Type 0
 AcceptsLabel rules r (Told n asked answer) s = Accepts rules n asked answer r s
+AcceptsLabel rules r (Unasked n answer) s = ⊥
 AcceptsLabel rules r (Vacuumed n) s = AcceptsVacuum r s
 
 -- all labels, one after the other
