@@ -11,3 +11,5 @@ pub mod Receive
 pub mod Finish
 pub mod Floor
 pub mod Vacuuming
+pub mod Likeness
+pub mod Alike
