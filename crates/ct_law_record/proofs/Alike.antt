@@ -35,11 +35,11 @@ use Rattle.ct_law_record.proofs.Rule.{Kind, Copy, Node, Frame, Body, Out}
 use Rattle.ct_deleg.specs.Tracked.{Tracked, untracked, added, begun, placed}
 use Rattle.ct_law_record.proofs.Likeness.{copy_of, wish_of, node_of, body_of, out_of, Fine, FineAt, like_send, like_send_all, like_reply, rsn_like, rank_like, value_like, mastered_like, for_reading_like, with_value_like, gives_like, flags_like, raised_like, own_like, free_like, wished_like}
 
-none_is_not_some : {X : Type 0} → (x : Option X) → is_none x ≡ not (is_some x)
+pub none_is_not_some : {X : Type 0} → (x : Option X) → is_none x ≡ not (is_some x)
 none_is_not_some None = refl
 none_is_not_some (Some x) = refl
 
-idle_like : (t : Tracked) → State.is_quiet t ≡ Rule.is_idle t.revoking
+pub idle_like : (t : Tracked) → State.is_quiet t ≡ Rule.is_idle t.revoking
 unfolding State.is_quiet Rule.is_idle
 idle_like t = grind arith
 

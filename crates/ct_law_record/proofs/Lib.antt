@@ -13,3 +13,4 @@ pub mod Floor
 pub mod Vacuuming
 pub mod Likeness
 pub mod Alike
+pub mod Likewise
