@@ -14,3 +14,5 @@ pub mod Vacuuming
 pub mod Likeness
 pub mod Alike
 pub mod Likewise
+pub mod Coming
+pub mod Events

@@ -52,17 +52,17 @@ unfolding Rule.is_odd Rule.risen
 even-risen None = refl
 even-risen (Some c) = refl
 
-even_own : (me l rsn : ℕ) (value : List ℕ) → me ≡ l → Rule.is_odd (copy_of me (Some (a_copy rsn l plain value))) ≡ false
+pub even_own : (me l rsn : ℕ) (value : List ℕ) → me ≡ l → Rule.is_odd (copy_of me (Some (a_copy rsn l plain value))) ≡ false
 unfolding Rule.is_odd Rule.is_kind_odd
 even_own me l rsn value e = ap Rule.is_odd (own_like me l rsn value e)
 
 -- what Revoke leaves of a copy
-stale_like : (me rsn : ℕ) (c : Option RecCopy) → Rule.is_odd (copy_of me c) ≡ false → copy_of me (Frames.called_in rsn c) ≡ Rule.stale rsn (copy_of me c)
+pub stale_like : (me rsn : ℕ) (c : Option RecCopy) → Rule.is_odd (copy_of me c) ≡ false → copy_of me (Frames.called_in rsn c) ≡ Rule.stale rsn (copy_of me c)
 unfolding copy_of kind_at Frames.called_in Rule.stale Rule.is_odd Rule.is_kind_odd Rule.is_kind_reading
 stale_like me rsn None e = refl
 stale_like me rsn (Some c) e = grind arith
 
-read_like : (me h rsn : ℕ) (value : List ℕ) → h ≢ me → h ≢ nobody → copy_of me (Some (a_copy rsn h for_reading value)) ≡ Some (record { rsn = rsn; kind = Rule.For_reading; value = value })
+pub read_like : (me h rsn : ℕ) (value : List ℕ) → h ≢ me → h ≢ nobody → copy_of me (Some (a_copy rsn h for_reading value)) ≡ Some (record { rsn = rsn; kind = Rule.For_reading; value = value })
 unfolding copy_of kind_at
 read_like me h rsn value a b = grind (arith, ne_eqb)
 
@@ -85,7 +85,7 @@ module _ (at : Place) (asks : ℕ → Option ClientOp) (ne : at.me ≢ nobody) w
   fine_applies call o h (Err fault.NoSuchCall) = record { even = h.even; waits = h.waits }
   fine_applies call o h (Err fault.NoMemory) = h
 
-  fine_satisfy : (rules : Rules) (call : ℕ) (asked : ClientOp) (o : Moving) → FineAt at asks o → FineAt at asks (Parts.satisfy rules call asked o)
+  pub fine_satisfy : (rules : Rules) (call : ℕ) (asked : ClientOp) (o : Moving) → FineAt at asks o → FineAt at asks (Parts.satisfy rules call asked o)
   unfolding Parts.satisfy Parts.keeps Parts.reply Parts.acts
   fine_satisfy rules call (op.Lock db key) o h = record { even = h.even; waits = h.waits }
   fine_satisfy rules call (op.Read db key) o h = record { even = h.even; waits = h.waits }
@@ -95,7 +95,7 @@ module _ (at : Place) (asks : ℕ → Option ClientOp) (ne : at.me ≢ nobody) w
   fine_satisfy rules call (op.Unlock db key) o h = h
   fine_satisfy rules call (op.Commit db writes) o h = h
 
-  unwished : (o : Moving) → FineAt at asks o → FineAt at asks (Parts.keeps (record o.state { wish = None }) o)
+  pub unwished : (o : Moving) → FineAt at asks o → FineAt at asks (Parts.keeps (record o.state { wish = None }) o)
   unfolding Parts.keeps
   unwished o h = record { even = h.even; waits = λ w e. absurd (cc) }
 
