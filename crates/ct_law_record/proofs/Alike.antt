@@ -1,16 +1,12 @@
 -- The parts of the rules of one record do the same to a node as the law sees it.
-use Rattle.std.proofs.Common.{◌≡◌, ◌≢◌, ℕ, ◌+◌, Bool, true, false, cond, Option, Some, None, List, [], ◌∷◌, ◌++◌, refl, sym, ap, ◌∙◌, arith, append-nil, append_assoc, not, ◌&&◌, ◌||◌, ◌==◌}
-use Rattle.std.proofs.lemmas.Bool.{cond_both, and_parts}
-use Rattle.std.specs.Prelude.{is_none, is_some, nat_eq, if◌then◌else◌, Result, Ok, Err}
-use Rattle.ct_msg.specs.declared.client.Answer.{Answer}
+use Rattle.std.proofs.Common.{◌≡◌, ◌≢◌, ℕ, Bool, true, false, cond, Option, Some, None, List, [], ◌∷◌, refl, sym, ap, ◌∙◌, arith, not}
+use Rattle.std.proofs.lemmas.Bool.{cond_both}
+use Rattle.std.specs.Prelude.{is_none, is_some, nat_eq, Result, Ok, Err}
 use Rattle.ct_msg.specs.declared.client.Answer.TheVariants as answer
 use Rattle.ct_msg.specs.declared.client.ClientOp.{ClientOp}
 use Rattle.ct_msg.specs.declared.client.ClientOp.TheVariants as op
-use Rattle.ct_frame.specs.declared.frame.CallKind.{CallKind}
 use Rattle.ct_frame.specs.declared.frame.CallKind.TheVariants as kind
-use Rattle.ct_frame.specs.declared.frame.Msg.{Msg}
 use Rattle.ct_frame.specs.declared.frame.Msg.TheVariants as msg
-use Rattle.ct_frame.specs.declared.header.RecCopy.{RecCopy}
 use Rattle.ct_call.specs.Rules.{Rules}
 use Rattle.ct_call.specs.Table.{applied}
 use Rattle.ct_call.specs.declared.fault.CallFault.{CallFault}
@@ -19,21 +15,16 @@ use Rattle.ct_rules.specs.State
 use Rattle.ct_rules.specs.State.{is_nil, nobody, plain, for_reading, delegated, being_revoked, a_copy, is_read_op, is_read_kind, same_kind, kind_of}
 use Rattle.ct_rules.specs.Parts
 use Rattle.ct_rules.specs.Parts.{Moving}
-use Rattle.ct_rules.specs.declared.event.Act.{Act}
-use Rattle.ct_rules.specs.declared.event.Act.TheVariants as act
 use Rattle.ct_rules.specs.declared.event.Place.{Place}
 use Rattle.ct_rules.specs.declared.state.Entry.{Entry}
 use Rattle.ct_rules.specs.declared.state.RecallNote.{RecallNote}
 use Rattle.ct_rules.specs.declared.state.RecState.{RecState}
-use Rattle.ct_rules.specs.declared.state.Waiter.{Waiter}
 use Rattle.ct_rules.specs.declared.state.Wish.{Wish}
-use Rattle.ct_law_record.specs.Labels.{Label, Told, Unasked, Vacuumed}
-use Rattle.ct_law_record.specs.World.{Mail, told, sent}
+use Rattle.ct_law_record.specs.Labels.{Told}
 use Rattle.ct_law_record.proofs.Rule
 use Rattle.ct_law_record.proofs.Rule.{Kind, Copy, Node, Frame, Body, Out}
-
-use Rattle.ct_deleg.specs.Tracked.{Tracked, untracked, added, begun, placed}
-use Rattle.ct_law_record.proofs.Likeness.{copy_of, wish_of, node_of, body_of, out_of, Fine, FineAt, like_send, like_send_all, like_reply, rsn_like, rank_like, value_like, mastered_like, for_reading_like, with_value_like, gives_like, flags_like, raised_like, own_like, free_like, wished_like}
+use Rattle.ct_deleg.specs.Tracked.{Tracked, added, begun, placed}
+use Rattle.ct_law_record.proofs.Likeness.{copy_of, wish_of, body_of, out_of, FineAt, like_send, like_send_all, like_reply, rsn_like, value_like, with_value_like, gives_like, flags_like, own_like, free_like, wished_like}
 
 pub none_is_not_some : {X : Type 0} → (x : Option X) → is_none x ≡ not (is_some x)
 none_is_not_some None = refl

@@ -1,57 +1,30 @@
 -- Each event at a node keeps the invariant.
-use Rattle.std.proofs.Common.{◌≡◌, ◌≢◌, ℕ, ◌+◌, Bool, true, false, cond, Option, Some, None, List, [], ◌∷◌, ◌++◌, refl, sym, ap, ◌∙◌, arith, append-nil, append_assoc, not, ◌&&◌, ◌||◌, ◌==◌}
-use Rattle.std.proofs.lemmas.Bool.{cond_both, and_parts, ne_eqb}
-use Rattle.std.specs.Prelude.{is_none, is_some, nat_eq, if◌then◌else◌, Result, Ok, Err}
-use Rattle.ct_msg.specs.declared.client.Answer.{Answer}
-use Rattle.ct_msg.specs.declared.client.Answer.TheVariants as answer
+use Rattle.std.proofs.Common.{◌≡◌, ◌≢◌, ℕ, Bool, true, false, Option, Some, None, List, refl, sym, ap, ◌∙◌, arith, ◌&&◌, ◌||◌}
+use Rattle.std.proofs.lemmas.Bool.{cond_both}
+use Rattle.std.specs.Prelude.{is_none, is_some, nat_eq}
 use Rattle.ct_msg.specs.declared.client.ClientOp.{ClientOp}
 use Rattle.ct_msg.specs.declared.client.ClientOp.TheVariants as op
 use Rattle.ct_frame.specs.declared.frame.CallKind.{CallKind}
-use Rattle.ct_frame.specs.declared.frame.CallKind.TheVariants as kind
 use Rattle.ct_frame.specs.declared.frame.Msg.{Msg}
 use Rattle.ct_frame.specs.declared.frame.Msg.TheVariants as msg
-use Rattle.ct_frame.specs.declared.header.RecCopy.{RecCopy}
 use Rattle.ct_call.specs.Rules.{Rules}
-use Rattle.ct_call.specs.Table.{applied}
-use Rattle.ct_call.specs.declared.fault.CallFault.{CallFault}
-use Rattle.ct_call.specs.declared.fault.CallFault.TheVariants as fault
-use Rattle.ct_rules.specs.State
-use Rattle.ct_rules.specs.State.{is_nil, nobody, plain, for_reading, delegated, being_revoked, a_copy, is_read_op, is_read_kind, same_kind, kind_of}
+use Rattle.ct_rules.specs.State.{nobody, is_read_op}
 use Rattle.ct_rules.specs.Parts
 use Rattle.ct_rules.specs.Parts.{Moving}
-use Rattle.ct_rules.specs.declared.event.Act.{Act}
-use Rattle.ct_rules.specs.declared.event.Act.TheVariants as act
 use Rattle.ct_rules.specs.declared.event.Place.{Place}
-use Rattle.ct_rules.specs.declared.state.Entry.{Entry}
-use Rattle.ct_rules.specs.declared.state.RecallNote.{RecallNote}
 use Rattle.ct_rules.specs.declared.state.RecState.{RecState}
-use Rattle.ct_rules.specs.declared.state.Waiter.{Waiter}
 use Rattle.ct_rules.specs.declared.state.Wish.{Wish}
-use Rattle.ct_law_record.specs.Labels.{Label, Told, Unasked, Vacuumed}
-use Rattle.ct_law_record.specs.World.{Mail, told, sent}
+use Rattle.ct_law_record.specs.World.{sent}
 use Rattle.ct_law_record.proofs.Rule
 use Rattle.ct_law_record.proofs.Rule.{Kind, Copy, Node, Frame, Body, Out}
-
-use Rattle.ct_deleg.specs.Tracked.{Tracked, untracked, added, begun, placed}
-use Rattle.ct_law_record.proofs.Likeness.{kind_at, copy_of, wish_of, node_of, body_of, out_of, Fine, FineAt, like_send, like_send_all, like_reply, like_finished, rsn_like, rank_like, value_like, mastered_like, for_reading_like, with_value_like, risen_like, given_like, gives_like, flags_like, raised_like, own_like, free_like, wished_like}
-
-use Rattle.ct_law_record.proofs.Alike.{none_is_not_some, idle_like, mastered_free, if_like, like_give, like_end_vacuum, like_opened, like_opened_quiet, like_satisfy, like_revoke, like_grant, like_yield, like_drained}
+use Rattle.ct_law_record.proofs.Likeness.{wish_of, body_of, out_of, mastered_like}
 use Rattle.ct_rules.specs.Frames
-use Rattle.std.specs.List.{list_any}
-use Rattle.std.proofs.Common.{nat_lt, nat_le, ◌-◌, eqb-true}
-use Rattle.ct_deleg.specs.Tracked.{Revocation, others, awaiting, acked_by, is_last}
-use Rattle.ct_deleg.specs.Tracked.{is_none_left}
-
-use Rattle.ct_law_record.proofs.Likewise.{stale_like, read_like, even_own, unwished, fine_satisfy, like_end_revocation, like_next, like_keep, like_called, like_recalled, like_want}
+use Rattle.std.proofs.Common.{eqb-true}
+use Rattle.ct_law_record.proofs.Likewise.{like_called, like_recalled, like_want}
 use Rattle.ct_rules.specs.Moves
 use Rattle.ct_rules_node.specs.Rounds
-use Rattle.ct_vacuum.specs.Vacuum.{Vacuuming, stored, deleted}
-use Rattle.ct_vacuum.specs.Vacuum.{is_last as is_last_vacuum, begun as vacuum_begun}
-use Rattle.ct_vacuum.specs.declared.vacuum.VacuumPhase.{VacuumPhase}
-use Rattle.ct_vacuum.specs.declared.vacuum.VacuumPhase.TheVariants.{Storing, Deleting}
-
-use Rattle.std.proofs.Common.{◌<◌, ◌≤◌, subst, inl, inr, eq-eqb}
-use Rattle.std.proofs.lemmas.Bool.{false_from_ne_true, cases_eq}
+use Rattle.std.proofs.Common.{◌≤◌, subst, eq-eqb}
+use Rattle.std.proofs.lemmas.Bool.{false_from_ne_true}
 use Rattle.ct_register.specs.Register.{Register}
 use Rattle.ct_law_record.proofs.Coming.{greater_like, like_on_give_of, like_on_pass, like_on_refuse_of, like_on_grant, like_on_done_of, like_on_revoke_of, like_on_revokeack, like_on_vstore, like_on_vdelete, like_on_vstored_of, like_on_vdeleted_of, like_vacuum, like_store, like_unlock, like_call_again, like_revoke_again}
 use Rattle.ct_law_record.proofs.Invariant.{Recalled, Sent, Ghost, Says, NodeInv, Holds, Kept}
@@ -61,13 +34,13 @@ use Rattle.ct_law_record.proofs.Receive.{on_call_holds, on_recall_holds, on_give
 use Rattle.ct_law_record.proofs.Nodes.{NodeInv-nowish}
 use Rattle.ct_law_record.proofs.Floor.{raise_floor_holds}
 use Rattle.ct_law_record.proofs.Vacuuming.{Apart, on_vstore_holds, on_vstored_holds, on_vdelete_holds, on_vdeleted_holds, vacuum_event_holds}
-use Rattle.ct_law_record.specs.World.{own_call, waiting_call, may_want, View, starts}
+use Rattle.ct_law_record.specs.World.{own_call, waiting_call, may_want}
 
-none_none : {X : Type 0} → (x : Option X) → is_none x ≡ true → x ≡ None
+pub none_none : {X : Type 0} → (x : Option X) → is_none x ≡ true → x ≡ None
 none_none None h = refl
 none_none (Some x) h = absurd (cc)
 
-none_unlocked : {X : Type 0} → (x : Option X) → is_none x ≡ true → is_some x ≡ false
+pub none_unlocked : {X : Type 0} → (x : Option X) → is_none x ≡ true → is_some x ≡ false
 none_unlocked None h = refl
 none_unlocked (Some x) h = absurd (cc)
 
@@ -76,11 +49,11 @@ unfolding wish_of
 wish_some readonly None v e n = absurd (cc)
 wish_some readonly (Some w) v e n = absurd (cc)
 
-own_is : (call : ℕ) (asked : ClientOp) → own_call call asked call ≡ Some asked
+pub own_is : (call : ℕ) (asked : ClientOp) → own_call call asked call ≡ Some asked
 unfolding own_call
 own_is call asked = rw (eq-eqb call call refl) refl
 
-waiting_is : (wish : Option Wish) (w : Wish) → wish ≡ Some w → waiting_call wish w.call ≡ Some w.op
+pub waiting_is : (wish : Option Wish) (w : Wish) → wish ≡ Some w → waiting_call wish w.call ≡ Some w.op
 unfolding waiting_call
 waiting_is None w e = absurd (cc)
 waiting_is (Some v) w e = (let k : v ≡ w = cc in subst (λ (x : Wish). own_call v.call v.op x.call ≡ Some x.op) k (own_is v.call v.op))
@@ -102,7 +75,7 @@ greater_up : (a b : ℕ) → a ≤ Frames.greater a b
 unfolding Frames.greater
 greater_up a b = grind arith
 
-may_parts : (s : RecState) (asked : ClientOp) → may_want s asked ≡ true → (is_none s.wish ≡ true) × (is_read_op asked ≡ false → is_none s.locked ≡ true)
+pub may_parts : (s : RecState) (asked : ClientOp) → may_want s asked ≡ true → (is_none s.wish ≡ true) × (is_read_op asked ≡ false → is_none s.locked ≡ true)
 unfolding may_want
 may_parts s asked t = (grind arith, λ e. grind arith)
 
@@ -133,7 +106,7 @@ module _ (at : Place) (asks : ℕ → Option ClientOp) (ne : at.me ≢ nobody) (
   from_goes n o p h k = cond_both (nat_eq n at.lmaster) p o Goes (λ t. k (eqb-true n at.lmaster t)) (λ _. h)
 
   -- a message comes
-  pub arrive_holds : (n : ℕ) (m : Msg) (g : Ghost) (o : Moving) → n ≢ nobody → ((w : Wish) → o.state.wish ≡ Some w → asks w.call ≡ Some w.op) → Apart rules ps at.lmaster at.me nodes frames r →
+  pub arrive_holds : (n : ℕ) (m : Msg) (g : Ghost) (o : Moving) → n ≢ nobody → ((w : Wish) → o.state.wish ≡ Some w → asks w.call ≡ Some w.op) → (at.me ≡ at.lmaster → Apart rules ps at.lmaster at.me nodes frames r) →
       Sent (record { from = n; to = at.me; body = body_of m }) g.frames → CameTo g o n m → Stands g o → Goes (Moves.arrive at rules n m o)
   unfolding Moves.arrive body_of Says Frames.on_call Frames.on_recall Frames.on_give Frames.on_refuse Frames.on_done Frames.on_revoke Frames.on_vstored Frames.on_vdeleted
   arrive_holds n (msg.Call db key q k) g o real waits apart sent came h = home_goes o _ (g, h) (λ home. cond_both (Frames.is_misplaced at k) _ _ Goes (λ _. (g, h))
@@ -149,7 +122,7 @@ module _ (at : Place) (asks : ℕ → Option ClientOp) (ne : at.me ≢ nobody) (
   arrive_holds n (msg.RevokeAck db key rsn) g o real waits apart sent came h = goes (Frames.on_revokeack at rules n rsn o) _ (like_on_revokeack at asks ne rules n rsn o (λ v is. mastered_like at.me o.state.copy h.good.mine.even ∙ (h.good.mine.runs v is).0) (record { even = h.good.mine.even; waits = waits }))
       (on_ack_holds rules ps at.lmaster at.me nodes frames r n rsn g (out_of at asks o) o.state.tracking.revoking refl came h)
   arrive_holds n (msg.VStore db key rsn) g o real waits apart sent came h = from_goes n o _ (g, h) (λ _. goes (Frames.on_vstore at n rsn o) _ (like_on_vstore at asks ne n rsn o came.0.apart real h.good.mine.even) (on_vstore_holds rules ps at.lmaster at.me nodes frames r n rsn g (out_of at asks o) came.0 h))
-  arrive_holds n (msg.VStored db key rsn) g o real waits apart sent came h = home_goes o _ (g, h) (λ home. goes (Frames.on_vstored_of at n rsn o o.state.vacuum) _ (like_on_vstored_of at asks ne n rsn o o.state.vacuum) (on_vstored_holds rules ps at.lmaster at.me nodes frames r n rsn g (out_of at asks o) o.state.vacuum refl home apart came h))
+  arrive_holds n (msg.VStored db key rsn) g o real waits apart sent came h = home_goes o _ (g, h) (λ home. goes (Frames.on_vstored_of at n rsn o o.state.vacuum) _ (like_on_vstored_of at asks ne n rsn o o.state.vacuum) (on_vstored_holds rules ps at.lmaster at.me nodes frames r n rsn g (out_of at asks o) o.state.vacuum refl home (apart home) came h))
   arrive_holds n (msg.VDelete db key rsn) g o real waits apart sent came h = from_goes n o _ (g, h) (λ _. goes (Frames.on_vdelete at n rsn o) _ (like_on_vdelete at asks ne n rsn o h.good.mine.even) (on_vdelete_holds rules ps at.lmaster at.me nodes frames r n rsn g (out_of at asks o) came.0 h))
   arrive_holds n (msg.VDeleted db key rsn) g o real waits apart sent came h = home_goes o _ (g, h) (λ home. goes (Frames.on_vdeleted_of n rsn o o.state.vacuum) _ (like_on_vdeleted_of at asks ne n rsn o o.state.vacuum) (on_vdeleted_holds rules ps at.lmaster at.me nodes frames r n rsn g (out_of at asks o) o.state.vacuum refl home came h))
   arrive_holds n _ g o real waits apart sent came h = (g, h)
@@ -167,7 +140,7 @@ module _ (at : Place) (asks : ℕ → Option ClientOp) (ne : at.me ≢ nobody) (
   unlocks_holds call g o is locked h = goes (Moves.unlock at call o) _ (like_unlock at asks ne call o is (record { even = h.good.mine.even; waits = λ w e. absurd (wish_some at.readonly o.state.wish w e (h.good.mine.unwished locked)) }))
       (unlock_holds rules ps at.lmaster at.me nodes frames r at.db at.key g (out_of at asks o) locked h)
 
-  pub vacuums_holds : (all : List ℕ) (g : Ghost) (o : Moving) → Rule.has_node at.lmaster ps ≡ false → (at.me ≡ at.lmaster → all ≡ ps) → Apart rules ps at.lmaster at.me nodes frames r → Stands g o → Goes (Moves.vacuum at all o)
+  pub vacuums_holds : (all : List ℕ) (g : Ghost) (o : Moving) → Rule.has_node at.lmaster ps ≡ false → (at.me ≡ at.lmaster → all ≡ ps) → (at.me ≡ at.lmaster → Apart rules ps at.lmaster at.me nodes frames r) → Stands g o → Goes (Moves.vacuum at all o)
   vacuums_holds all g o none is apart h = goes (Moves.vacuum at all o) _ (like_vacuum at asks ne all o h.good.mine.even) (vacuum_event_holds rules ps at.lmaster at.me nodes frames r all g (out_of at asks o) none is apart h)
 
   pub resends_holds : (g : Ghost) (o : Moving) → Stands g o → Goes (Moves.revoke_again at (Moves.call_again at o))

@@ -16,3 +16,5 @@ pub mod Alike
 pub mod Likewise
 pub mod Coming
 pub mod Events
+pub mod Worlds
+pub mod Law

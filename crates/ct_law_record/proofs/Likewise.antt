@@ -1,14 +1,11 @@
 -- The rules of Want and of each message do the same to a node as the law sees it.
-use Rattle.std.proofs.Common.{◌≡◌, ◌≢◌, ℕ, ◌+◌, Bool, true, false, cond, Option, Some, None, List, [], ◌∷◌, ◌++◌, refl, sym, ap, ◌∙◌, arith, append-nil, append_assoc, not, ◌&&◌, ◌||◌, ◌==◌}
+use Rattle.std.proofs.Common.{◌≡◌, ◌≢◌, ℕ, true, false, Option, Some, None, List, [], ◌∷◌, refl, sym, ap, ◌∙◌, arith, ◌&&◌, ◌||◌, ◌==◌}
 use Rattle.std.proofs.lemmas.Bool.{cond_both, and_parts, ne_eqb}
-use Rattle.std.specs.Prelude.{is_none, is_some, nat_eq, if◌then◌else◌, Result, Ok, Err}
-use Rattle.ct_msg.specs.declared.client.Answer.{Answer}
+use Rattle.std.specs.Prelude.{is_none, nat_eq, Result, Ok, Err}
 use Rattle.ct_msg.specs.declared.client.Answer.TheVariants as answer
 use Rattle.ct_msg.specs.declared.client.ClientOp.{ClientOp}
 use Rattle.ct_msg.specs.declared.client.ClientOp.TheVariants as op
 use Rattle.ct_frame.specs.declared.frame.CallKind.{CallKind}
-use Rattle.ct_frame.specs.declared.frame.CallKind.TheVariants as kind
-use Rattle.ct_frame.specs.declared.frame.Msg.{Msg}
 use Rattle.ct_frame.specs.declared.frame.Msg.TheVariants as msg
 use Rattle.ct_frame.specs.declared.header.RecCopy.{RecCopy}
 use Rattle.ct_call.specs.Rules.{Rules}
@@ -19,28 +16,19 @@ use Rattle.ct_rules.specs.State
 use Rattle.ct_rules.specs.State.{is_nil, nobody, plain, for_reading, delegated, being_revoked, a_copy, is_read_op, is_read_kind, same_kind, kind_of}
 use Rattle.ct_rules.specs.Parts
 use Rattle.ct_rules.specs.Parts.{Moving}
-use Rattle.ct_rules.specs.declared.event.Act.{Act}
-use Rattle.ct_rules.specs.declared.event.Act.TheVariants as act
 use Rattle.ct_rules.specs.declared.event.Place.{Place}
 use Rattle.ct_rules.specs.declared.state.Entry.{Entry}
 use Rattle.ct_rules.specs.declared.state.RecallNote.{RecallNote}
-use Rattle.ct_rules.specs.declared.state.RecState.{RecState}
 use Rattle.ct_rules.specs.declared.state.Waiter.{Waiter}
 use Rattle.ct_rules.specs.declared.state.Wish.{Wish}
-use Rattle.ct_law_record.specs.Labels.{Label, Told, Unasked, Vacuumed}
-use Rattle.ct_law_record.specs.World.{Mail, told, sent}
+use Rattle.ct_law_record.specs.Labels.{Told}
 use Rattle.ct_law_record.proofs.Rule
 use Rattle.ct_law_record.proofs.Rule.{Kind, Copy, Node, Frame, Body, Out}
-
-use Rattle.ct_deleg.specs.Tracked.{Tracked, untracked, added, begun, placed}
-use Rattle.ct_law_record.proofs.Likeness.{kind_at, copy_of, wish_of, node_of, body_of, out_of, Fine, FineAt, like_send, like_send_all, like_reply, rsn_like, rank_like, value_like, mastered_like, for_reading_like, with_value_like, risen_like, given_like, gives_like, flags_like, raised_like, own_like, free_like, wished_like}
-
-use Rattle.ct_law_record.proofs.Alike.{none_is_not_some, idle_like, mastered_free, if_like, like_give, like_end_vacuum, like_opened, like_opened_quiet, like_satisfy, like_revoke, like_grant, like_yield, like_drained}
+use Rattle.ct_law_record.proofs.Likeness.{kind_at, copy_of, wish_of, body_of, out_of, FineAt, like_send, like_reply, rsn_like, rank_like, value_like, mastered_like, for_reading_like, with_value_like, given_like, raised_like, own_like, free_like}
+use Rattle.ct_law_record.proofs.Alike.{none_is_not_some, idle_like, if_like, like_opened_quiet, like_satisfy, like_revoke, like_grant, like_yield, like_drained}
 use Rattle.ct_rules.specs.Frames
 use Rattle.std.specs.List.{list_any}
-use Rattle.std.proofs.Common.{nat_lt, nat_le, ◌-◌, eqb-true}
-use Rattle.ct_deleg.specs.Tracked.{Revocation, others, awaiting, acked_by, is_last}
-use Rattle.ct_deleg.specs.Tracked.{is_none_left}
+use Rattle.std.proofs.Common.{nat_lt, eqb-true}
 
 even-value : (v : List ℕ) (c : Option Copy) → Rule.is_odd (Rule.with_value v c) ≡ Rule.is_odd c
 unfolding Rule.is_odd Rule.with_value
