@@ -81,7 +81,7 @@ parent w r h who = ((λ n c is most. (h.1 c.header.rsn, (own n c is).0, λ k t. 
         go None e = (let a = absent k e in omega arith)
         go (Some d) e = (let a = (own k d e).1 in let b = up d e in omega arith)
 
-leads : (s : Scene) (w : World) (r : Register) (g : Ghost) (events : List Event) → list_all is_node s.members ≡ true → WorldInv s w r g → Leads_to s w r events
+pub leads : (s : Scene) (w : World) (r : Register) (g : Ghost) (events : List Event) → list_all is_node s.members ≡ true → WorldInv s w r g → Leads_to s w r events
 leads s w r g events real h =
     let k = run_holds s events w r g real h in
     let all = kept_all s (last s w events) k.0 k.1 k.3 in
@@ -95,7 +95,7 @@ unfolding wish_of
 wish_was readonly None v e = absurd (cc)
 wish_was readonly (Some w) v e = (w, refl, (let k : record { request = w.request; op = record { real = w.op; readonly = readonly } } ≡ v = cc in ap (λ (x : Rule.Wish). x.request) k))
 
-drawn_low : (readonly : Bool) (number : ℕ → ℕ) (wish : ℕ → Option Wish) (n : ℕ) → AreDrawn number wish → (v : Rule.Wish) → wish_of readonly (wish n) ≡ Some v → v.request < number n
+pub drawn_low : (readonly : Bool) (number : ℕ → ℕ) (wish : ℕ → Option Wish) (n : ℕ) → AreDrawn number wish → (v : Rule.Wish) → wish_of readonly (wish n) ≡ Some v → v.request < number n
 drawn_low readonly number wish n drawn v e = (let k = wish_was readonly (wish n) v e in let l = drawn.above n k.0 k.1 in let same = k.2 in omega arith)
 
 bare_holds : (s : Scene) (number : ℕ → ℕ) (wish : ℕ → Option Wish) → AreDrawn number wish → WorldInv s (bare number wish) (newborn []) (bare_ghost s.lmaster)

@@ -18,3 +18,4 @@ pub mod Coming
 pub mod Events
 pub mod Worlds
 pub mod Law
+pub mod Births
