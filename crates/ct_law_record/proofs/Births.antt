@@ -1,42 +1,36 @@
 -- The law of one record in a generation that begins with a row for it.
 use Rattle.std.proofs.Common.{◌≡◌, ◌≢◌, ℕ, ◌+◌, Bool, true, false, Option, Some, None, List, [], refl, sym, ap, ◌∙◌, arith}
-use Rattle.ct_frame.specs.declared.header.RecCopy.{RecCopy}
-use Rattle.ct_rules.specs.State
-use Rattle.ct_rules.specs.State.{is_nil, nobody, plain, for_reading, delegated, being_revoked, a_copy, is_read_op, is_read_kind, same_kind, kind_of}
+use Rattle.ct_rules.specs.State.{nobody, plain, a_copy}
 use Rattle.ct_rules.specs.declared.state.Wish.{Wish}
 use Rattle.ct_law_record.proofs.Rule
 use Rattle.ct_law_record.proofs.Rule.{Kind, Copy, Node, Frame, Body, Out}
-use Rattle.ct_law_record.proofs.Likeness.{copy_of, wish_of, out_of, mastered_like, for_reading_like}
-use Rattle.std.proofs.Common.{◌<◌, ◌≤◌, subst, inr, eq-eqb}
-use Rattle.ct_register.specs.Register.{Register}
+use Rattle.ct_law_record.proofs.Likeness.{copy_of}
+use Rattle.std.proofs.Common.{◌<◌, ◌≤◌, subst, eq-eqb}
 use Rattle.ct_law_record.proofs.Invariant.{Sent, Ghost}
-use Rattle.ct_law_record.specs.World.{starts}
 use Rattle.std.proofs.Common.{take}
 use Rattle.std.specs.List.{list_all}
 use Rattle.ct_frame.specs.Fields.{is_node}
 use Rattle.ct_register.specs.Register.{reading, newborn}
 use Rattle.ct_rules.specs.State.{nothing_kept}
-use Rattle.ct_law_record.specs.World.{Scene, World, Event, place, peers, last, HasCopy, Stands, StandsFor, Kept_all, Parent, Leads_to, Theorem}
-use Rattle.ct_law_record.proofs.Invariant.{GlobalInv, default_entry, Asked, Waits, Emptied, readers_of, is_revoking}
-use Rattle.ct_law_record.proofs.Parts.{nobody_has}
-use Rattle.ct_law_record.proofs.Revoking.{owned_none}
+use Rattle.ct_law_record.specs.World.{Scene}
+use Rattle.ct_law_record.proofs.Invariant.{Asked, Waits, Emptied, readers_of, is_revoking}
 use Rattle.ct_law_record.proofs.Likeness.{frames_of}
-use Rattle.ct_law_record.specs.World.{bare, AreDrawn, Theorem_bare}
-use Rattle.ct_law_record.proofs.Worlds.{nodes_at, WorldInv, run_holds, begin_holds}
+use Rattle.ct_law_record.specs.World.{AreDrawn}
+use Rattle.ct_law_record.proofs.Worlds.{WorldInv}
 use Rattle.ct_law_record.proofs.Law.{leads, drawn_low}
 use Rattle.ct_law_record.specs.World.{born_state, born, SeesAtMost, AreDrawn, Theorem_born}
 use Rattle.ct_rules_node.specs.Rounds.{installed_state, copy_from, row_master, or_nobody, entry_from}
 use Rattle.ct_frame.specs.declared.frame.TableRow.{TableRow}
-use Rattle.std.proofs.lemmas.Bool.{cond_both, and_parts, ne_eqb, le-leb, lt-leb, eqb-false}
+use Rattle.std.proofs.lemmas.Bool.{cond_both, ne_eqb, le-leb, lt-leb, eqb-false}
 use Rattle.std.proofs.lemmas.List.{take_all}
 use Rattle.ct_register.specs.Words.{is_in}
 use Rattle.std.proofs.Common.{nat_eq, cond, leb, length, take, le_refl, ◌<◌, ◌≤◌, eq-eqb, eqb-true, inl, subst}
 use Rattle.ct_rules.specs.State.{nobody, plain, nothing_kept, a_copy}
 use Rattle.ct_rules.specs.declared.state.RecState.{RecState}
 use Rattle.ct_rules.specs.declared.state.Wish.{Wish}
-use Rattle.ct_law_record.proofs.Likeness.{copy_of, kind_at, wish_of, node_of, frames_of}
+use Rattle.ct_law_record.proofs.Likeness.{copy_of, kind_at, node_of, frames_of}
 use Rattle.ct_law_record.proofs.Invariant.{Ghost, Facts, MasterFacts, NodeInv, Asked, Waits, Sent, Emptied, readers_of, is_revoking}
-use Rattle.ct_law_record.proofs.Worlds.{WorldInv, node_at, nodes_at, member_real}
+use Rattle.ct_law_record.proofs.Worlds.{WorldInv, member_real}
 
 -- the places: the whole list from the row's RSN on, and nothing below it
 abbrev born_place : ℕ → ℕ → ℕ → ℕ

@@ -16,7 +16,6 @@ pub fn begins_as_one_register()
 {}
 
 /// In a generation that begins with a row for the record, whatever calls wait for it.
-#[tactic(auto, using(crate::proofs::Births::proved_born))]
 pub fn is_born_as_one_register()
     ensures { Theorem_born }
 {}
