@@ -212,12 +212,12 @@ module _ (at : Place) (asks : ℕ → Option ClientOp) (ne : at.me ≢ nobody) w
   unfolding Moves.release Parts.keeps Parts.reply Parts.acts
   fine_release call o h = record { even = h.even; waits = h.waits }
 
-  like_release : (call : ℕ) (o : Moving) → asks call ≡ Some (op.Unlock at.db at.key) → out_of at asks (Moves.release call o) ≡ Rule.tell (Told at.me (op.Unlock at.db at.key) answer.Unlocked) (Rule.with_node (record (out_of at asks o).node { locked = false }) (out_of at asks o))
-  unfolding Moves.release Parts.keeps Rule.with_node
+  pub like_release : (call : ℕ) (o : Moving) → asks call ≡ Some (op.Unlock at.db at.key) → out_of at asks (Moves.release call o) ≡ Rule.release at.me at.db at.key (out_of at asks o)
+  unfolding Moves.release Parts.keeps Rule.release Rule.with_node
   like_release call o is = like_reply at asks call (op.Unlock at.db at.key) answer.Unlocked _ is
 
   pub like_unlock : (call : ℕ) (o : Moving) → asks call ≡ Some (op.Unlock at.db at.key) → FineAt at asks o → out_of at asks (Moves.unlock at call o) ≡ Rule.unlock at.me at.lmaster at.db at.key (out_of at asks o)
-  unfolding Moves.unlock Rule.unlock Rule.tell Rule.with_node
+  unfolding Moves.unlock Rule.unlock Rule.release Rule.tell Rule.with_node
   like_unlock call o is fine = like_drained at asks ne (Moves.release call o) (fine_release call o fine) ∙ ap (λ (x : Out). Rule.drain at.me at.lmaster x.node.recalls x) (like_release call o is)
 
   -- sending again

@@ -26,11 +26,11 @@ use Rattle.ct_rules_node.specs.Rounds
 use Rattle.std.proofs.Common.{◌≤◌, subst, eq-eqb}
 use Rattle.std.proofs.lemmas.Bool.{false_from_ne_true}
 use Rattle.ct_register.specs.Register.{Register}
-use Rattle.ct_law_record.proofs.Coming.{greater_like, like_on_give_of, like_on_pass, like_on_refuse_of, like_on_grant, like_on_done_of, like_on_revoke_of, like_on_revokeack, like_on_vstore, like_on_vdelete, like_on_vstored_of, like_on_vdeleted_of, like_vacuum, like_store, like_unlock, like_call_again, like_revoke_again}
+use Rattle.ct_law_record.proofs.Coming.{greater_like, like_on_give_of, like_on_pass, like_on_refuse_of, like_on_grant, like_on_done_of, like_on_revoke_of, like_on_revokeack, like_on_vstore, like_on_vdelete, like_on_vstored_of, like_on_vdeleted_of, like_vacuum, like_store, like_release, like_unlock, like_call_again, like_revoke_again}
 use Rattle.ct_law_record.proofs.Invariant.{Recalled, Sent, Ghost, Says, NodeInv, Holds, Kept}
 use Rattle.ct_law_record.proofs.Acts.{node_holds, revoke_again_holds}
 use Rattle.ct_law_record.proofs.Revoking.{Came, on_ack_holds, on_revoke_holds, on_grant_holds}
-use Rattle.ct_law_record.proofs.Receive.{on_call_holds, on_recall_holds, on_give_holds, on_pass_holds, on_refuse_holds, on_done_holds, want_holds, store_holds, unlock_holds, retry_holds}
+use Rattle.ct_law_record.proofs.Receive.{on_call_holds, on_recall_holds, on_give_holds, on_pass_holds, on_refuse_holds, on_done_holds, want_holds, store_holds, release_holds, unlock_holds, retry_holds}
 use Rattle.ct_law_record.proofs.Nodes.{NodeInv-nowish}
 use Rattle.ct_law_record.proofs.Floor.{raise_floor_holds}
 use Rattle.ct_law_record.proofs.Vacuuming.{Apart, on_vstore_holds, on_vstored_holds, on_vdelete_holds, on_vdeleted_holds, vacuum_event_holds}
@@ -139,6 +139,9 @@ module _ (at : Place) (asks : ℕ → Option ClientOp) (ne : at.me ≢ nobody) (
   pub unlocks_holds : (call : ℕ) (g : Ghost) (o : Moving) → asks call ≡ Some (op.Unlock at.db at.key) → is_some o.state.locked ≡ true → Stands g o → Goes (Moves.unlock at call o)
   unlocks_holds call g o is locked h = goes (Moves.unlock at call o) _ (like_unlock at asks ne call o is (record { even = h.good.mine.even; waits = λ w e. absurd (wish_some at.readonly o.state.wish w e (h.good.mine.unwished locked)) }))
       (unlock_holds rules ps at.lmaster at.me nodes frames r at.db at.key g (out_of at asks o) locked h)
+
+  pub releases_holds : (call : ℕ) (g : Ghost) (o : Moving) → asks call ≡ Some (op.Unlock at.db at.key) → is_some o.state.locked ≡ true → Stands g o → Goes (Moves.release call o)
+  releases_holds call g o is locked h = goes (Moves.release call o) _ (like_release at asks ne call o is) (release_holds rules ps at.lmaster at.me nodes frames r at.db at.key g (out_of at asks o) locked h)
 
   pub vacuums_holds : (all : List ℕ) (g : Ghost) (o : Moving) → Rule.has_node at.lmaster ps ≡ false → (at.me ≡ at.lmaster → all ≡ ps) → (at.me ≡ at.lmaster → Apart rules ps at.lmaster at.me nodes frames r) → Stands g o → Goes (Moves.vacuum at all o)
   vacuums_holds all g o none is apart h = goes (Moves.vacuum at all o) _ (like_vacuum at asks ne all o h.good.mine.even) (vacuum_event_holds rules ps at.lmaster at.me nodes frames r all g (out_of at asks o) none is apart h)

@@ -30,10 +30,10 @@ use Rattle.std.proofs.lemmas.Bool.{eqb-false}
 use Rattle.ct_frame.specs.Fields.{is_node}
 use Rattle.ct_register.specs.Words.{is_in}
 use Rattle.ct_law_record.specs.Labels.{AcceptsAll}
-use Rattle.ct_law_record.specs.World.{sends, Scene, World, Event, Wants, Stores, Unlocks, Comes, Vacuums, Resends, Thaws, Rises, place, peers, Stepped, view_of, put, comes, happens, trace, last}
+use Rattle.ct_law_record.specs.World.{sends, Scene, World, Event, Wants, Stores, Unlocks, Releases, Comes, Vacuums, Resends, Thaws, Rises, place, peers, Stepped, view_of, put, comes, happens, trace, last}
 use Rattle.ct_law_record.proofs.Invariant.{MasterInv, GlobalInv}
 use Rattle.ct_law_record.proofs.Likeness.{frame_of, frames_of, frames_append}
-use Rattle.ct_law_record.proofs.Events.{arrive_holds, wants_holds, stores_holds, unlocks_holds, vacuums_holds, resends_holds, thaws_holds, rises_holds, none_none, none_unlocked, own_is, waiting_is, may_parts}
+use Rattle.ct_law_record.proofs.Events.{arrive_holds, wants_holds, stores_holds, unlocks_holds, releases_holds, vacuums_holds, resends_holds, thaws_holds, rises_holds, none_none, none_unlocked, own_is, waiting_is, may_parts}
 
 -- the nodes, as the law sees them
 abbrev pub node_at : Scene → ℕ → View → Node
@@ -173,6 +173,9 @@ step_holds s w r g (Stores n call v) real h = cond_both (is_some (w.nodes n).sta
     (λ _. (r, g, refl, h))
 step_holds s w r g (Unlocks n call) real h = cond_both (is_some (w.nodes n).state.locked) _ _ (Leads s r)
     (λ t. (let asks = own_call call (op.Unlock s.db s.key) in put_holds s w r n asks g _ h (λ member. unlocks_holds (place s n (w.nodes n)) asks (member_real n s.members member real) s.rules (peers s s.lmaster) (nodes_at s w) (frames_of w.mail) r call g (starts (w.nodes n)) (own_is call (op.Unlock s.db s.key)) t (begin_holds s w r n asks g h))))
+    (λ _. (r, g, refl, h))
+step_holds s w r g (Releases n call) real h = cond_both (is_some (w.nodes n).state.locked) _ _ (Leads s r)
+    (λ t. (let asks = own_call call (op.Unlock s.db s.key) in put_holds s w r n asks g _ h (λ member. releases_holds (place s n (w.nodes n)) asks (member_real n s.members member real) s.rules (peers s s.lmaster) (nodes_at s w) (frames_of w.mail) r call g (starts (w.nodes n)) (own_is call (op.Unlock s.db s.key)) t (begin_holds s w r n asks g h))))
     (λ _. (r, g, refl, h))
 step_holds s w r g (Comes which) real h = comes_holds s w r g (slice_get w.mail which) real (λ m e. sent_at which w.mail m e) h
 step_holds s w r g (Vacuums n) real h = (let asks = waiting_call (w.nodes n).state.wish in put_holds s w r n asks g _ h (λ member. vacuums_holds (place s n (w.nodes n)) asks (member_real n s.members member real) s.rules (peers s s.lmaster) (nodes_at s w) (frames_of w.mail) r (peers s n) g (starts (w.nodes n))

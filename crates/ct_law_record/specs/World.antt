@@ -11,7 +11,7 @@ use Rattle.ct_deleg.specs.Tracked.{others}
 use Rattle.ct_rules.specs.State.{nothing_kept, for_reading, is_read_op}
 use Rattle.ct_rules.specs.Parts.{Moving}
 use Rattle.ct_rules.specs.Frames.{greater}
-use Rattle.ct_rules.specs.Moves.{move, begins}
+use Rattle.ct_rules.specs.Moves.{move, release, begins}
 use Rattle.ct_rules.specs.Form.{is_wanting}
 use Rattle.ct_rules.specs.declared.event.Act.{Act}
 use Rattle.ct_rules.specs.declared.event.Act.TheVariants as act
@@ -56,6 +56,8 @@ pub data Event : Type 0 where
   Wants : (node call : ℕ) (asked : ClientOp) → Event
   Stores : (node call : ℕ) (value : List ℕ) → Event
   Unlocks : (node call : ℕ) → Event
+  -- the same at a node that freezes: the lock ends, and nothing else
+  Releases : (node call : ℕ) → Event
   -- any message that was sent comes, as often as it likes
   Comes : (which : ℕ) → Event
   Vacuums : (node : ℕ) → Event
@@ -151,6 +153,10 @@ happens s w (Stores n call v) =
 happens s w (Unlocks n call) =
     if is_some (w.nodes n).state.locked
     then put s w n (own_call call (op.Unlock s.db s.key)) (move (place s n (w.nodes n)) s.rules (event.Unlock call) (starts (w.nodes n)))
+    else stays w
+happens s w (Releases n call) =
+    if is_some (w.nodes n).state.locked
+    then put s w n (own_call call (op.Unlock s.db s.key)) (release call (starts (w.nodes n)))
     else stays w
 happens s w (Comes which) = comes s w (slice_get w.mail which)
 happens s w (Vacuums n) = put s w n (waiting_call (w.nodes n).state.wish) (move (place s n (w.nodes n)) s.rules (event.Vacuum (peers s n)) (starts (w.nodes n)))
