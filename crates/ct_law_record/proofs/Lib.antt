@@ -19,3 +19,4 @@ pub mod Events
 pub mod Worlds
 pub mod Law
 pub mod Births
+pub mod Runs
