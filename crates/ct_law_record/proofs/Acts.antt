@@ -49,11 +49,11 @@ pub reads_is_read : (o : Op) → reads_op o ≡ true → is_read_op o.real ≡ t
 unfolding reads_op kind_of is_read_kind is_read_op
 reads_is_read o h = grind arith
 
-changed_me : (me count : ℕ) (f : ℕ → ℕ) → changed me count f me ≤ count
+pub changed_me : (me count : ℕ) (f : ℕ → ℕ) → changed me count f me ≤ count
 unfolding changed
 changed_me me count f = grind (arith, eq-eqb)
 
-changed_other : (me n count : ℕ) (f : ℕ → ℕ) → n ≢ me → changed me count f n ≡ f n
+pub changed_other : (me n count : ℕ) (f : ℕ → ℕ) → n ≢ me → changed me count f n ≡ f n
 unfolding changed
 changed_other me n count f ne = rw (ne_eqb n me ne) refl
 

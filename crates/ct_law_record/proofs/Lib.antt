@@ -16,6 +16,7 @@ pub mod Alike
 pub mod Likewise
 pub mod Coming
 pub mod Events
+pub mod Leaving
 pub mod Worlds
 pub mod Law
 pub mod Births

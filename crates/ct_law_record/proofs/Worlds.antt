@@ -11,6 +11,8 @@ use Rattle.ct_rules.specs.declared.event.Act.{Act}
 use Rattle.ct_rules.specs.declared.event.Act.TheVariants as act
 use Rattle.ct_law_record.specs.Labels.{Label}
 use Rattle.ct_law_record.specs.World.{Mail, told, sent}
+use Rattle.ct_law_record.specs.Labels as label
+use Rattle.ct_law_record.proofs.Leaving.{end_holds, leave_holds}
 use Rattle.ct_law_record.proofs.Rule
 use Rattle.ct_law_record.proofs.Rule.{Kind, Copy, Node, Frame, Body, Out}
 use Rattle.ct_law_record.proofs.Likeness.{copy_of, node_of, out_of}
@@ -24,13 +26,13 @@ use Rattle.ct_register.specs.Register.{Register}
 use Rattle.ct_law_record.proofs.Invariant.{Sent, Ghost, NodeInv, Holds, Kept}
 use Rattle.ct_law_record.proofs.Vacuuming.{Apart}
 use Rattle.ct_law_record.specs.World.{own_call, waiting_call, may_want, View, starts}
-use Rattle.std.proofs.Common.{◌⊎◌, ⊎_elim, slice_get, zero, suc}
+use Rattle.std.proofs.Common.{Bool, ◌⊎◌, ⊎_elim, slice_get, zero, suc}
 use Rattle.std.specs.List.{list_all}
 use Rattle.std.proofs.lemmas.Bool.{eqb-false}
 use Rattle.ct_frame.specs.Fields.{is_node}
 use Rattle.ct_register.specs.Words.{is_in}
 use Rattle.ct_law_record.specs.Labels.{AcceptsAll}
-use Rattle.ct_law_record.specs.World.{sends, Scene, World, Event, Wants, Stores, Unlocks, Releases, Comes, Vacuums, Resends, Thaws, Rises, place, peers, Stepped, view_of, put, comes, happens, trace, last}
+use Rattle.ct_law_record.specs.World.{sends, Scene, World, Event, Wants, Stores, Unlocks, Releases, Comes, Vacuums, Resends, Thaws, Ends, Leaves, Rises, place, peers, Stepped, view_of, steps, unlocked, put, comes, happens, trace, last}
 use Rattle.ct_law_record.proofs.Invariant.{MasterInv, GlobalInv}
 use Rattle.ct_law_record.proofs.Likeness.{frame_of, frames_of, frames_append}
 use Rattle.ct_law_record.proofs.Events.{arrive_holds, wants_holds, stores_holds, unlocks_holds, releases_holds, vacuums_holds, resends_holds, thaws_holds, rises_holds, none_none, none_unlocked, own_is, waiting_is, may_parts}
@@ -120,32 +122,48 @@ begin_holds s w r n asks g h = record {
   };
 }
 
-put_holds : (s : Scene) (w : World) (r : Register) (n : ℕ) (asks : ℕ → Option ClientOp) (g : Ghost) (o : Moving) → WorldInv s w r g → (is_in n s.members ≡ true → Ended s w r n asks o) → Leads s r (put s w n asks o)
-put_holds s w r n asks g₀ o before k = cond_both (is_in n s.members && not o.spent) _ _ (Leads s r)
-    (λ t. (let member = (and_parts (is_in n s.members) (not o.spent) t).0 in let g = (k member).0 in let h = (k member).1 in (
+steps_holds : (s : Scene) (w : World) (r : Register) (n : ℕ) (may : Bool) (labels : List Label) (v : View) (more : List Mail) (g : Ghost) → WorldInv s w r g → ((f : Frame) → Sent f (frames_of more) → f.from ≡ n) →
+    (is_in n s.members ≡ true → may ≡ true → Kept s.rules (peers s s.lmaster) s.lmaster n (nodes_at s w) (frames_of w.mail) r (record { node = node_at s n v; frames = frames_of more; labels = labels })) → Leads s r (steps s w n may labels v more)
+steps_holds s w r n may labels v more g₀ before named k = cond_both (is_in n s.members && may) _ _ (Leads s r)
+    (λ t. (let p = and_parts (is_in n s.members) may t in let member = p.0 in let g = (k member p.1).0 in let h = (k member p.1).1 in (
       g.register,
       g,
       h.told,
       record {
-        frames = h.sent ∙ sym (frames_append w.mail (sent n o.acts));
+        frames = h.sent ∙ sym (frames_append w.mail more);
         register = refl;
         all = h.good.all;
-        nodes = λ j. cond_both (nat_eq j n) (view_of o) (w.nodes j) (λ (v : View). NodeInv g j (node_at s j v))
-            (λ t'. subst (λ x. NodeInv g x (node_at s x (view_of o))) (sym (eqb-true j n t')) h.good.mine)
+        nodes = λ j. cond_both (nat_eq j n) v (w.nodes j) (λ (x : View). NodeInv g j (node_at s j x))
+            (λ t'. subst (λ x. NodeInv g x (node_at s x v)) (sym (eqb-true j n t')) h.good.mine)
             (λ f. h.good.others j (eqb-false j n f));
-        master = cond_both (nat_eq s.lmaster n) (view_of o) (w.nodes s.lmaster) (λ (v : View). MasterInv s.lmaster g (node_at s s.lmaster v))
-            (λ t'. (let e = eqb-true s.lmaster n t' in subst (λ x. MasterInv s.lmaster g (node_at s x (view_of o))) (sym e) (h.good.master (sym e))))
+        master = cond_both (nat_eq s.lmaster n) v (w.nodes s.lmaster) (λ (x : View). MasterInv s.lmaster g (node_at s s.lmaster x))
+            (λ t'. (let e = eqb-true s.lmaster n t' in subst (λ x. MasterInv s.lmaster g (node_at s x v)) (sym e) (h.good.master (sym e))))
             (λ f. h.good.master_other (λ e. eqb-false s.lmaster n f (sym e)));
-        outside = λ j e. cond_both (nat_eq j n) (view_of o) (w.nodes j) (λ (v : View). v.state.copy ≡ None)
+        outside = λ j e. cond_both (nat_eq j n) v (w.nodes j) (λ (x : View). x.state.copy ≡ None)
             (λ t'. absurd (let z : is_in n s.members ≡ false = subst (λ x. is_in x s.members ≡ false) (eqb-true j n t') e in cc))
             (λ f. before.outside j e);
         senders = λ f h'. ⊎_elim
             (λ (x : Sent f (frames_of w.mail)). before.senders f x)
-            (λ (x : Sent f (frames_of (sent n o.acts))). subst (λ y. is_in y s.members ≡ true) (sym (sent_from n f o.acts x)) member)
-            (sent_split f (frames_of w.mail) (frames_of (sent n o.acts)) (subst (λ l. Sent f l) (frames_append w.mail (sent n o.acts)) h'));
+            (λ (x : Sent f (frames_of more)). subst (λ y. is_in y s.members ≡ true) (sym (named f x)) member)
+            (sent_split f (frames_of w.mail) (frames_of more) (subst (λ l. Sent f l) (frames_append w.mail more) h'));
       },
     )))
     (λ _. (r, g₀, refl, before))
+
+put_holds : (s : Scene) (w : World) (r : Register) (n : ℕ) (asks : ℕ → Option ClientOp) (g : Ghost) (o : Moving) → WorldInv s w r g → (is_in n s.members ≡ true → Ended s w r n asks o) → Leads s r (put s w n asks o)
+put_holds s w r n asks g o before k = steps_holds s w r n (not o.spent) (told n asks o.acts) (view_of o) (sent n o.acts) g before (λ f x. sent_from n f o.acts x) (λ member _. k member)
+
+no_mail : (n : ℕ) (f : Frame) → Sent f (frames_of []) → f.from ≡ n
+unfolding Sent frames_of
+no_mail n f h = elim h [ ]
+
+ends_world : (s : Scene) (w : World) (r : Register) (n : ℕ) (g : Ghost) → is_some (w.nodes n).state.locked ≡ true → WorldInv s w r g → Kept s.rules (peers s s.lmaster) s.lmaster n (nodes_at s w) (frames_of w.mail) r (record { node = node_at s n (unlocked (w.nodes n)); frames = frames_of []; labels = label.Ended n ∷ [] })
+unfolding Rule.tell Rule.with_node sent told
+ends_world s w r n g locked h = end_holds s.rules (peers s s.lmaster) s.lmaster n (nodes_at s w) (frames_of w.mail) r g (out_of (place s n (w.nodes n)) (λ _. None) (starts (w.nodes n))) locked (begin_holds s w r n (λ _. None) g h)
+
+leaves_world : (s : Scene) (w : World) (r : Register) (n : ℕ) (g : Ghost) → WorldInv s w r g → Kept s.rules (peers s s.lmaster) s.lmaster n (nodes_at s w) (frames_of w.mail) r (record { node = node_at s n (unlocked (w.nodes n)); frames = frames_of []; labels = label.Left n ∷ [] })
+unfolding Rule.tell Rule.with_node sent told
+leaves_world s w r n g h = leave_holds s.rules (peers s s.lmaster) s.lmaster n (nodes_at s w) (frames_of w.mail) r g (out_of (place s n (w.nodes n)) (λ _. None) (starts (w.nodes n))) (begin_holds s w r n (λ _. None) g h)
 
 apart : (s : Scene) (w : World) (r : Register) (n : ℕ) (g : Ghost) → WorldInv s w r g → n ≡ s.lmaster → Apart s.rules (peers s s.lmaster) s.lmaster n (nodes_at s w) (frames_of w.mail) r
 unfolding copy_of
@@ -182,6 +200,8 @@ step_holds s w r g (Vacuums n) real h = (let asks = waiting_call (w.nodes n).sta
     (peers_not s.lmaster s.members) (λ e. ap (peers s) e) (λ e. apart s w r n g h e) (begin_holds s w r n asks g h)))
 step_holds s w r g (Resends n) real h = (let asks = waiting_call (w.nodes n).state.wish in put_holds s w r n asks g _ h (λ member. resends_holds (place s n (w.nodes n)) asks (member_real n s.members member real) s.rules (peers s s.lmaster) (nodes_at s w) (frames_of w.mail) r g (starts (w.nodes n)) (begin_holds s w r n asks g h)))
 step_holds s w r g (Thaws n) real h = (let asks = waiting_call (w.nodes n).state.wish in put_holds s w r n asks g _ h (λ member. thaws_holds (place s n (w.nodes n)) asks (member_real n s.members member real) s.rules (peers s s.lmaster) (nodes_at s w) (frames_of w.mail) r g (starts (w.nodes n)) (w.nodes n).state.wish refl (λ v e. waiting_is (w.nodes n).state.wish v e) (begin_holds s w r n asks g h)))
+step_holds s w r g (Ends n) real h = steps_holds s w r n (is_some (w.nodes n).state.locked) _ (unlocked (w.nodes n)) [] g h (λ f x. no_mail n f x) (λ _ locked. ends_world s w r n g locked h)
+step_holds s w r g (Leaves n) real h = steps_holds s w r n true _ (unlocked (w.nodes n)) [] g h (λ f x. no_mail n f x) (λ _ _. leaves_world s w r n g h)
 step_holds s w r g (Rises n next floor) real h = (let asks = waiting_call (w.nodes n).state.wish in put_holds s w r n asks g (Moves.begins (w.nodes n).state (Frames.greater (w.nodes n).next next) (Frames.greater (w.nodes n).floor floor)) h (λ member. rises_holds (place s n (w.nodes n)) asks (member_real n s.members member real) s.rules (peers s s.lmaster) (nodes_at s w) (frames_of w.mail) r next floor g (starts (w.nodes n)) (begin_holds s w r n asks g h)))
 
 pub run_holds : (s : Scene) (events : List Event) (w : World) (r : Register) (g : Ghost) → list_all is_node s.members ≡ true → WorldInv s w r g → (t : Register) × (g' : Ghost) × AcceptsAll s.rules r (trace s w events) t × WorldInv s (last s w events) t g'

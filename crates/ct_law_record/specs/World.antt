@@ -23,7 +23,7 @@ use Rattle.ct_frame.specs.declared.frame.TableRow.{TableRow}
 use Rattle.ct_rules_node.specs.Rounds.{want_again, installed_state}
 use Rattle.ct_register.specs.Register.{Register, reading, newborn}
 use Rattle.ct_register.specs.Words.{is_in}
-use Rattle.ct_law_record.specs.Labels.{Label, Told, Unasked, Vacuumed, AcceptsAll}
+use Rattle.ct_law_record.specs.Labels.{Label, Told, Unasked, Vacuumed, Ended, Left, AcceptsAll}
 
 -- a record in a generation: its database and key, its location master, whether its database hands out copies for reading,
 -- the members of the generation, and the rules of the functions
@@ -64,6 +64,10 @@ pub data Event : Type 0 where
   Resends : (node : ℕ) → Event
   -- Thaw: the call that waits wants the record anew
   Thaws : (node : ℕ) → Event
+  -- the lock ends without its client
+  Ends : (node : ℕ) → Event
+  -- the node stops: its lock is gone, and what it had seen does not count any more
+  Leaves : (node : ℕ) → Event
   -- other records raised the node's next request number, or its floor
   Rises : (node next floor : ℕ) → Event
 
@@ -129,12 +133,20 @@ stays w = record { world = w; labels = [] }
 abbrev pub view_of : Moving → View
 view_of o = record { state = o.state; next = o.next; floor = o.floor }
 
--- who is no member does nothing; nor is there a step in which a number would reach 2^62
-abbrev pub put : Scene → World → ℕ → (ℕ → Option ClientOp) → Moving → Stepped
-put s w n asks o = if is_in n s.members && not o.spent then record {
-  world = record { nodes = λ k. if nat_eq k n then view_of o else w.nodes k; mail = w.mail ++ sent n o.acts };
-  labels = told n asks o.acts;
+-- a node comes to this view, tells this and sends this; who is no member does nothing
+abbrev pub steps : Scene → World → ℕ → Bool → List Label → View → List Mail → Stepped
+steps s w n may labels v more = if is_in n s.members && may then record {
+  world = record { nodes = λ k. if nat_eq k n then v else w.nodes k; mail = w.mail ++ more };
+  labels = labels;
 } else stays w
+
+-- what a rule makes of a node, where the calls ask this; there is no step in which a number would reach 2^62
+abbrev pub put : Scene → World → ℕ → (ℕ → Option ClientOp) → Moving → Stepped
+put s w n asks o = steps s w n (not o.spent) (told n asks o.acts) (view_of o) (sent n o.acts)
+
+-- the view without the lock
+abbrev pub unlocked : View → View
+unlocked v = record v { state = record v.state { locked = None } }
 
 -- a message comes to its receiver
 abbrev pub comes : Scene → World → Option Mail → Stepped
@@ -162,6 +174,8 @@ happens s w (Comes which) = comes s w (slice_get w.mail which)
 happens s w (Vacuums n) = put s w n (waiting_call (w.nodes n).state.wish) (move (place s n (w.nodes n)) s.rules (event.Vacuum (peers s n)) (starts (w.nodes n)))
 happens s w (Resends n) = put s w n (waiting_call (w.nodes n).state.wish) (move (place s n (w.nodes n)) s.rules event.Resend (starts (w.nodes n)))
 happens s w (Thaws n) = put s w n (waiting_call (w.nodes n).state.wish) (want_again s.rules (place s n (w.nodes n)) (starts (w.nodes n)))
+happens s w (Ends n) = steps s w n (is_some (w.nodes n).state.locked) (Ended n ∷ []) (unlocked (w.nodes n)) []
+happens s w (Leaves n) = steps s w n true (Left n ∷ []) (unlocked (w.nodes n)) []
 happens s w (Rises n next floor) =
     put s w n (waiting_call (w.nodes n).state.wish) (begins (w.nodes n).state (greater (w.nodes n).next next) (greater (w.nodes n).floor floor))
 
