@@ -1,36 +1,23 @@
 -- The law of one record in a generation that begins with a row for it.
-use Rattle.std.proofs.Common.{◌≡◌, ◌≢◌, ℕ, ◌+◌, Bool, true, false, Option, Some, None, List, [], refl, sym, ap, ◌∙◌, arith}
-use Rattle.ct_rules.specs.State.{nobody, plain, a_copy}
+use Rattle.std.proofs.Common.{◌≡◌, ◌≢◌, ℕ, ◌+◌, Bool, true, false, Option, Some, None, List, [], refl, sym, ap, ◌∙◌, arith, ◌<◌, ◌≤◌, subst, eq-eqb, take, nat_eq, cond, leb, length, le_refl, eqb-true, inl}
+use Rattle.ct_rules.specs.State.{nobody, plain, a_copy, nothing_kept}
 use Rattle.ct_rules.specs.declared.state.Wish.{Wish}
 use Rattle.ct_law_record.proofs.Rule
 use Rattle.ct_law_record.proofs.Rule.{Kind, Copy, Node, Frame, Body, Out}
-use Rattle.ct_law_record.proofs.Likeness.{copy_of}
-use Rattle.std.proofs.Common.{◌<◌, ◌≤◌, subst, eq-eqb}
-use Rattle.ct_law_record.proofs.Invariant.{Sent, Ghost}
-use Rattle.std.proofs.Common.{take}
+use Rattle.ct_law_record.proofs.Likeness.{copy_of, frames_of, kind_at, node_of}
+use Rattle.ct_law_record.proofs.Invariant.{Sent, Ghost, Asked, Waits, Emptied, readers_of, is_revoking, Facts, MasterFacts, NodeInv}
 use Rattle.std.specs.List.{list_all}
 use Rattle.ct_frame.specs.Fields.{is_node}
 use Rattle.ct_register.specs.Register.{reading, newborn}
-use Rattle.ct_rules.specs.State.{nothing_kept}
-use Rattle.ct_law_record.specs.World.{Scene}
-use Rattle.ct_law_record.proofs.Invariant.{Asked, Waits, Emptied, readers_of, is_revoking}
-use Rattle.ct_law_record.proofs.Likeness.{frames_of}
-use Rattle.ct_law_record.specs.World.{AreDrawn}
-use Rattle.ct_law_record.proofs.Worlds.{WorldInv}
+use Rattle.ct_law_record.specs.World.{Scene, AreDrawn, born_state, born, SeesAtMost, IsBornAsOneRegister}
+use Rattle.ct_law_record.proofs.Worlds.{WorldInv, member_real}
 use Rattle.ct_law_record.proofs.Law.{leads, drawn_low}
-use Rattle.ct_law_record.specs.World.{born_state, born, SeesAtMost, AreDrawn, Theorem_born}
 use Rattle.ct_rules_node.specs.Rounds.{installed_state, copy_from, row_master, or_nobody, entry_from}
 use Rattle.ct_frame.specs.declared.frame.TableRow.{TableRow}
 use Rattle.std.proofs.lemmas.Bool.{cond_both, ne_eqb, le-leb, lt-leb, eqb-false}
 use Rattle.std.proofs.lemmas.List.{take_all}
 use Rattle.ct_register.specs.Words.{is_in}
-use Rattle.std.proofs.Common.{nat_eq, cond, leb, length, take, le_refl, ◌<◌, ◌≤◌, eq-eqb, eqb-true, inl, subst}
-use Rattle.ct_rules.specs.State.{nobody, plain, nothing_kept, a_copy}
 use Rattle.ct_rules.specs.declared.state.RecState.{RecState}
-use Rattle.ct_rules.specs.declared.state.Wish.{Wish}
-use Rattle.ct_law_record.proofs.Likeness.{copy_of, kind_at, node_of, frames_of}
-use Rattle.ct_law_record.proofs.Invariant.{Ghost, Facts, MasterFacts, NodeInv, Asked, Waits, Sent, Emptied, readers_of, is_revoking}
-use Rattle.ct_law_record.proofs.Worlds.{WorldInv, member_real}
 
 -- the places: the whole list from the row's RSN on, and nothing below it
 abbrev born_place : ℕ → ℕ → ℕ → ℕ
@@ -188,7 +175,7 @@ born_holds s row versions seen number wish real lmaster member is sees drawn = r
         (λ f. facts_born row (row_master row) versions seen n (number n) _ _ is (drawn.some n) (λ v e. drawn_low s.readonly number wish n drawn v e)
         (born_outside row.rsn (row_master row) n versions (seen n) (λ e. (let z : is_in n s.members ≡ true = subst (λ x. is_in x s.members ≡ true) (sym e) member in cc)) (subst (λ (b : Bool). seen n ≤ cond b (length versions) 0) f (sees n))))
 
-pub proved_born : Theorem_born
+pub proved_born : IsBornAsOneRegister
 unfolding row_master or_nobody
 proved_born s row master versions seen number wish events real lmaster named member is sees drawn =
     let e : row_master row ≡ master = ap or_nobody named in

@@ -1,27 +1,19 @@
 -- The law of one record: from the opening, and from a generation that begins with calls that wait and with a row.
-use Rattle.std.proofs.Common.{◌≡◌, ◌≢◌, ℕ, ◌+◌, Bool, true, false, Option, Some, None, List, [], refl, sym, ap, ◌∙◌, arith}
+use Rattle.std.proofs.Common.{◌≡◌, ◌≢◌, ℕ, ◌+◌, Bool, true, false, Option, Some, None, List, [], refl, sym, ap, ◌∙◌, arith, ◌<◌, ◌≤◌, subst, inr, eq-eqb, take}
 use Rattle.ct_frame.specs.declared.header.RecCopy.{RecCopy}
 use Rattle.ct_rules.specs.State
-use Rattle.ct_rules.specs.State.{is_nil, nobody, plain, for_reading, delegated, being_revoked, a_copy, is_read_op, is_read_kind, same_kind, kind_of}
+use Rattle.ct_rules.specs.State.{is_nil, nobody, plain, for_reading, delegated, being_revoked, a_copy, is_read_op, is_read_kind, same_kind, kind_of, nothing_kept}
 use Rattle.ct_rules.specs.declared.state.Wish.{Wish}
 use Rattle.ct_law_record.proofs.Rule
 use Rattle.ct_law_record.proofs.Rule.{Kind, Copy, Node, Frame, Body, Out}
-use Rattle.ct_law_record.proofs.Likeness.{copy_of, wish_of, out_of, mastered_like, for_reading_like}
-use Rattle.std.proofs.Common.{◌<◌, ◌≤◌, subst, inr, eq-eqb}
-use Rattle.ct_register.specs.Register.{Register}
-use Rattle.ct_law_record.proofs.Invariant.{Sent, Ghost}
-use Rattle.ct_law_record.specs.World.{starts}
-use Rattle.std.proofs.Common.{take}
+use Rattle.ct_law_record.proofs.Likeness.{copy_of, wish_of, out_of, mastered_like, for_reading_like, frames_of}
+use Rattle.ct_register.specs.Register.{Register, reading, newborn}
+use Rattle.ct_law_record.proofs.Invariant.{Sent, Ghost, GlobalInv, default_entry, Asked, Waits, Emptied, readers_of, is_revoking}
+use Rattle.ct_law_record.specs.World.{starts, Scene, World, Event, place, peers, last, HasCopy, Stands, StandsFor, NothingIsLost, Parent, LeadsTo, OpensAsOneRegister, bare, AreDrawn, BeginsAsOneRegister}
 use Rattle.std.specs.List.{list_all}
 use Rattle.ct_frame.specs.Fields.{is_node}
-use Rattle.ct_register.specs.Register.{reading, newborn}
-use Rattle.ct_rules.specs.State.{nothing_kept}
-use Rattle.ct_law_record.specs.World.{Scene, World, Event, place, peers, last, HasCopy, Stands, StandsFor, Kept_all, Parent, Leads_to, Theorem}
-use Rattle.ct_law_record.proofs.Invariant.{GlobalInv, default_entry, Asked, Waits, Emptied, readers_of, is_revoking}
 use Rattle.ct_law_record.proofs.Parts.{nobody_has}
 use Rattle.ct_law_record.proofs.Revoking.{owned_none}
-use Rattle.ct_law_record.proofs.Likeness.{frames_of}
-use Rattle.ct_law_record.specs.World.{bare, AreDrawn, Theorem_bare}
 use Rattle.ct_law_record.proofs.Worlds.{nodes_at, WorldInv, run_holds, begin_holds}
 
 no_owner : (owner : Option ℕ) → ((n : ℕ) → owner ≢ Some n) → owner ≡ None
@@ -60,12 +52,12 @@ unfolding Rule.rank Rule.value_of copy_of
 stands_for ps m g n None all v s = s
 stands_for ps m g n (Some c) all v s = (v, s, all.rises 0 (c.header.rsn + 1) (omega arith))
 
-kept_all : (s : Scene) (w : World) (r : Register) (g : Ghost) → WorldInv s w r g → Kept_all w r
+kept_all : (s : Scene) (w : World) (r : Register) (g : Ghost) → WorldInv s w r g → NothingIsLost w r
 unfolding Emptied
-kept_all s w r g h = subst (λ (x : Register). Kept_all w x) h.register
+kept_all s w r g h = subst (λ (x : Register). NothingIsLost w x) h.register
     (g.place 0, (λ a. g.place (a + 1)), h.all.absent, (λ a b le. h.all.rises (a + 1) (b + 1) (omega arith)), (λ a. h.all.within (a + 1)), λ n. stands_for (peers s s.lmaster) s.lmaster g n (w.nodes n).state.copy h.all (h.nodes n).value (h.nodes n).seen)
 
-parent : (w : World) (r : Register) → Kept_all w r → Parent w r
+parent : (w : World) (r : Register) → NothingIsLost w r → Parent w r
 parent w r h who = ((λ n c is most. (h.1 c.header.rsn, (own n c is).0, λ k t. each k (h.1 c.header.rsn) (own n c is).2 (λ d e. h.3 d.header.rsn c.header.rsn (most k d t e)))), λ none. (h.0, h.2, λ k t. absent k (none k t)))
   where
     own : (n : ℕ) (c : RecCopy) → (w.nodes n).state.copy ≡ Some c → StandsFor r h.0 h.1 n (Some c)
@@ -81,7 +73,7 @@ parent w r h who = ((λ n c is most. (h.1 c.header.rsn, (own n c is).0, λ k t. 
         go None e = (let a = absent k e in omega arith)
         go (Some d) e = (let a = (own k d e).1 in let b = up d e in omega arith)
 
-pub leads : (s : Scene) (w : World) (r : Register) (g : Ghost) (events : List Event) → list_all is_node s.members ≡ true → WorldInv s w r g → Leads_to s w r events
+pub leads : (s : Scene) (w : World) (r : Register) (g : Ghost) (events : List Event) → list_all is_node s.members ≡ true → WorldInv s w r g → LeadsTo s w r events
 leads s w r g events real h =
     let k = run_holds s events w r g real h in
     let all = kept_all s (last s w events) k.0 k.1 k.3 in
@@ -136,8 +128,8 @@ bare_holds s number wish drawn = record {
   senders = λ f h. elim h [ ];
 }
 
-pub proved_bare : Theorem_bare
+pub proved_bare : BeginsAsOneRegister
 proved_bare s number wish events real drawn = leads s (bare number wish) (newborn []) (bare_ghost s.lmaster) events real (bare_holds s number wish drawn)
 
-pub proved : Theorem
+pub proved : OpensAsOneRegister
 proved s events real = proved_bare s (λ _. 1) (λ _. None) events real (record { some = λ n. omega arith; above = λ n w e. absurd (cc) })

@@ -1,19 +1,16 @@
 -- A lock that ends without its client, and a node that stops.
 use Rattle.std.proofs.Common.{◌≡◌, ◌≢◌, ℕ, ◌≤◌, Bool, true, false, Option, Some, None, List, refl, sym, ap, ◌∙◌, arith, subst}
-use Rattle.std.proofs.lemmas.Bool.{eq-eqb}
+use Rattle.std.proofs.lemmas.Bool.{eq-eqb, ne_eqb}
 use Rattle.ct_law_record.proofs.Invariant.{Ghost, Holds, Kept}
-use Rattle.ct_law_record.proofs.Acts.{lock_holds}
+use Rattle.ct_law_record.proofs.Acts.{lock_holds, changed_me, changed_other}
 use Rattle.std.specs.Prelude.{List}
 use Rattle.ct_call.specs.Rules.{Rules}
-use Rattle.ct_register.specs.Register.{Register}
+use Rattle.ct_register.specs.Register.{Register, left_by, owner_without}
 use Rattle.ct_law_record.proofs.Rule.{Frame, Node, Out, rank, tell, with_node}
-use Rattle.ct_register.specs.Register.{left_by, owner_without}
 use Rattle.ct_register.specs.Words.{at as changed}
 use Rattle.ct_law_record.specs.Labels.{Ended, Left}
 use Rattle.ct_law_record.proofs.Nodes.{seeing, NodeInv-seeing}
 use Rattle.ct_law_record.proofs.Parts.{accepts_one_more}
-use Rattle.ct_law_record.proofs.Acts.{changed_me, changed_other}
-use Rattle.std.proofs.lemmas.Bool.{ne_eqb, eq-eqb}
 
 same_owner : (n : ℕ) (owner : Option ℕ) → owner ≢ Some n → owner_without n owner ≡ owner
 unfolding owner_without

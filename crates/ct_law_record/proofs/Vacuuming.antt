@@ -12,8 +12,7 @@ use Rattle.ct_law_record.proofs.Finish.{finish_holds}
 use Rattle.std.specs.Prelude.{is_none, List}
 use Rattle.ct_call.specs.Rules.{Rules}
 use Rattle.ct_deleg.specs.Tracked.{Revocation}
-use Rattle.ct_vacuum.specs.Vacuum.{Vacuuming, begun, is_phase, awaits, without, acknowledged, is_last, stored, deleting as in_deleting}
-use Rattle.ct_vacuum.specs.Vacuum.{is_none as is_none_left}
+use Rattle.ct_vacuum.specs.Vacuum.{Vacuuming, begun, is_phase, awaits, without, acknowledged, is_last, stored, deleting as in_deleting, is_none as is_none_left}
 use Rattle.ct_vacuum.specs.declared.vacuum.VacuumPhase.{VacuumPhase}
 use Rattle.ct_vacuum.specs.declared.vacuum.VacuumPhase.TheVariants.{Storing, Deleting}
 use Rattle.ct_rules.specs.State.{is_nil}

@@ -1,6 +1,6 @@
 -- Every schedule keeps the invariant, so its trace is the register's.
-use Rattle.std.proofs.Common.{◌≡◌, ◌≢◌, ℕ, true, false, Option, Some, None, List, [], ◌∷◌, ◌++◌, refl, sym, ap, ◌∙◌, arith, append-nil, not, ◌&&◌}
-use Rattle.std.proofs.lemmas.Bool.{cond_both, and_parts, ne_eqb}
+use Rattle.std.proofs.Common.{◌≡◌, ◌≢◌, ℕ, true, false, Option, Some, None, List, [], ◌∷◌, ◌++◌, refl, sym, ap, ◌∙◌, arith, append-nil, not, ◌&&◌, eqb-true, subst, inl, inr, eq-eqb, Bool, ◌⊎◌, ⊎_elim, slice_get, zero, suc}
+use Rattle.std.proofs.lemmas.Bool.{cond_both, and_parts, ne_eqb, eqb-false}
 use Rattle.std.specs.Prelude.{is_some, nat_eq}
 use Rattle.ct_msg.specs.declared.client.ClientOp.{ClientOp}
 use Rattle.ct_msg.specs.declared.client.ClientOp.TheVariants as op
@@ -9,32 +9,23 @@ use Rattle.ct_rules.specs.State.{nobody}
 use Rattle.ct_rules.specs.Parts.{Moving}
 use Rattle.ct_rules.specs.declared.event.Act.{Act}
 use Rattle.ct_rules.specs.declared.event.Act.TheVariants as act
-use Rattle.ct_law_record.specs.Labels.{Label}
-use Rattle.ct_law_record.specs.World.{Mail, told, sent}
+use Rattle.ct_law_record.specs.Labels.{Label, AcceptsAll}
+use Rattle.ct_law_record.specs.World.{Mail, told, sent, own_call, waiting_call, may_want, View, starts, sends, Scene, World, Event, Wants, Stores, Unlocks, Releases, Comes, Vacuums, Resends, Thaws, Ends, Leaves, Rises, place, peers, Stepped, view_of, steps, unlocked, put, comes, happens, trace, last}
 use Rattle.ct_law_record.specs.Labels as label
 use Rattle.ct_law_record.proofs.Leaving.{end_holds, leave_holds}
 use Rattle.ct_law_record.proofs.Rule
 use Rattle.ct_law_record.proofs.Rule.{Kind, Copy, Node, Frame, Body, Out}
-use Rattle.ct_law_record.proofs.Likeness.{copy_of, node_of, out_of}
+use Rattle.ct_law_record.proofs.Likeness.{copy_of, node_of, out_of, frame_of, frames_of, frames_append}
 use Rattle.ct_rules.specs.Frames
-use Rattle.std.proofs.Common.{eqb-true}
 use Rattle.ct_deleg.specs.Tracked.{others}
 use Rattle.ct_rules.specs.Moves
 use Rattle.ct_rules_node.specs.Rounds
-use Rattle.std.proofs.Common.{subst, inl, inr, eq-eqb}
 use Rattle.ct_register.specs.Register.{Register}
-use Rattle.ct_law_record.proofs.Invariant.{Sent, Ghost, NodeInv, Holds, Kept}
+use Rattle.ct_law_record.proofs.Invariant.{Sent, Ghost, NodeInv, Holds, Kept, MasterInv, GlobalInv}
 use Rattle.ct_law_record.proofs.Vacuuming.{Apart}
-use Rattle.ct_law_record.specs.World.{own_call, waiting_call, may_want, View, starts}
-use Rattle.std.proofs.Common.{Bool, ◌⊎◌, ⊎_elim, slice_get, zero, suc}
 use Rattle.std.specs.List.{list_all}
-use Rattle.std.proofs.lemmas.Bool.{eqb-false}
 use Rattle.ct_frame.specs.Fields.{is_node}
 use Rattle.ct_register.specs.Words.{is_in}
-use Rattle.ct_law_record.specs.Labels.{AcceptsAll}
-use Rattle.ct_law_record.specs.World.{sends, Scene, World, Event, Wants, Stores, Unlocks, Releases, Comes, Vacuums, Resends, Thaws, Ends, Leaves, Rises, place, peers, Stepped, view_of, steps, unlocked, put, comes, happens, trace, last}
-use Rattle.ct_law_record.proofs.Invariant.{MasterInv, GlobalInv}
-use Rattle.ct_law_record.proofs.Likeness.{frame_of, frames_of, frames_append}
 use Rattle.ct_law_record.proofs.Events.{arrive_holds, wants_holds, stores_holds, unlocks_holds, releases_holds, vacuums_holds, resends_holds, thaws_holds, rises_holds, none_none, none_unlocked, own_is, waiting_is, may_parts}
 
 -- the nodes, as the law sees them

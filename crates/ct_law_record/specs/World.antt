@@ -206,8 +206,8 @@ StandsFor r deleted places n (Some c) = (c.value ≡ reading (take (places c.hea
 
 -- nothing seen is lost: places rise with the RSN, the deleted prefix has an empty reading, and each copy stands for all that
 -- its node has seen
-abbrev pub Kept_all : World → Register → Type 0
-Kept_all w r = (deleted : ℕ) × (places : ℕ → ℕ) × (reading (take deleted r.versions) ≡ []) × ((a b : ℕ) → a ≤ b → places a ≤ places b) ×
+abbrev pub NothingIsLost : World → Register → Type 0
+NothingIsLost w r = (deleted : ℕ) × (places : ℕ → ℕ) × (reading (take deleted r.versions) ≡ []) × ((a b : ℕ) → a ≤ b → places a ≤ places b) ×
     ((a : ℕ) → places a ≤ length r.versions) × ((n : ℕ) → StandsFor r deleted places n (w.nodes n).state.copy)
 
 -- where the copies of some nodes are gathered, the one of the greatest RSN is the reading of a prefix that has all that
@@ -219,8 +219,8 @@ Parent w r = (who : ℕ → Bool) →
     (((k : ℕ) → who k ≡ true → (w.nodes k).state.copy ≡ None) → (p : ℕ) × (reading (take p r.versions) ≡ []) × ((k : ℕ) → who k ≡ true → r.seen k ≤ p))
 
 -- what a schedule leads to, from a world and a register
-abbrev pub Leads_to : Scene → World → Register → List Event → Type 0
-Leads_to s w r events = (t : Register) × AcceptsAll s.rules r (trace s w events) t × Stands (last s w events) t × Kept_all (last s w events) t × Parent (last s w events) t
+abbrev pub LeadsTo : Scene → World → Register → List Event → Type 0
+LeadsTo s w r events = (t : Register) × AcceptsAll s.rules r (trace s w events) t × Stands (last s w events) t × NothingIsLost (last s w events) t × Parent (last s w events) t
 
 -- nothing is kept but calls that wait, under these next request numbers, and nothing was sent
 abbrev pub bare : (ℕ → ℕ) → (ℕ → Option Wish) → World
@@ -248,19 +248,19 @@ abbrev pub SeesAtMost : Scene → (ℕ → ℕ) → ℕ → Type 0
 SeesAtMost s seen count = (n : ℕ) → seen n ≤ (if is_in n s.members then count else 0)
 
 -- every schedule from the opening is one register's
-abbrev pub Theorem : Type 0
-Theorem = (s : Scene) (events : List Event) → list_all is_node s.members ≡ true → Leads_to s opening (newborn []) events
+abbrev pub OpensAsOneRegister : Type 0
+OpensAsOneRegister = (s : Scene) (events : List Event) → list_all is_node s.members ≡ true → LeadsTo s opening (newborn []) events
 
 -- so is every schedule of a generation in which the record has no row, with any calls that wait
-abbrev pub Theorem_bare : Type 0
-Theorem_bare = (s : Scene) (number : ℕ → ℕ) (wish : ℕ → Option Wish) (events : List Event) → list_all is_node s.members ≡ true → AreDrawn number wish →
-    Leads_to s (bare number wish) (newborn []) events
+abbrev pub BeginsAsOneRegister : Type 0
+BeginsAsOneRegister = (s : Scene) (number : ℕ → ℕ) (wish : ℕ → Option Wish) (events : List Event) → list_all is_node s.members ≡ true → AreDrawn number wish →
+    LeadsTo s (bare number wish) (newborn []) events
 
 -- and every schedule of a generation that begins with a row, whose data master is a member as the location master is, with
 -- any calls that wait; the register begins with any versions whose reading is the row's value, and with what its nodes have
 -- seen of them
-abbrev pub Theorem_born : Type 0
-Theorem_born = (s : Scene) (row : TableRow) (master : ℕ) (versions : List (List ℕ)) (seen : ℕ → ℕ) (number : ℕ → ℕ) (wish : ℕ → Option Wish) (events : List Event) →
+abbrev pub IsBornAsOneRegister : Type 0
+IsBornAsOneRegister = (s : Scene) (row : TableRow) (master : ℕ) (versions : List (List ℕ)) (seen : ℕ → ℕ) (number : ℕ → ℕ) (wish : ℕ → Option Wish) (events : List Event) →
     list_all is_node s.members ≡ true → is_in s.lmaster s.members ≡ true → row.master ≡ Some master → is_in master s.members ≡ true → row.value ≡ reading versions →
     SeesAtMost s seen (length versions) → AreDrawn number wish →
-    Leads_to s (born s row number wish) (record (newborn versions) { seen = seen }) events
+    LeadsTo s (born s row number wish) (record (newborn versions) { seen = seen }) events
