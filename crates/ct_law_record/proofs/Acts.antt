@@ -70,17 +70,18 @@ module _ (rules : Rules) (ps : List ℕ) (m me : ℕ) (nodes : ℕ → Node) (fr
           mine = NodeInv-frame g me o.node f still mine h.good.mine;
           others = λ n ne. NodeInv-frame g n (nodes n) f still (other n ne) (h.good.others n ne);
           master = h.good.master;
+          joined = h.good.joined;
           master_other = h.good.master_other;
         };
       }
 
   -- the node alone changes
-  pub node_holds : (node : Node) (g : Ghost) (o : Out) → Holds rules ps m me nodes frames r g o → NodeInv g me node → (me ≡ m → MasterInv m g node) → Holds rules ps m me nodes frames r g (with_node node o)
+  pub node_holds : (node : Node) (g : Ghost) (o : Out) → node.fresh ≡ o.node.fresh → Holds rules ps m me nodes frames r g o → NodeInv g me node → (me ≡ m → MasterInv m g node) → Holds rules ps m me nodes frames r g (with_node node o)
   unfolding with_node
-  node_holds node g o h mine master = record {
+  node_holds node g o same h mine master = record {
     sent = h.sent;
     told = h.told;
-    good = record { all = h.good.all; mine = mine; others = h.good.others; master = master; master_other = h.good.master_other };
+    good = record { all = h.good.all; mine = mine; others = h.good.others; master = master; joined = same ∙ h.good.joined; master_other = h.good.master_other };
   }
 
   -- the holder changes, and with it the ghost
@@ -92,9 +93,10 @@ module _ (rules : Rules) (ps : List ℕ) (m me : ℕ) (nodes : ℕ → Node) (fr
   unfolding Others
   own_good g g' o node here all c d others master same h = record {
     all = all;
-    mine = NodeInv-own ps m g g' me o.node node all here c d h.good.mine;
+    mine = NodeInv-own ps m g g' me o.node node h.good.joined all here c d h.good.mine;
     others = λ n ne. NodeInv-shift g g' n (nodes n) (λ e. ne (e ∙ sym (h.good.mine.here here).0)) c (others n ne) (h.good.others n ne);
     master = master;
+    joined = d.fresh ∙ h.good.joined;
     master_other = λ ne. (let k = h.good.master_other ne in record {
       entry = subst (λ (e : Entry). ((nodes m).entry ≡ Some e) ⊎ (((nodes m).entry ≡ None) × (e ≡ record { holder = m; least = (nodes m).floor; request = 0; value = [] }) × ((nodes m).copy ≡ None))) (sym c.entry) k.entry;
       queue = k.queue ∙ sym c.queue;
@@ -149,6 +151,7 @@ module _ (rules : Rules) (ps : List ℕ) (m me : ℕ) (nodes : ℕ → Node) (fr
       mine = NodeInv-quiet g me o.node h.good.mine;
       others = λ n ne. NodeInv-quiet g n (nodes n) (h.good.others n ne);
       master = λ e. (let k = h.good.master e in record { entry = k.entry; queue = k.queue; vacuum = refl });
+      joined = h.good.joined;
       master_other = λ ne. (let k = h.good.master_other ne in record { entry = k.entry; queue = k.queue; vacuum = k.vacuum ∙ calm ne });
     };
   }
@@ -162,7 +165,7 @@ module _ (rules : Rules) (ps : List ℕ) (m me : ℕ) (nodes : ℕ → Node) (fr
       let same = rank_of o.node.copy here in (
         _,
         send_holds m (Give (rsn_of o.node.copy) (value_of o.node.copy)) g (with_node (given o.node) o) (λ q s v is. absurd (cc))
-            (node_holds (given o.node) g o h (NodeInv-given g me o.node here unlocked untracked idle calm h.good.mine) (master_copy g o _ here h))
+            (node_holds (given o.node) g o refl h (NodeInv-given g me o.node here unlocked untracked idle calm h.good.mine) (master_copy g o _ here h))
             (λ p. record { below = omega arith; held = λ _ _. refl })
             (λ n ne p. absurd (ne (sym p))),
       ))
@@ -209,6 +212,7 @@ module _ (rules : Rules) (ps : List ℕ) (m me : ℕ) (nodes : ℕ → Node) (fr
         owner = h.good.mine.owner;
         unwished = λ a. absurd (cc);
         next = refl;
+        fresh = refl;
         recalls = refl;
         wishes = wishes;
         runs = λ u e. (let k : v ≡ u = cc in (rw (ap (λ (x : Revocation). x.rsn) (sym k)) (sym rank_is), calm));
@@ -245,6 +249,7 @@ module _ (rules : Rules) (ps : List ℕ) (m me : ℕ) (nodes : ℕ → Node) (fr
           mine = NodeInv-seeing g me o.node _ (rw (eq-eqb me me refl) (le_of_eq (sym whole))) h.good.mine;
           others = λ n ne. NodeInv-seeing g n (nodes n) _ (rw (ne_eqb n me ne) (h.good.others n ne).seen) (h.good.others n ne);
           master = h.good.master;
+          joined = h.good.joined;
           master_other = h.good.master_other;
         };
       }
@@ -262,6 +267,7 @@ module _ (rules : Rules) (ps : List ℕ) (m me : ℕ) (nodes : ℕ → Node) (fr
     owner = own2;
     unwished = unwished;
     next = refl;
+    fresh = refl;
     recalls = refl;
     wishes = λ w e. inl e;
     runs = λ v e. absurd (cc);
@@ -306,7 +312,7 @@ module _ (rules : Rules) (ps : List ℕ) (m me : ℕ) (nodes : ℕ → Node) (fr
       (let u = changed_me me (length (g.register.versions ++ (v ∷ []))) g.register.seen in let e = length-append g.register.versions (v ∷ []) in rw (le-leb g.top (rank (with_value v o.node.copy)) (omega arith)) (omega arith)) h.good.mine.unwished h.good.mine)
       (λ n ne. (let b = below_top g o here untracked idle h n ne in let f = h.good.others n ne in
       shift_register g _ _ n (nodes n) none (others n ne) (f.value ∙ sym (grown_below ps m g v (rank (nodes n).copy) h.good.all b))
-      (rw (ne_eqb n me ne, lt-leb g.top (rank (nodes n).copy) b) f.seen) f))
+      (rw (ne_eqb n me ne, lt-leb g.top (rank (nodes n).copy) b) f.seen) (rw (lt-leb g.top (rank (nodes n).copy) b) (omega arith)) f))
       (λ e. (let k = master_copy g o (with_value v o.node.copy) here h e in record { entry = k.entry; queue = k.queue; vacuum = k.vacuum })) (λ _. refl) accepts h
 
   -- the lock changes
@@ -323,9 +329,9 @@ module _ (rules : Rules) (ps : List ℕ) (m me : ℕ) (nodes : ℕ → Node) (fr
       let none : g.readers ≡ [] = (readers_idle g me o.node here idle h.good.mine).0 ∙ untracked in
       let g' = registers (record g.register { owner = owner; seen = seen }) g.place g in
       act_holds l g g' o (record o.node { locked = locked }) here h.good.all
-      (record { entry = refl; queue = refl; sent = refl; top = inr (refl, λ a. a); empty = λ a b c. c; joined = λ a b c. c })
+      (record { entry = refl; queue = refl; sent = refl; birth = refl; top = inr (refl, λ a. a); empty = λ a b c. c; joined = λ a b c. c })
       (own_register g g' o o.node.copy locked here untracked idle calm refl refl refl refl here refl holds.1 own1 own2 (omega arith) unwished h.good.mine)
-      (λ n ne. (let f = h.good.others n ne in let s = f.seen in let e = seens n ne in shift_register g _ g.place n (nodes n) none (others n ne) f.value (omega arith) f))
+      (λ n ne. (let f = h.good.others n ne in let s = f.seen in let e = seens n ne in shift_register g _ g.place n (nodes n) none (others n ne) f.value (omega arith) (omega arith) f))
       h.good.master (λ _. refl) accepts h
 
   applies_holds : (db : ℕ) (key : List ℕ) (f : ℕ) (arg : List ℕ) (g : Ghost) (o : Out) (x : Result (List ℕ) CallFault) → applied f (reading g.register.versions) arg rules ≡ x → is_here o.node.copy ≡ true → o.node.locked ≡ false → o.node.tracked ≡ [] → o.node.revoking ≡ None → g.vacuum ≡ None → Holds rules ps m me nodes frames r g o → Kept rules ps m me nodes frames r (applies me (op.Apply db key f arg) o x)
@@ -384,7 +390,7 @@ module _ (rules : Rules) (ps : List ℕ) (m me : ℕ) (nodes : ℕ → Node) (fr
       let k = h.good.mine.holds at.0 at.1 in (
         _,
         see_holds g (with_node (record o.node { wish = None }) o) k.0 (owner_me g o.node h.good here) w.op.real (reads_is_read w.op p.1) (value_of o.node.copy) k.1
-            (node_holds (record o.node { wish = None }) g o h (NodeInv-nowish g me o.node h.good.mine) h.good.master),
+            (node_holds (record o.node { wish = None }) g o refl h (NodeInv-nowish g me o.node h.good.mine) h.good.master),
       ))
       (λ _. (g, h))
 
@@ -433,6 +439,7 @@ module _ (rules : Rules) (ps : List ℕ) (m me : ℕ) (nodes : ℕ → Node) (fr
             owner = h.good.mine.owner;
             unwished = λ a. absurd (cc);
             next = refl;
+            fresh = refl;
             recalls = refl;
             wishes = λ w e. inl e;
             runs = λ v e. absurd (cc);
@@ -452,7 +459,7 @@ module _ (rules : Rules) (ps : List ℕ) (m me : ℕ) (nodes : ℕ → Node) (fr
       (λ t. revoke_holds o.node.wish g o t here unlocked idle calm (λ w e. inl e) h)
 
   pub recalls_holds : (l : List RecallNote) (g : Ghost) (o : Out) → ((s : RecallNote) → Waits s l → Recalled s g.frames) → Holds rules ps m me nodes frames r g o → Holds rules ps m me nodes frames r g (with_node (record o.node { recalls = l }) o)
-  recalls_holds l g o all h = node_holds (record o.node { recalls = l }) g o h (NodeInv-recalls g me o.node l all h.good.mine) h.good.master
+  recalls_holds l g o all h = node_holds (record o.node { recalls = l }) g o refl h (NodeInv-recalls g me o.node l all h.good.mine) h.good.master
 
   pub free_parts : (n : Node) → is_free n ≡ true → (is_here n.copy ≡ true) × (n.locked ≡ false) × (n.revoking ≡ None)
   unfolding is_free

@@ -153,12 +153,12 @@ module _ (at : Place) (asks : ℕ → Option ClientOp) (ne : at.me ≢ nobody) (
   unfolding Rounds.want_again_of Parts.keeps Rule.with_node wish_of
   thaws_holds g o None is waits h = (g, h)
   thaws_holds g o (Some w) is waits h = wants_holds w.call w.op g (Parts.keeps (record o.state { wish = None }) o) (waits w is) refl (λ _. false_from_ne_true _ (λ t. wish_some at.readonly o.state.wish w is (h.good.mine.unwished t)))
-      (node_holds rules ps at.lmaster at.me nodes frames r (record (out_of at asks o).node { wish = None }) g (out_of at asks o) h (NodeInv-nowish g at.me (out_of at asks o).node h.good.mine) h.good.master)
+      (node_holds rules ps at.lmaster at.me nodes frames r (record (out_of at asks o).node { wish = None }) g (out_of at asks o) refl h (NodeInv-nowish g at.me (out_of at asks o).node h.good.mine) h.good.master)
 
   -- other records raise the numbers
   pub rises_holds : (next floor : ℕ) (g : Ghost) (o : Moving) → Stands g o → Goes (record o { next = Frames.greater o.next next; floor = Frames.greater o.floor floor })
   unfolding Rule.raise_floor Rule.with_node
   rises_holds next floor g o h =
       let node : Node = record (out_of at asks o).node { next = Frames.greater o.next next } in
-      let k = node_holds rules ps at.lmaster at.me nodes frames r node g (out_of at asks o) h (NodeInv-drawn g at.me (out_of at asks o).node (Frames.greater o.next next) (greater_up o.next next) h.good.mine) h.good.master in
+      let k = node_holds rules ps at.lmaster at.me nodes frames r node g (out_of at asks o) refl h (NodeInv-drawn g at.me (out_of at asks o).node (Frames.greater o.next next) (greater_up o.next next) h.good.mine) h.good.master in
       goes (record o { next = Frames.greater o.next next; floor = Frames.greater o.floor floor }) _ (λ i. record (out_of at asks o) { node = record node { floor = greater_like o.floor floor i } }) (raise_floor_holds rules ps at.lmaster at.me nodes frames r floor g (Rule.with_node node (out_of at asks o)) k)

@@ -6,15 +6,14 @@ use Rattle.ct_rules.specs.State.{is_nil, nobody, plain, for_reading, delegated, 
 use Rattle.ct_rules.specs.declared.state.Wish.{Wish}
 use Rattle.ct_law_record.proofs.Rule
 use Rattle.ct_law_record.proofs.Rule.{Kind, Copy, Node, Frame, Body, Out}
-use Rattle.ct_law_record.proofs.Likeness.{copy_of, wish_of, out_of, mastered_like, for_reading_like, frames_of}
+use Rattle.ct_law_record.proofs.Likeness.{copy_of, wish_of, mastered_like, for_reading_like, frames_of}
 use Rattle.ct_register.specs.Register.{Register, reading, newborn}
 use Rattle.ct_law_record.proofs.Invariant.{Sent, Ghost, GlobalInv, default_entry, Asked, Waits, Emptied, readers_of, is_revoking}
-use Rattle.ct_law_record.specs.World.{starts, Scene, World, Event, place, peers, last, HasCopy, Stands, StandsFor, NothingIsLost, Parent, LeadsTo, OpensAsOneRegister, bare, AreDrawn, BeginsAsOneRegister}
+use Rattle.ct_law_record.specs.World.{Scene, World, Event, peers, last, HasCopy, Stands, StandsFor, NothingIsLost, Parent, LeadsTo, OpensAsOneRegister, bare, AreDrawn, BeginsAsOneRegister}
 use Rattle.std.specs.List.{list_all}
 use Rattle.ct_frame.specs.Fields.{is_node}
 use Rattle.ct_law_record.proofs.Parts.{nobody_has}
-use Rattle.ct_law_record.proofs.Revoking.{owned_none}
-use Rattle.ct_law_record.proofs.Worlds.{nodes_at, WorldInv, run_holds, begin_holds}
+use Rattle.ct_law_record.proofs.Worlds.{nodes_at, WorldInv, run_holds}
 
 no_owner : (owner : Option ℕ) → ((n : ℕ) → owner ≢ Some n) → owner ≡ None
 no_owner None h = refl
@@ -36,6 +35,10 @@ value_at : (s : Scene) (w : World) (n : ℕ) (c : RecCopy) → HasCopy w n c →
 unfolding copy_of Rule.value_of
 value_at s w n c has = ap (λ (x : Option RecCopy). Rule.value_of (copy_of n x)) has
 
+unread : (s : Scene) (w : World) (r : Register) (g : Ghost) (j : ℕ) → WorldInv s w r g → g.register.owner ≡ Some j → g.readers ≡ []
+unfolding readers_of
+unread s w r g j h own = (let l = (h.nodes j).locked ((h.nodes j).owner own) in ((h.nodes j).mirror l.0).0 ∙ ap (readers_of (nodes_at s w j).tracked) l.3 ∙ l.2)
+
 stands : (s : Scene) (w : World) (r : Register) (g : Ghost) → WorldInv s w r g → Stands w r
 stands s w r g h = subst (λ (x : Register). Stands w x) h.register (record {
   locks = λ n. ((λ a. ((h.nodes n).locked a).1), (λ a. (h.nodes n).owner a));
@@ -44,7 +47,7 @@ stands s w r g h = subst (λ (x : Register). Stands w x) h.register (record {
   readers = λ n c has is. (
       let even = subst (λ (x : Option RecCopy). Rule.is_odd (copy_of n x) ≡ false) has (h.nodes n).even in
       let k = (h.nodes n).reader (subst (λ (x : Option RecCopy). Rule.is_reading (copy_of n x) ≡ true) (sym has) (reading_own n c even is)) in
-      (sym (value_at s w n c has) ∙ k.1, no_owner g.register.owner (λ j own. nobody_has n g.readers (owned_none s.rules (peers s s.lmaster) s.lmaster n (nodes_at s w) (frames_of w.mail) r g (out_of (place s n (w.nodes n)) (λ _. None) (starts (w.nodes n))) j own (begin_holds s w r n (λ _. None) g h)) k.0)));
+      (sym (value_at s w n c has) ∙ k.1, no_owner g.register.owner (λ j own. nobody_has n g.readers (unread s w r g j h own) k.0)));
 })
 
 stands_for : (ps : List ℕ) (m : ℕ) (g : Ghost) (n : ℕ) (c : Option RecCopy) → GlobalInv ps m g → Rule.value_of (copy_of n c) ≡ reading (take (g.place (Rule.rank (copy_of n c))) g.register.versions) → g.register.seen n ≤ g.place (Rule.rank (copy_of n c)) → StandsFor g.register (g.place 0) (λ a. g.place (a + 1)) n c
@@ -90,9 +93,9 @@ wish_was readonly (Some w) v e = (w, refl, (let k : record { request = w.request
 pub drawn_low : (readonly : Bool) (number : ℕ → ℕ) (wish : ℕ → Option Wish) (n : ℕ) → AreDrawn number wish → (v : Rule.Wish) → wish_of readonly (wish n) ≡ Some v → v.request < number n
 drawn_low readonly number wish n drawn v e = (let k = wish_was readonly (wish n) v e in let l = drawn.above n k.0 k.1 in let same = k.2 in omega arith)
 
-bare_holds : (s : Scene) (number : ℕ → ℕ) (wish : ℕ → Option Wish) → AreDrawn number wish → WorldInv s (bare number wish) (newborn []) (bare_ghost s.lmaster)
+bare_holds : (s : Scene) (joined : ℕ → Bool) (number : ℕ → ℕ) (wish : ℕ → Option Wish) → AreDrawn number wish → WorldInv s (bare joined number wish) (newborn []) (bare_ghost s.lmaster)
 unfolding Rule.rank Rule.is_here Rule.is_reading Rule.is_odd Rule.value_of copy_of frames_of Asked Sent Waits readers_of is_revoking reading Emptied
-bare_holds s number wish drawn = record {
+bare_holds s joined number wish drawn = record {
   frames = refl;
   register = refl;
   all = record { rises = λ a b l. omega arith; whole = λ a l. refl; within = λ a. omega arith; absent = refl; vacuum = λ v e. absurd (cc) };
@@ -118,6 +121,7 @@ bare_holds s number wish drawn = record {
     other = λ _ a. absurd (omega arith);
     value = refl;
     seen = omega arith;
+    unjoined = λ _. (omega arith, λ a. absurd (omega arith));
     vacuum = λ v e. absurd (cc);
     asked = λ a s. elim s [ ];
     waits = λ x s. elim s [ ];
@@ -129,7 +133,7 @@ bare_holds s number wish drawn = record {
 }
 
 pub proved_bare : BeginsAsOneRegister
-proved_bare s number wish events real drawn = leads s (bare number wish) (newborn []) (bare_ghost s.lmaster) events real (bare_holds s number wish drawn)
+proved_bare s joined number wish events real drawn = leads s (bare joined number wish) (newborn []) (bare_ghost s.lmaster) events real (bare_holds s joined number wish drawn)
 
 pub proved : OpensAsOneRegister
-proved s events real = proved_bare s (λ _. 1) (λ _. None) events real (record { some = λ n. omega arith; above = λ n w e. absurd (cc) })
+proved s events real = proved_bare s (λ _. true) (λ _. 1) (λ _. None) events real (record { some = λ n. omega arith; above = λ n w e. absurd (cc) })

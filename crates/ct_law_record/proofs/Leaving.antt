@@ -50,6 +50,7 @@ module _ (rules : Rules) (ps : List ℕ) (m me : ℕ) (nodes : ℕ → Node) (fr
         mine = NodeInv-seeing g me o.node _ (let z = seen_none me g.register.seen in omega arith) h.good.mine;
         others = λ n ne. NodeInv-seeing g n (nodes n) _ (let s = (h.good.others n ne).seen in let e = changed_other me n 0 g.register.seen ne in omega arith) (h.good.others n ne);
         master = h.good.master;
+        joined = h.good.joined;
         master_other = h.good.master_other;
       };
     },

@@ -57,6 +57,7 @@ pub record Node : Type 0 where
   pub revoking : Option Revocation
   pub vacuum : Option Vacuuming
   pub floor : ℕ
+  pub fresh : Bool
 
 pub data Body : Type 0 where
   Call : (request : ℕ) (asks : CallKind) → Body
