@@ -16,46 +16,14 @@ use Rattle.ct_call.specs.declared.fault.CallFault.TheVariants as fault
 use Rattle.ct_msg.specs.declared.client.Why.TheVariants as why
 use Rattle.ct_deleg.specs.Tracked.{Revocation, placed}
 use Rattle.ct_vacuum.specs.Vacuum.{Vacuuming}
-use Rattle.ct_rules.specs.State.{is_nil, is_read_op, is_read_kind, kind_of}
+use Rattle.ct_rules.specs.State.{is_nil, is_read_op, is_read_kind}
 use Rattle.ct_rules.specs.declared.state.Entry.{Entry}
 use Rattle.ct_rules.specs.declared.state.RecallNote.{RecallNote}
-use Rattle.ct_register.specs.Register.{Register, reading, OwnedByNoOther}
+use Rattle.ct_register.specs.Register.{Register, reading}
 use Rattle.ct_register.specs.Words.{at as changed}
 use Rattle.ct_law_record.specs.Labels.{Label, Told, AcceptsLabel, AcceptsAll}
-use Rattle.ct_law_record.proofs.Rule.{Given, applies, given_copy, read_here, Body, Copy, Done, Frame, Give, Grant, Node, Op, Out, Revoke, Wish, drain, end_vacuum, give, grant, has_node, is_free, is_here, is_idle, is_wish, rank, reads_op, revoke, revoke_again, rsn_of, satisfy, send, send_all, tell, value_of, with_node, with_value, yield_record}
-
-given_is : (c : Option Copy) → is_here c ≡ true → given_copy c ≡ Some (record { rsn = rsn_of c; kind = Given; value = value_of c })
-unfolding given_copy is_here rsn_of value_of
-given_is None h = absurd (cc)
-given_is (Some c) h = refl
-
-pub owned_by_none : (n : ℕ) (owner : Option ℕ) → ((k : ℕ) → owner ≡ Some k → k ≡ n) → OwnedByNoOther n owner
-owned_by_none n None h = tt
-owned_by_none n (Some k) h = h k refl
-
-pub read_accepted : (rules : Rules) (r : Register) (me : ℕ) (asked : ClientOp) → is_read_op asked ≡ true → ((n : ℕ) → r.owner ≡ Some n → n ≡ me) → (value : List ℕ) → value ≡ reading r.versions →
-    AcceptsLabel rules r (Told me asked (answer.Read value)) (record r { seen = changed me (length r.versions) r.seen })
-unfolding is_read_op
-read_accepted rules r me (op.Read db key) is owner value new = (owned_by_none me r.owner owner, new, refl)
-read_accepted rules r me (op.Lock db key) is owner value new = absurd (cc)
-read_accepted rules r me (op.Write db key v) is owner value new = absurd (cc)
-read_accepted rules r me (op.Apply db key f arg) is owner value new = absurd (cc)
-read_accepted rules r me (op.Store db key v) is owner value new = absurd (cc)
-read_accepted rules r me (op.Unlock db key) is owner value new = absurd (cc)
-read_accepted rules r me (op.Commit db writes) is owner value new = absurd (cc)
-
--- a wish of kind Read is a read
-pub reads_is_read : (o : Op) → reads_op o ≡ true → is_read_op o.real ≡ true
-unfolding reads_op kind_of is_read_kind is_read_op
-reads_is_read o h = grind arith
-
-pub changed_me : (me count : ℕ) (f : ℕ → ℕ) → changed me count f me ≤ count
-unfolding changed
-changed_me me count f = grind (arith, eq-eqb)
-
-pub changed_other : (me n count : ℕ) (f : ℕ → ℕ) → n ≢ me → changed me count f n ≡ f n
-unfolding changed
-changed_other me n count f ne = rw (ne_eqb n me ne) refl
+use Rattle.ct_law_record.proofs.Rule.{applies, read_here, Body, Copy, Done, Frame, Give, Grant, Node, Out, Revoke, Wish, drain, end_vacuum, give, grant, has_node, is_free, is_here, is_idle, is_wish, rank, reads_op, revoke, revoke_again, rsn_of, satisfy, send, send_all, tell, value_of, with_node, with_value, yield_record}
+use Rattle.ct_law_record.proofs.Small.{given_is, read_accepted, reads_is_read, changed_me, changed_other}
 
 module _ (rules : Rules) (ps : List ℕ) (m me : ℕ) (nodes : ℕ → Node) (frames : List Frame) (r : Register) where
   pub send_holds : (to : ℕ) (b : Body) (g : Ghost) (o : Out) → ((q rsn : ℕ) (value : List ℕ) → b ≡ Grant q rsn value → g.revoking ≡ false) → Holds rules ps m me nodes frames r g o → BodyAt g me o.node me to b → ((n : ℕ) → n ≢ me → BodyAt g n (nodes n) me to b)

@@ -5,7 +5,8 @@ use Rattle.ct_law_record.proofs.Invariant.{Asked, readers_of, is_revoking, Ghost
 use Rattle.ct_law_record.proofs.Nodes.{NodeInv-called, called}
 use Rattle.ct_law_record.proofs.Holder.{NodeInv-shift, NodeInv-holding, held, holding}
 use Rattle.ct_law_record.proofs.Parts.{idle_none, nil_none, tracks, change_tracks, global_tracks, granted_to, granted_end, shift_to, nobody_has}
-use Rattle.ct_law_record.proofs.Acts.{reads_is_read, send_holds, node_holds, own_holds, Others, owner_me, see_holds, satisfy_holds, revoke_holds}
+use Rattle.ct_law_record.proofs.Acts.{send_holds, node_holds, own_holds, Others, owner_me, see_holds, satisfy_holds, revoke_holds}
+use Rattle.ct_law_record.proofs.Small.{reads_is_read}
 use Rattle.ct_law_record.proofs.Revoking.{owned_none}
 use Rattle.std.specs.Prelude.{List}
 use Rattle.ct_msg.specs.declared.client.Answer.TheVariants as answer

@@ -2,7 +2,8 @@
 use Rattle.std.proofs.Common.{◌≡◌, ◌≢◌, ℕ, ◌≤◌, Bool, true, false, Option, Some, None, List, refl, sym, ap, ◌∙◌, arith, subst}
 use Rattle.std.proofs.lemmas.Bool.{eq-eqb, ne_eqb}
 use Rattle.ct_law_record.proofs.Invariant.{Ghost, Holds, Kept}
-use Rattle.ct_law_record.proofs.Acts.{lock_holds, changed_me, changed_other}
+use Rattle.ct_law_record.proofs.Acts.{lock_holds}
+use Rattle.ct_law_record.proofs.Small.{changed_me, changed_other}
 use Rattle.std.specs.Prelude.{List}
 use Rattle.ct_call.specs.Rules.{Rules}
 use Rattle.ct_register.specs.Register.{Register, left_by, owner_without}

@@ -4,6 +4,7 @@ pub mod Nodes
 pub mod Copies
 pub mod Holder
 pub mod Parts
+pub mod Small
 pub mod Acts
 pub mod Revoking
 pub mod Frames

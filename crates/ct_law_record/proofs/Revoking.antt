@@ -5,7 +5,8 @@ use Rattle.ct_law_record.proofs.Invariant.{Sent, readers_of, is_revoking, Ghost,
 use Rattle.ct_law_record.proofs.Nodes.{and_frame, NodeInv-called, called, rank_of, ungranted_new, NodeInv-stale, reading-stale, rank-stale}
 use Rattle.ct_law_record.proofs.Copies.{NodeInv-granted, granted}
 use Rattle.ct_law_record.proofs.Parts.{nil_none, tracks, change_tracks, global_tracks, Done_with, granted_to, granted_end, shift_to, shift_end, nobody_has}
-use Rattle.ct_law_record.proofs.Acts.{reads_is_read, send_holds, node_holds, own_holds, Others, master_copy, see_holds, satisfy_holds, drain_holds}
+use Rattle.ct_law_record.proofs.Acts.{send_holds, node_holds, own_holds, Others, master_copy, see_holds, satisfy_holds, drain_holds}
+use Rattle.ct_law_record.proofs.Small.{reads_is_read}
 use Rattle.std.specs.Prelude.{List}
 use Rattle.ct_frame.specs.declared.frame.CallKind.TheVariants as kind
 use Rattle.ct_call.specs.Rules.{Rules}

@@ -22,7 +22,7 @@ use Rattle.ct_rules.specs.Moves
 use Rattle.ct_rules_node.specs.Rounds
 use Rattle.ct_register.specs.Register.{Register, joined_by}
 use Rattle.ct_law_record.proofs.Nodes.{seeing, NodeInv-seeing}
-use Rattle.ct_law_record.proofs.Acts.{changed_other}
+use Rattle.ct_law_record.proofs.Small.{changed_other}
 use Rattle.ct_law_record.proofs.Invariant.{Sent, Ghost, NodeInv, Holds, Kept, MasterInv, GlobalInv}
 use Rattle.ct_law_record.proofs.Vacuuming.{Apart}
 use Rattle.std.specs.List.{list_all}
