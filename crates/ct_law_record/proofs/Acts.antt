@@ -16,46 +16,14 @@ use Rattle.ct_call.specs.declared.fault.CallFault.TheVariants as fault
 use Rattle.ct_msg.specs.declared.client.Why.TheVariants as why
 use Rattle.ct_deleg.specs.Tracked.{Revocation, placed}
 use Rattle.ct_vacuum.specs.Vacuum.{Vacuuming}
-use Rattle.ct_rules.specs.State.{is_nil, is_read_op, is_read_kind, kind_of}
+use Rattle.ct_rules.specs.State.{is_nil, is_read_op, is_read_kind}
 use Rattle.ct_rules.specs.declared.state.Entry.{Entry}
 use Rattle.ct_rules.specs.declared.state.RecallNote.{RecallNote}
-use Rattle.ct_register.specs.Register.{Register, reading, OwnedByNoOther}
+use Rattle.ct_register.specs.Register.{Register, reading}
 use Rattle.ct_register.specs.Words.{at as changed}
 use Rattle.ct_law_record.specs.Labels.{Label, Told, AcceptsLabel, AcceptsAll}
-use Rattle.ct_law_record.proofs.Rule.{Given, applies, given_copy, read_here, Body, Copy, Done, Frame, Give, Grant, Node, Op, Out, Revoke, Wish, drain, end_vacuum, give, grant, has_node, is_free, is_here, is_idle, is_wish, rank, reads_op, revoke, revoke_again, rsn_of, satisfy, send, send_all, tell, value_of, with_node, with_value, yield_record}
-
-given_is : (c : Option Copy) → is_here c ≡ true → given_copy c ≡ Some (record { rsn = rsn_of c; kind = Given; value = value_of c })
-unfolding given_copy is_here rsn_of value_of
-given_is None h = absurd (cc)
-given_is (Some c) h = refl
-
-pub owned_by_none : (n : ℕ) (owner : Option ℕ) → ((k : ℕ) → owner ≡ Some k → k ≡ n) → OwnedByNoOther n owner
-owned_by_none n None h = tt
-owned_by_none n (Some k) h = h k refl
-
-pub read_accepted : (rules : Rules) (r : Register) (me : ℕ) (asked : ClientOp) → is_read_op asked ≡ true → ((n : ℕ) → r.owner ≡ Some n → n ≡ me) → (value : List ℕ) → value ≡ reading r.versions →
-    AcceptsLabel rules r (Told me asked (answer.Read value)) (record r { seen = changed me (length r.versions) r.seen })
-unfolding is_read_op
-read_accepted rules r me (op.Read db key) is owner value new = (owned_by_none me r.owner owner, new, refl)
-read_accepted rules r me (op.Lock db key) is owner value new = absurd (cc)
-read_accepted rules r me (op.Write db key v) is owner value new = absurd (cc)
-read_accepted rules r me (op.Apply db key f arg) is owner value new = absurd (cc)
-read_accepted rules r me (op.Store db key v) is owner value new = absurd (cc)
-read_accepted rules r me (op.Unlock db key) is owner value new = absurd (cc)
-read_accepted rules r me (op.Commit db writes) is owner value new = absurd (cc)
-
--- a wish of kind Read is a read
-pub reads_is_read : (o : Op) → reads_op o ≡ true → is_read_op o.real ≡ true
-unfolding reads_op kind_of is_read_kind is_read_op
-reads_is_read o h = grind arith
-
-changed_me : (me count : ℕ) (f : ℕ → ℕ) → changed me count f me ≤ count
-unfolding changed
-changed_me me count f = grind (arith, eq-eqb)
-
-changed_other : (me n count : ℕ) (f : ℕ → ℕ) → n ≢ me → changed me count f n ≡ f n
-unfolding changed
-changed_other me n count f ne = rw (ne_eqb n me ne) refl
+use Rattle.ct_law_record.proofs.Rule.{applies, read_here, Body, Copy, Done, Frame, Give, Grant, Node, Out, Revoke, Wish, drain, end_vacuum, give, grant, has_node, is_free, is_here, is_idle, is_wish, rank, reads_op, revoke, revoke_again, rsn_of, satisfy, send, send_all, tell, value_of, with_node, with_value, yield_record}
+use Rattle.ct_law_record.proofs.Small.{given_is, read_accepted, reads_is_read, changed_me, changed_other}
 
 module _ (rules : Rules) (ps : List ℕ) (m me : ℕ) (nodes : ℕ → Node) (frames : List Frame) (r : Register) where
   pub send_holds : (to : ℕ) (b : Body) (g : Ghost) (o : Out) → ((q rsn : ℕ) (value : List ℕ) → b ≡ Grant q rsn value → g.revoking ≡ false) → Holds rules ps m me nodes frames r g o → BodyAt g me o.node me to b → ((n : ℕ) → n ≢ me → BodyAt g n (nodes n) me to b)
@@ -70,17 +38,18 @@ module _ (rules : Rules) (ps : List ℕ) (m me : ℕ) (nodes : ℕ → Node) (fr
           mine = NodeInv-frame g me o.node f still mine h.good.mine;
           others = λ n ne. NodeInv-frame g n (nodes n) f still (other n ne) (h.good.others n ne);
           master = h.good.master;
+          joined = h.good.joined;
           master_other = h.good.master_other;
         };
       }
 
   -- the node alone changes
-  pub node_holds : (node : Node) (g : Ghost) (o : Out) → Holds rules ps m me nodes frames r g o → NodeInv g me node → (me ≡ m → MasterInv m g node) → Holds rules ps m me nodes frames r g (with_node node o)
+  pub node_holds : (node : Node) (g : Ghost) (o : Out) → node.fresh ≡ o.node.fresh → Holds rules ps m me nodes frames r g o → NodeInv g me node → (me ≡ m → MasterInv m g node) → Holds rules ps m me nodes frames r g (with_node node o)
   unfolding with_node
-  node_holds node g o h mine master = record {
+  node_holds node g o same h mine master = record {
     sent = h.sent;
     told = h.told;
-    good = record { all = h.good.all; mine = mine; others = h.good.others; master = master; master_other = h.good.master_other };
+    good = record { all = h.good.all; mine = mine; others = h.good.others; master = master; joined = same ∙ h.good.joined; master_other = h.good.master_other };
   }
 
   -- the holder changes, and with it the ghost
@@ -92,9 +61,10 @@ module _ (rules : Rules) (ps : List ℕ) (m me : ℕ) (nodes : ℕ → Node) (fr
   unfolding Others
   own_good g g' o node here all c d others master same h = record {
     all = all;
-    mine = NodeInv-own ps m g g' me o.node node all here c d h.good.mine;
+    mine = NodeInv-own ps m g g' me o.node node h.good.joined all here c d h.good.mine;
     others = λ n ne. NodeInv-shift g g' n (nodes n) (λ e. ne (e ∙ sym (h.good.mine.here here).0)) c (others n ne) (h.good.others n ne);
     master = master;
+    joined = d.fresh ∙ h.good.joined;
     master_other = λ ne. (let k = h.good.master_other ne in record {
       entry = subst (λ (e : Entry). ((nodes m).entry ≡ Some e) ⊎ (((nodes m).entry ≡ None) × (e ≡ record { holder = m; least = (nodes m).floor; request = 0; value = [] }) × ((nodes m).copy ≡ None))) (sym c.entry) k.entry;
       queue = k.queue ∙ sym c.queue;
@@ -149,6 +119,7 @@ module _ (rules : Rules) (ps : List ℕ) (m me : ℕ) (nodes : ℕ → Node) (fr
       mine = NodeInv-quiet g me o.node h.good.mine;
       others = λ n ne. NodeInv-quiet g n (nodes n) (h.good.others n ne);
       master = λ e. (let k = h.good.master e in record { entry = k.entry; queue = k.queue; vacuum = refl });
+      joined = h.good.joined;
       master_other = λ ne. (let k = h.good.master_other ne in record { entry = k.entry; queue = k.queue; vacuum = k.vacuum ∙ calm ne });
     };
   }
@@ -162,7 +133,7 @@ module _ (rules : Rules) (ps : List ℕ) (m me : ℕ) (nodes : ℕ → Node) (fr
       let same = rank_of o.node.copy here in (
         _,
         send_holds m (Give (rsn_of o.node.copy) (value_of o.node.copy)) g (with_node (given o.node) o) (λ q s v is. absurd (cc))
-            (node_holds (given o.node) g o h (NodeInv-given g me o.node here unlocked untracked idle calm h.good.mine) (master_copy g o _ here h))
+            (node_holds (given o.node) g o refl h (NodeInv-given g me o.node here unlocked untracked idle calm h.good.mine) (master_copy g o _ here h))
             (λ p. record { below = omega arith; held = λ _ _. refl })
             (λ n ne p. absurd (ne (sym p))),
       ))
@@ -209,6 +180,7 @@ module _ (rules : Rules) (ps : List ℕ) (m me : ℕ) (nodes : ℕ → Node) (fr
         owner = h.good.mine.owner;
         unwished = λ a. absurd (cc);
         next = refl;
+        fresh = refl;
         recalls = refl;
         wishes = wishes;
         runs = λ u e. (let k : v ≡ u = cc in (rw (ap (λ (x : Revocation). x.rsn) (sym k)) (sym rank_is), calm));
@@ -245,6 +217,7 @@ module _ (rules : Rules) (ps : List ℕ) (m me : ℕ) (nodes : ℕ → Node) (fr
           mine = NodeInv-seeing g me o.node _ (rw (eq-eqb me me refl) (le_of_eq (sym whole))) h.good.mine;
           others = λ n ne. NodeInv-seeing g n (nodes n) _ (rw (ne_eqb n me ne) (h.good.others n ne).seen) (h.good.others n ne);
           master = h.good.master;
+          joined = h.good.joined;
           master_other = h.good.master_other;
         };
       }
@@ -262,6 +235,7 @@ module _ (rules : Rules) (ps : List ℕ) (m me : ℕ) (nodes : ℕ → Node) (fr
     owner = own2;
     unwished = unwished;
     next = refl;
+    fresh = refl;
     recalls = refl;
     wishes = λ w e. inl e;
     runs = λ v e. absurd (cc);
@@ -306,7 +280,7 @@ module _ (rules : Rules) (ps : List ℕ) (m me : ℕ) (nodes : ℕ → Node) (fr
       (let u = changed_me me (length (g.register.versions ++ (v ∷ []))) g.register.seen in let e = length-append g.register.versions (v ∷ []) in rw (le-leb g.top (rank (with_value v o.node.copy)) (omega arith)) (omega arith)) h.good.mine.unwished h.good.mine)
       (λ n ne. (let b = below_top g o here untracked idle h n ne in let f = h.good.others n ne in
       shift_register g _ _ n (nodes n) none (others n ne) (f.value ∙ sym (grown_below ps m g v (rank (nodes n).copy) h.good.all b))
-      (rw (ne_eqb n me ne, lt-leb g.top (rank (nodes n).copy) b) f.seen) f))
+      (rw (ne_eqb n me ne, lt-leb g.top (rank (nodes n).copy) b) f.seen) (rw (lt-leb g.top (rank (nodes n).copy) b) (omega arith)) f))
       (λ e. (let k = master_copy g o (with_value v o.node.copy) here h e in record { entry = k.entry; queue = k.queue; vacuum = k.vacuum })) (λ _. refl) accepts h
 
   -- the lock changes
@@ -323,9 +297,9 @@ module _ (rules : Rules) (ps : List ℕ) (m me : ℕ) (nodes : ℕ → Node) (fr
       let none : g.readers ≡ [] = (readers_idle g me o.node here idle h.good.mine).0 ∙ untracked in
       let g' = registers (record g.register { owner = owner; seen = seen }) g.place g in
       act_holds l g g' o (record o.node { locked = locked }) here h.good.all
-      (record { entry = refl; queue = refl; sent = refl; top = inr (refl, λ a. a); empty = λ a b c. c; joined = λ a b c. c })
+      (record { entry = refl; queue = refl; sent = refl; birth = refl; top = inr (refl, λ a. a); empty = λ a b c. c; joined = λ a b c. c })
       (own_register g g' o o.node.copy locked here untracked idle calm refl refl refl refl here refl holds.1 own1 own2 (omega arith) unwished h.good.mine)
-      (λ n ne. (let f = h.good.others n ne in let s = f.seen in let e = seens n ne in shift_register g _ g.place n (nodes n) none (others n ne) f.value (omega arith) f))
+      (λ n ne. (let f = h.good.others n ne in let s = f.seen in let e = seens n ne in shift_register g _ g.place n (nodes n) none (others n ne) f.value (omega arith) (omega arith) f))
       h.good.master (λ _. refl) accepts h
 
   applies_holds : (db : ℕ) (key : List ℕ) (f : ℕ) (arg : List ℕ) (g : Ghost) (o : Out) (x : Result (List ℕ) CallFault) → applied f (reading g.register.versions) arg rules ≡ x → is_here o.node.copy ≡ true → o.node.locked ≡ false → o.node.tracked ≡ [] → o.node.revoking ≡ None → g.vacuum ≡ None → Holds rules ps m me nodes frames r g o → Kept rules ps m me nodes frames r (applies me (op.Apply db key f arg) o x)
@@ -384,7 +358,7 @@ module _ (rules : Rules) (ps : List ℕ) (m me : ℕ) (nodes : ℕ → Node) (fr
       let k = h.good.mine.holds at.0 at.1 in (
         _,
         see_holds g (with_node (record o.node { wish = None }) o) k.0 (owner_me g o.node h.good here) w.op.real (reads_is_read w.op p.1) (value_of o.node.copy) k.1
-            (node_holds (record o.node { wish = None }) g o h (NodeInv-nowish g me o.node h.good.mine) h.good.master),
+            (node_holds (record o.node { wish = None }) g o refl h (NodeInv-nowish g me o.node h.good.mine) h.good.master),
       ))
       (λ _. (g, h))
 
@@ -433,6 +407,7 @@ module _ (rules : Rules) (ps : List ℕ) (m me : ℕ) (nodes : ℕ → Node) (fr
             owner = h.good.mine.owner;
             unwished = λ a. absurd (cc);
             next = refl;
+            fresh = refl;
             recalls = refl;
             wishes = λ w e. inl e;
             runs = λ v e. absurd (cc);
@@ -452,7 +427,7 @@ module _ (rules : Rules) (ps : List ℕ) (m me : ℕ) (nodes : ℕ → Node) (fr
       (λ t. revoke_holds o.node.wish g o t here unlocked idle calm (λ w e. inl e) h)
 
   pub recalls_holds : (l : List RecallNote) (g : Ghost) (o : Out) → ((s : RecallNote) → Waits s l → Recalled s g.frames) → Holds rules ps m me nodes frames r g o → Holds rules ps m me nodes frames r g (with_node (record o.node { recalls = l }) o)
-  recalls_holds l g o all h = node_holds (record o.node { recalls = l }) g o h (NodeInv-recalls g me o.node l all h.good.mine) h.good.master
+  recalls_holds l g o all h = node_holds (record o.node { recalls = l }) g o refl h (NodeInv-recalls g me o.node l all h.good.mine) h.good.master
 
   pub free_parts : (n : Node) → is_free n ≡ true → (is_here n.copy ≡ true) × (n.locked ≡ false) × (n.revoking ≡ None)
   unfolding is_free

@@ -1,5 +1,5 @@
 -- The rules of the other messages and events do the same to a node as the law sees it.
-use Rattle.std.proofs.Common.{◌≡◌, ◌≢◌, ℕ, ◌+◌, Bool, true, false, cond, Option, Some, None, List, [], ◌∷◌, refl, sym, ap, ◌∙◌, arith, not, ◌&&◌, ◌==◌}
+use Rattle.std.proofs.Common.{◌≡◌, ◌≢◌, ℕ, ◌+◌, Bool, true, false, cond, Option, Some, None, List, [], ◌∷◌, refl, sym, ap, ◌∙◌, arith, not, ◌&&◌, ◌==◌, nat_lt, nat_le, eqb-true}
 use Rattle.std.proofs.lemmas.Bool.{ne_eqb}
 use Rattle.std.specs.Prelude.{is_none, is_some, nat_eq}
 use Rattle.ct_msg.specs.declared.client.Answer.TheVariants as answer
@@ -20,17 +20,13 @@ use Rattle.ct_rules.specs.declared.state.Wish.{Wish}
 use Rattle.ct_law_record.specs.Labels.{Told, Vacuumed}
 use Rattle.ct_law_record.proofs.Rule
 use Rattle.ct_law_record.proofs.Rule.{Kind, Copy, Node, Frame, Body, Out}
-use Rattle.ct_deleg.specs.Tracked.{Tracked, untracked}
+use Rattle.ct_deleg.specs.Tracked.{Tracked, untracked, Revocation, others, awaiting, acked_by, is_last, is_none_left}
 use Rattle.ct_law_record.proofs.Likeness.{kind_at, copy_of, wish_of, body_of, out_of, FineAt, like_send, like_send_all, like_reply, like_finished, rsn_like, rank_like, value_like, mastered_like, with_value_like, risen_like, own_like, free_like, wished_like}
 use Rattle.ct_law_record.proofs.Alike.{none_is_not_some, if_like, like_give, like_satisfy, like_drained}
 use Rattle.ct_rules.specs.Frames
-use Rattle.std.proofs.Common.{nat_lt, nat_le, eqb-true}
-use Rattle.ct_deleg.specs.Tracked.{Revocation, others, awaiting, acked_by, is_last}
-use Rattle.ct_deleg.specs.Tracked.{is_none_left}
 use Rattle.ct_law_record.proofs.Likewise.{stale_like, read_like, even_own, unwished, fine_satisfy, like_end_revocation, like_next, like_keep}
 use Rattle.ct_rules.specs.Moves
-use Rattle.ct_vacuum.specs.Vacuum.{Vacuuming}
-use Rattle.ct_vacuum.specs.Vacuum.{is_last as is_last_vacuum, begun as vacuum_begun}
+use Rattle.ct_vacuum.specs.Vacuum.{Vacuuming, is_last as is_last_vacuum, begun as vacuum_begun}
 use Rattle.ct_vacuum.specs.declared.vacuum.VacuumPhase.{VacuumPhase}
 use Rattle.ct_vacuum.specs.declared.vacuum.VacuumPhase.TheVariants.{Storing, Deleting}
 

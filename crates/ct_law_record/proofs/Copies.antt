@@ -1,5 +1,5 @@
 -- A reader takes what was granted; VStore raises a copy and VDelete takes it away; the entry moves on; the node that it names becomes holder.
-use Rattle.std.proofs.Common.{◌≡◌, ◌≢◌, ◌⊎◌, ℕ, ◌+◌, ◌<◌, ◌≤◌, Bool, true, false, Option, Some, None, [], refl, sym, ap, ◌∙◌, inl, ⊎_elim, arith, subst, take, le_of_eq}
+use Rattle.std.proofs.Common.{ap, ◌≡◌, ◌≢◌, ◌⊎◌, ℕ, ◌+◌, ◌<◌, ◌≤◌, Bool, true, false, Option, Some, None, [], refl, sym, ◌∙◌, inl, ⊎_elim, arith, subst, take, le_of_eq}
 use Rattle.std.proofs.lemmas.List.{take_all}
 use Rattle.ct_law_record.proofs.Invariant.{Ghost, Ungranted, Past, Emptied, Joined, Says, VacuumAt, NodeInv, GlobalInv}
 use Rattle.ct_law_record.proofs.Nodes.{past_top, vacuum_top}
@@ -29,10 +29,10 @@ says_granted g n copy next now s v ne at met from to (VStored rsn) k = λ p. (le
 says_granted g n copy next now s v ne at met from to (VDeleted rsn) k = λ p. (let r = k p in let b = r.below in record { below = r.below; past = past_top (rsn + 2) _ (omega arith) })
 says_granted g n copy next now s v ne at met from to _ k = k
 
-pub NodeInv-granted : (ps : List ℕ) (m : ℕ) (g : Ghost) (n : ℕ) (node : Node) (rsn : ℕ) (value : List ℕ) → GlobalInv ps m g → n ≢ g.entry.holder → rsn + 1 ≡ g.top → is_here node.copy ≡ false → has_node n g.readers ≡ true → value ≡ reading g.register.versions →
+pub NodeInv-granted : (ps : List ℕ) (m : ℕ) (g : Ghost) (n : ℕ) (node : Node) (rsn : ℕ) (value : List ℕ) → node.fresh ≡ false → GlobalInv ps m g → n ≢ g.entry.holder → rsn + 1 ≡ g.top → is_here node.copy ≡ false → has_node n g.readers ≡ true → value ≡ reading g.register.versions →
     (Ungranted g.frames n node.wish → ⊥) → NodeInv g n node → NodeInv g n (granted rsn value node)
 unfolding rank is_here is_kind_here is_odd is_kind_odd value_of is_reading is_kind_reading
-NodeInv-granted ps m g n node rsn value all ne at away has new met h =
+NodeInv-granted ps m g n node rsn value joined all ne at away has new met h =
     let whole = whole_reading ps m g (rsn + 1) all (omega arith) in
     let seen : g.register.seen n ≤ g.place (rsn + 1) = (let s = h.seen in let a = all.within (rank node.copy) in let b = all.whole (rsn + 1) (omega arith) in omega arith) in
     let vac = λ (v : Vacuuming) (e : g.vacuum ≡ Some v). (let k = (all.vacuum v e).above in let y : VacuumAt v n (Some (record { rsn = rsn; kind = For_reading; value = value })) = vacuum_top v n _ (omega arith) in y) in
@@ -77,8 +77,8 @@ says_touched g n c d next now under t from to _ k = k
 pub lt_cases : (a b : ℕ) → (a < b) ⊎ (b ≤ a)
 lt_cases a b = grind arith
 
-pub NodeInv-touched : (g : Ghost) (n : ℕ) (node : Node) (d : Option Copy) → is_here node.copy ≡ false → Touch g node.copy d → NodeInv g n node → NodeInv g n (touched d node)
-NodeInv-touched g n node d away t h =
+pub NodeInv-touched : (g : Ghost) (n : ℕ) (node : Node) (d : Option Copy) → node.fresh ≡ false → is_here node.copy ≡ false → Touch g node.copy d → NodeInv g n node → NodeInv g n (touched d node)
+NodeInv-touched g n node d joined away t h =
     let under : n ≡ g.entry.holder → (rank node.copy ≤ g.entry.least) × (g.top ≤ g.entry.least) = λ e. ⊎_elim
     (λ (a : g.entry.least < rank node.copy). absurd (let k = (h.holds e a).0 in let l = t.low in omega arith))
     (λ (a : rank node.copy ≤ g.entry.least). (a, (h.passing e a).0))
@@ -107,6 +107,7 @@ NodeInv-touched g n node d away t h =
       other = λ a b c. absurd (omega arith);
       value = t.value;
       seen = omega arith;
+      unjoined = λ e. absurd (cc);
       vacuum = λ v e. touch_vacuum g node.copy d v n t (h.vacuum v e);
       asked = h.asked;
       waits = h.waits;
@@ -123,13 +124,13 @@ unfolding drop_copy rank is_here
 drop_is rsn l None = inl refl
 drop_is rsn l (Some c) = grind arith
 
-pub NodeInv-raised : (ps : List ℕ) (m : ℕ) (g : Ghost) (n rsn : ℕ) (node : Node) (l : Bool) → GlobalInv ps m g → rsn + 2 ≤ g.top → Emptied g.place g.register.versions (rsn + 1) → NodeInv g n node → NodeInv g n (touched (raise_copy rsn l node.copy) node)
+pub NodeInv-raised : (ps : List ℕ) (m : ℕ) (g : Ghost) (n rsn : ℕ) (node : Node) (l : Bool) → node.fresh ≡ false → GlobalInv ps m g → rsn + 2 ≤ g.top → Emptied g.place g.register.versions (rsn + 1) → NodeInv g n node → NodeInv g n (touched (raise_copy rsn l node.copy) node)
 unfolding rank is_here is_reading is_odd is_kind_odd is_kind_here is_kind_reading value_of Emptied
-NodeInv-raised ps m g n rsn node l all below empty h = ⊎_elim
+NodeInv-raised ps m g n rsn node l joined all below empty h = ⊎_elim
     (λ (e : raise_copy rsn l node.copy ≡ node.copy). subst (λ (d : Option Copy). NodeInv g n (touched d node)) (sym e) h)
     (λ (e : (1 ≤ rank node.copy) × (rank node.copy ≤ rsn) × (is_here node.copy ≡ false) × (raise_copy rsn l node.copy ≡ Some (record { rsn = rsn; kind = Stale; value = [] }))).
     subst (λ (d : Option Copy). NodeInv g n (touched d node)) (sym e.3)
-    (let low = e.1 in NodeInv-touched g n node (Some (record { rsn = rsn; kind = Stale; value = [] })) e.2 (record {
+    (let low = e.1 in NodeInv-touched g n node (Some (record { rsn = rsn; kind = Stale; value = [] })) joined e.2 (record {
       low = omega arith;
       now = omega arith;
       some = λ a. (e.0, omega arith);
@@ -141,13 +142,13 @@ NodeInv-raised ps m g n rsn node l all below empty h = ⊎_elim
     }) h))
     (raise_is rsn l node.copy)
 
-pub NodeInv-dropped : (ps : List ℕ) (m : ℕ) (g : Ghost) (n rsn : ℕ) (node : Node) (l : Bool) → GlobalInv ps m g → rsn + 2 ≤ g.top → Joined g.place (rsn + 1) → NodeInv g n node → NodeInv g n (touched (drop_copy rsn l node.copy) node)
+pub NodeInv-dropped : (ps : List ℕ) (m : ℕ) (g : Ghost) (n rsn : ℕ) (node : Node) (l : Bool) → node.fresh ≡ false → GlobalInv ps m g → rsn + 2 ≤ g.top → Joined g.place (rsn + 1) → NodeInv g n node → NodeInv g n (touched (drop_copy rsn l node.copy) node)
 unfolding rank is_here is_reading is_odd is_kind_odd is_kind_here is_kind_reading value_of Emptied Joined
-NodeInv-dropped ps m g n rsn node l all below joined h = ⊎_elim
+NodeInv-dropped ps m g n rsn node l started all below joined h = ⊎_elim
     (λ (e : drop_copy rsn l node.copy ≡ node.copy). subst (λ (d : Option Copy). NodeInv g n (touched d node)) (sym e) h)
     (λ (e : (1 ≤ rank node.copy) × (rank node.copy ≤ rsn + 1) × (is_here node.copy ≡ false) × (drop_copy rsn l node.copy ≡ None)).
     subst (λ (d : Option Copy). NodeInv g n (touched d node)) (sym e.3)
-    (let low = e.1 in NodeInv-touched g n node None e.2 (record {
+    (let low = e.1 in NodeInv-touched g n node None started e.2 (record {
       low = omega arith;
       now = omega arith;
       some = λ a. absurd (omega arith);

@@ -1,6 +1,6 @@
 -- Each event at a node keeps the invariant.
-use Rattle.std.proofs.Common.{◌≡◌, ◌≢◌, ℕ, Bool, true, false, Option, Some, None, List, refl, sym, ap, ◌∙◌, arith, ◌&&◌, ◌||◌}
-use Rattle.std.proofs.lemmas.Bool.{cond_both}
+use Rattle.std.proofs.Common.{◌≡◌, ◌≢◌, ℕ, Bool, true, false, Option, Some, None, List, refl, sym, ap, ◌∙◌, arith, ◌&&◌, ◌||◌, eqb-true, ◌≤◌, subst, eq-eqb}
+use Rattle.std.proofs.lemmas.Bool.{cond_both, false_from_ne_true}
 use Rattle.std.specs.Prelude.{is_none, is_some, nat_eq}
 use Rattle.ct_msg.specs.declared.client.ClientOp.{ClientOp}
 use Rattle.ct_msg.specs.declared.client.ClientOp.TheVariants as op
@@ -14,17 +14,14 @@ use Rattle.ct_rules.specs.Parts.{Moving}
 use Rattle.ct_rules.specs.declared.event.Place.{Place}
 use Rattle.ct_rules.specs.declared.state.RecState.{RecState}
 use Rattle.ct_rules.specs.declared.state.Wish.{Wish}
-use Rattle.ct_law_record.specs.World.{sent}
+use Rattle.ct_law_record.specs.World.{sent, own_call, waiting_call, may_want}
 use Rattle.ct_law_record.proofs.Rule
 use Rattle.ct_law_record.proofs.Rule.{Kind, Copy, Node, Frame, Body, Out}
 use Rattle.ct_law_record.proofs.Likeness.{wish_of, body_of, out_of, mastered_like}
 use Rattle.ct_rules.specs.Frames
-use Rattle.std.proofs.Common.{eqb-true}
 use Rattle.ct_law_record.proofs.Likewise.{like_called, like_recalled, like_want}
 use Rattle.ct_rules.specs.Moves
 use Rattle.ct_rules_node.specs.Rounds
-use Rattle.std.proofs.Common.{◌≤◌, subst, eq-eqb}
-use Rattle.std.proofs.lemmas.Bool.{false_from_ne_true}
 use Rattle.ct_register.specs.Register.{Register}
 use Rattle.ct_law_record.proofs.Coming.{greater_like, like_on_give_of, like_on_pass, like_on_refuse_of, like_on_grant, like_on_done_of, like_on_revoke_of, like_on_revokeack, like_on_vstore, like_on_vdelete, like_on_vstored_of, like_on_vdeleted_of, like_vacuum, like_store, like_release, like_unlock, like_call_again, like_revoke_again}
 use Rattle.ct_law_record.proofs.Invariant.{Recalled, Sent, Ghost, Says, NodeInv, Holds, Kept}
@@ -34,7 +31,6 @@ use Rattle.ct_law_record.proofs.Receive.{on_call_holds, on_recall_holds, on_give
 use Rattle.ct_law_record.proofs.Nodes.{NodeInv-nowish}
 use Rattle.ct_law_record.proofs.Floor.{raise_floor_holds}
 use Rattle.ct_law_record.proofs.Vacuuming.{Apart, on_vstore_holds, on_vstored_holds, on_vdelete_holds, on_vdeleted_holds, vacuum_event_holds}
-use Rattle.ct_law_record.specs.World.{own_call, waiting_call, may_want}
 
 pub none_none : {X : Type 0} → (x : Option X) → is_none x ≡ true → x ≡ None
 none_none None h = refl
@@ -157,12 +153,12 @@ module _ (at : Place) (asks : ℕ → Option ClientOp) (ne : at.me ≢ nobody) (
   unfolding Rounds.want_again_of Parts.keeps Rule.with_node wish_of
   thaws_holds g o None is waits h = (g, h)
   thaws_holds g o (Some w) is waits h = wants_holds w.call w.op g (Parts.keeps (record o.state { wish = None }) o) (waits w is) refl (λ _. false_from_ne_true _ (λ t. wish_some at.readonly o.state.wish w is (h.good.mine.unwished t)))
-      (node_holds rules ps at.lmaster at.me nodes frames r (record (out_of at asks o).node { wish = None }) g (out_of at asks o) h (NodeInv-nowish g at.me (out_of at asks o).node h.good.mine) h.good.master)
+      (node_holds rules ps at.lmaster at.me nodes frames r (record (out_of at asks o).node { wish = None }) g (out_of at asks o) refl h (NodeInv-nowish g at.me (out_of at asks o).node h.good.mine) h.good.master)
 
   -- other records raise the numbers
   pub rises_holds : (next floor : ℕ) (g : Ghost) (o : Moving) → Stands g o → Goes (record o { next = Frames.greater o.next next; floor = Frames.greater o.floor floor })
   unfolding Rule.raise_floor Rule.with_node
   rises_holds next floor g o h =
       let node : Node = record (out_of at asks o).node { next = Frames.greater o.next next } in
-      let k = node_holds rules ps at.lmaster at.me nodes frames r node g (out_of at asks o) h (NodeInv-drawn g at.me (out_of at asks o).node (Frames.greater o.next next) (greater_up o.next next) h.good.mine) h.good.master in
+      let k = node_holds rules ps at.lmaster at.me nodes frames r node g (out_of at asks o) refl h (NodeInv-drawn g at.me (out_of at asks o).node (Frames.greater o.next next) (greater_up o.next next) h.good.mine) h.good.master in
       goes (record o { next = Frames.greater o.next next; floor = Frames.greater o.floor floor }) _ (λ i. record (out_of at asks o) { node = record node { floor = greater_like o.floor floor i } }) (raise_floor_holds rules ps at.lmaster at.me nodes frames r floor g (Rule.with_node node (out_of at asks o)) k)

@@ -1,5 +1,5 @@
 -- FINISH: the versions, the copies and the entry are gone, and the floor is above all that was.
-use Rattle.std.proofs.Common.{◌≡◌, ◌≢◌, ℕ, ◌+◌, ◌<◌, ◌≤◌, true, false, Option, Some, None, List, [], take, refl, sym, ◌∙◌, inr, arith, subst}
+use Rattle.std.proofs.Common.{length, ap, ◌≡◌, ◌≢◌, ℕ, ◌+◌, ◌<◌, ◌≤◌, true, false, Option, Some, None, List, [], take, refl, sym, ◌∙◌, inr, arith, subst}
 use Rattle.std.proofs.lemmas.Bool.{false_from_ne_true}
 use Rattle.ct_law_record.proofs.Invariant.{Ghost, Emptied, Joined, Says, Facts, NodeInv, Holds, Kept, default_entry}
 use Rattle.ct_law_record.proofs.Nodes.{past_none}
@@ -36,11 +36,14 @@ says_finished m floor g n copy next now up top none idle unmet from to (VDelete 
 says_finished m floor g n copy next now up top none idle unmet from to (VDeleted rsn) k = λ p. (let r = k p in record { below = r.below; past = past_none (rsn + 2) None refl })
 says_finished m floor g n copy next now up top none idle unmet from to _ k = k
 
-pub NodeInv-finished : (m floor : ℕ) (g : Ghost) (n : ℕ) (node : Node) → g.entry.least < floor → g.top ≤ floor → g.readers ≡ [] → g.revoking ≡ false → g.register.owner ≡ None → node.locked ≡ false → node.revoking ≡ None → node.tracked ≡ [] →
+few_or : (n : ℕ) → (1 ≤ n → ⊥) → n ≤ 0
+few_or n h = grind arith
+
+pub NodeInv-finished : (m floor : ℕ) (g : Ghost) (n : ℕ) (node : Node) → g.entry.least < floor → g.top ≤ floor → g.readers ≡ [] → g.revoking ≡ false → g.register.owner ≡ None → node.locked ≡ false → node.revoking ≡ None → node.tracked ≡ [] → (node.fresh ≡ true → rank node.copy ≡ 0) →
     ((w : Wish) → node.wish ≡ Some w → reads_op w.op ≡ false → n ≡ g.entry.holder → w.request ≢ 0 → w.request ≢ g.entry.request) →
-    NodeInv g n node → Facts (finished m floor g) n None node.wish node.next node.locked node.recalls node.tracked node.revoking
+    NodeInv g n node → Facts (finished m floor g) n None node.wish node.next node.locked node.recalls node.tracked node.revoking node.fresh
 unfolding rank is_here is_odd is_reading value_of
-NodeInv-finished m floor g n node up top none idle unowned unlocked unrevoked untracked unmet h = record {
+NodeInv-finished m floor g n node up top none idle unowned unlocked unrevoked untracked new unmet h = record {
   under = omega arith;
   even = refl;
   here = λ a. absurd (cc);
@@ -62,6 +65,7 @@ NodeInv-finished m floor g n node up top none idle unowned unlocked unrevoked un
   other = λ _ a. absurd (omega arith);
   value = sym empty_reading;
   seen = omega arith;
+  unjoined = λ e. (let k = (h.unjoined e).1 in let z = new e in let few : length g.register.birth ≤ 0 = few_or (length g.register.birth) (λ a. (let y = k a in omega arith)) in (omega arith, λ a. absurd (omega arith)));
   vacuum = λ v e. absurd (cc);
   asked = h.asked;
   waits = h.waits;
@@ -71,6 +75,10 @@ NodeInv-finished m floor g n node up top none idle unowned unlocked unrevoked un
 greater_right : (a b : ℕ) → b ≤ greater a b
 unfolding greater
 greater_right a b = grind arith
+
+absent_rank : (c : Option Copy) → c ≡ None → rank c ≡ 0
+unfolding rank
+absent_rank c e = ap rank e
 
 absent_here : (c : Option Copy) → c ≡ None → is_here c ≡ true → ⊥
 unfolding is_here
@@ -105,12 +113,13 @@ module _ (rules : Rules) (ps : List ℕ) (m me : ℕ) (nodes : ℕ → Node) (fr
           told = accepts_one_more rules r g.register _ o.labels (Vacuumed me) h.told (unowned, sym holds.1 ∙ value, refl);
           good = record {
             all = record { rises = λ a b l. omega arith; whole = λ a l. refl; within = λ a. omega arith; absent = empty_reading; vacuum = λ v e. absurd (cc) };
-            mine = NodeInv-finished m floor g me o.node (omega arith) (omega arith) none readers.1 unowned unlocked idle untracked
+            mine = NodeInv-finished m floor g me o.node (omega arith) (omega arith) none readers.1 unowned unlocked idle untracked (λ e. absurd (let j = h.good.joined in cc))
                 (λ w e l a nz same. (let k = h.good.mine.own w e a nz same l in omega arith)) h.good.mine;
             others = λ n ne. (let f = h.good.others n ne in let s = still g n (nodes n) (gone n ne) f in
-                subst (λ (c : Option Copy). Facts (finished m floor g) n c (nodes n).wish (nodes n).next (nodes n).locked (nodes n).recalls (nodes n).tracked (nodes n).revoking) (sym (gone n ne))
-                (NodeInv-finished m floor g n (nodes n) (omega arith) (omega arith) none readers.1 unowned s.0 s.1 s.2 (λ w e l a. absurd (ne (a ∙ sym is.0))) f));
+                subst (λ (c : Option Copy). Facts (finished m floor g) n c (nodes n).wish (nodes n).next (nodes n).locked (nodes n).recalls (nodes n).tracked (nodes n).revoking (nodes n).fresh) (sym (gone n ne))
+                (NodeInv-finished m floor g n (nodes n) (omega arith) (omega arith) none readers.1 unowned s.0 s.1 s.2 (λ _. absent_rank (nodes n).copy (gone n ne)) (λ w e l a. absurd (ne (a ∙ sym is.0))) f));
             master = λ e. record { entry = inr (refl, refl, refl); queue = (h.good.master e).queue; vacuum = refl };
+            joined = h.good.joined;
             master_other = λ ne. absurd (ne at);
           };
         },

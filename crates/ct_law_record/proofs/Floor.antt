@@ -49,6 +49,7 @@ module _ (rules : Rules) (ps : List ℕ) (m me : ℕ) (nodes : ℕ → Node) (fr
             others = λ n ne. (let f = h.good.others n ne in let u = f.under in
                 NodeInv-moved g e n (nodes n) (omega arith) (omega arith) (omega arith) (false_from_ne_true _ (λ t. ne ((f.here t).0 ∙ sym mine))) none.0 none.1 none.2 (λ w z l a nz same. nz (same ∙ request)) (sym value ∙ pass.1) (λ a nz. absurd (nz refl)) f);
             master = λ z. (let k = h.good.master z in record { entry = inr (shut, refl, absent); queue = k.queue; vacuum = k.vacuum });
+            joined = h.good.joined;
             master_other = λ ne. absurd (ne at);
           };
         },
@@ -58,14 +59,14 @@ module _ (rules : Rules) (ps : List ℕ) (m me : ℕ) (nodes : ℕ → Node) (fr
   unfolding Rule.raise_floor
   raise_floor_holds low g o h = ⊎_elim
       (λ (at : me ≡ m). (let k = h.good.master at in ⊎_elim
-      (λ (e : o.node.entry ≡ Some g.entry). (let y : Kept rules ps m me nodes frames r (with_node (record o.node { floor = floor }) o) = (g, node_holds rules ps m me nodes frames r (record o.node { floor = floor }) g o h h.good.mine (λ _. record { entry = inl e; queue = k.queue; vacuum = k.vacuum })) in y))
+      (λ (e : o.node.entry ≡ Some g.entry). (let y : Kept rules ps m me nodes frames r (with_node (record o.node { floor = floor }) o) = (g, node_holds rules ps m me nodes frames r (record o.node { floor = floor }) g o refl h h.good.mine (λ _. record { entry = inl e; queue = k.queue; vacuum = k.vacuum })) in y))
       (λ (p : (o.node.entry ≡ None) × (g.entry ≡ default_entry m o.node.floor) × (o.node.copy ≡ None)). ⊎_elim
       (λ (e : floor ≡ o.node.floor). (let y : Kept rules ps m me nodes frames r (with_node (record o.node { floor = floor }) o) =
-      (g, node_holds rules ps m me nodes frames r (record o.node { floor = floor }) g o h h.good.mine (λ _. record { entry = inr (p.0, p.1 ∙ ap (default_entry m) (sym e), p.2); queue = k.queue; vacuum = k.vacuum })) in y))
+      (g, node_holds rules ps m me nodes frames r (record o.node { floor = floor }) g o refl h h.good.mine (λ _. record { entry = inr (p.0, p.1 ∙ ap (default_entry m) (sym e), p.2); queue = k.queue; vacuum = k.vacuum })) in y))
       (λ (ne : floor ≢ o.node.floor). (let u = greater_left o.node.floor low in rise_holds floor g o at p.0 p.1 p.2 (omega arith) h))
       (cases_eq floor o.node.floor))
       k.entry))
-      (λ (ne : me ≢ m). (g, node_holds rules ps m me nodes frames r (record o.node { floor = floor }) g o h h.good.mine (λ at. absurd (ne at))))
+      (λ (ne : me ≢ m). (g, node_holds rules ps m me nodes frames r (record o.node { floor = floor }) g o refl h h.good.mine (λ at. absurd (ne at))))
       (cases_eq me m)
     where
       floor : ℕ

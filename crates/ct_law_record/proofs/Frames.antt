@@ -5,7 +5,8 @@ use Rattle.ct_law_record.proofs.Invariant.{Asked, readers_of, is_revoking, Ghost
 use Rattle.ct_law_record.proofs.Nodes.{NodeInv-called, called}
 use Rattle.ct_law_record.proofs.Holder.{NodeInv-shift, NodeInv-holding, held, holding}
 use Rattle.ct_law_record.proofs.Parts.{idle_none, nil_none, tracks, change_tracks, global_tracks, granted_to, granted_end, shift_to, nobody_has}
-use Rattle.ct_law_record.proofs.Acts.{reads_is_read, send_holds, node_holds, own_holds, Others, owner_me, see_holds, satisfy_holds, revoke_holds}
+use Rattle.ct_law_record.proofs.Acts.{send_holds, node_holds, own_holds, Others, owner_me, see_holds, satisfy_holds, revoke_holds}
+use Rattle.ct_law_record.proofs.Small.{reads_is_read}
 use Rattle.ct_law_record.proofs.Revoking.{owned_none}
 use Rattle.std.specs.Prelude.{List}
 use Rattle.ct_msg.specs.declared.client.Answer.TheVariants as answer
@@ -25,7 +26,7 @@ module _ (rules : Rules) (ps : List ℕ) (m me : ℕ) (nodes : ℕ → Node) (fr
   call_holds op g o away h = (
     _,
     send_holds rules ps m me nodes frames r m (Call o.node.next (kind_of op.readonly op.real)) g (with_node (called op o.node) o) (λ q s v is. absurd (cc))
-        (node_holds rules ps m me nodes frames r (called op o.node) g o h (NodeInv-called g me o.node op (false_from_ne_true _ (λ t. (let z = (h.good.mine.locked t).0 in cc))) h.good.mine) h.good.master)
+        (node_holds rules ps m me nodes frames r (called op o.node) g o refl h (NodeInv-called g me o.node op (false_from_ne_true _ (λ t. (let z = (h.good.mine.locked t).0 in cc))) h.good.mine) h.good.master)
         (λ _. (omega arith, (let n = h.good.mine.next in omega arith)))
         (λ n ne e. absurd (ne (sym e))),
   )
@@ -52,6 +53,7 @@ module _ (rules : Rules) (ps : List ℕ) (m me : ℕ) (nodes : ℕ → Node) (fr
               owner = h.good.mine.owner;
               unwished = λ a. absurd (cc);
               next = refl;
+              fresh = refl;
               recalls = refl;
               wishes = λ w e. (let k : record { request = 0; op = op } ≡ w = cc in inr (ap (λ (x : Wish). x.request) (sym k), ap (λ (x : Wish). reads_op x.op) (sym k) ∙ writes));
               runs = λ v e. (let k = h.good.mine.runs v e in (k.1, k.2));
@@ -123,9 +125,9 @@ module _ (rules : Rules) (ps : List ℕ) (m me : ℕ) (nodes : ℕ → Node) (fr
         told = h.told;
         good = record {
           all = (let k = h.good.all in record { rises = k.rises; whole = λ a l. k.whole a (omega arith); within = k.within; absent = k.absent; vacuum = λ v e. absurd (let z = none.2 in cc) });
-          mine = NodeInv-holding ps m g me o.node wish h.good.all is small wishes unasked h.good.mine;
+          mine = NodeInv-holding ps m g me o.node wish h.good.joined h.good.all is small wishes unasked h.good.mine;
           others = λ n ne. NodeInv-shift g (held g) n (nodes n) (λ e. ne (e ∙ sym is))
-              (record { entry = refl; queue = refl; sent = refl; top = inl (omega arith); empty = λ a b c. c; joined = λ a b c. c })
+              (record { entry = refl; queue = refl; sent = refl; birth = refl; top = inl (omega arith); empty = λ a b c. c; joined = λ a b c. c })
               (let f = h.good.others n ne in record {
                 owner = λ a. a;
                 reader = λ _ a. absurd (nobody_has n g.readers none.0 a);
@@ -133,9 +135,11 @@ module _ (rules : Rules) (ps : List ℕ) (m me : ℕ) (nodes : ℕ → Node) (fr
                 other = λ e _. absurd (let l : g.top ≡ g.entry.least + 1 = e in omega arith);
                 value = f.value;
                 seen = f.seen;
+                kept = omega arith;
                 vacuum = f.vacuum;
               }) (h.good.others n ne);
           master = λ e. (let k = h.good.master e in record { entry = inl (entry e); queue = k.queue; vacuum = k.vacuum });
+          joined = h.good.joined;
           master_other = h.good.master_other;
         };
       }

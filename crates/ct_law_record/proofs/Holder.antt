@@ -1,5 +1,5 @@
 -- The node that the entry names becomes holder; and what the holder changes: for the other nodes, and for itself.
-use Rattle.std.proofs.Common.{◌≡◌, ◌≢◌, ◌⊎◌, ℕ, ◌+◌, ◌<◌, ◌≤◌, true, false, ◌||◌, Option, Some, None, [], refl, sym, ap, ◌∙◌, ⊎_elim, arith, subst, take}
+use Rattle.std.proofs.Common.{length, ap, ◌≡◌, ◌≢◌, ◌⊎◌, ℕ, ◌+◌, ◌<◌, ◌≤◌, true, false, ◌||◌, Option, Some, None, [], refl, sym, ◌∙◌, ⊎_elim, arith, subst, take}
 use Rattle.std.proofs.lemmas.Bool.{false_from_ne_true}
 use Rattle.ct_law_record.proofs.Invariant.{Sent, Asked, Waits, Recalled, readers_of, is_revoking, Ghost, PassAt, GiveAt, RefuseAt, Ungranted, Emptied, Joined, VacuumAt, Says, NodeInv, GlobalInv}
 use Rattle.ct_law_record.proofs.Nodes.{kind_eq, past_more, past_top, vacuum_top}
@@ -47,12 +47,12 @@ says_holding g n copy next now wish is small up none wishes unasked from to (VSt
 says_holding g n copy next now wish is small up none wishes unasked from to (VDelete rsn) k = record { below = (let b = k.below in omega arith); joined = k.joined }
 says_holding g n copy next now wish is small up none wishes unasked from to (VDeleted rsn) k = λ p. (let r = k p in let b = r.below in record { below = omega arith; past = past_top (rsn + 2) _ (omega arith) })
 
-pub NodeInv-holding : (ps : List ℕ) (m : ℕ) (g : Ghost) (n : ℕ) (node : Node) (wish : Option Wish) → GlobalInv ps m g → n ≡ g.entry.holder → rank node.copy ≤ g.entry.least →
+pub NodeInv-holding : (ps : List ℕ) (m : ℕ) (g : Ghost) (n : ℕ) (node : Node) (wish : Option Wish) → node.fresh ≡ false → GlobalInv ps m g → n ≡ g.entry.holder → rank node.copy ≤ g.entry.least →
     ((w : Wish) → wish ≡ Some w → (node.wish ≡ Some w) × (w.request ≡ g.entry.request → w.request ≢ 0 → reads_op w.op ≡ false → ⊥)) →
     ((q rsn : ℕ) → RefuseAt g.entry n node.next node.wish (rank node.copy) q rsn → g.entry.request ≢ q) →
     NodeInv g n node → NodeInv (held g) n (holding g.entry wish node)
 unfolding rank is_here is_kind_here is_odd is_kind_odd value_of is_reading is_kind_reading readers_of is_revoking
-NodeInv-holding ps m g n node wish all is small wishes unasked h =
+NodeInv-holding ps m g n node wish joined all is small wishes unasked h =
     let away : is_here node.copy ≡ false = false_from_ne_true _ (λ t. (let up = (h.here t).1 in omega arith)) in
     let none = h.nobody is away in
     let pass = h.passing is small in
@@ -79,6 +79,7 @@ NodeInv-holding ps m g n node wish all is small wishes unasked h =
       other = λ ne. absurd (ne is);
       value = pass.1 ∙ whole_reading ps m g (g.entry.least + 1) all (omega arith);
       seen = (let s = h.seen in let b = all.within (rank node.copy) in let w = all.whole (g.entry.least + 1) (omega arith) in omega arith);
+      unjoined = λ e. absurd (cc);
       vacuum = λ v e. absurd (let k = none.2 in cc);
       asked = h.asked;
       waits = h.waits;
@@ -90,6 +91,7 @@ pub record Change (g g' : Ghost) : Type 0 where
   pub entry : g'.entry ≡ g.entry
   pub queue : g'.queue ≡ g.queue
   pub sent : g'.frames ≡ g.frames
+  pub birth : length g'.register.birth ≡ length g.register.birth
   pub top : (g.top < g'.top) ⊎ ((g.top ≡ g'.top) × (g.revoking ≡ true → g'.revoking ≡ true))
   pub empty : (a : ℕ) → a < g.top → Emptied g.place g.register.versions a → Emptied g'.place g'.register.versions a
   pub joined : (a : ℕ) → a < g.top → Joined g.place a → Joined g'.place a
@@ -109,6 +111,7 @@ pub record Shift (g g' : Ghost) (k : ℕ) (copy : Option Copy) (wish : Option Wi
   pub other : g.top ≡ g'.top → (has_node k g.readers || g.revoking) ≡ true → (has_node k g'.readers || g'.revoking) ≡ true
   pub value : value_of copy ≡ reading (take (g'.place (rank copy)) g'.register.versions)
   pub seen : g'.register.seen k ≤ g'.place (rank copy)
+  pub kept : g.place (rank copy) ≤ g'.place (rank copy)
   pub vacuum : (v : Vacuuming) → g'.vacuum ≡ Some v → VacuumAt v k copy
 
 -- what an old revocation says
@@ -170,6 +173,7 @@ NodeInv-shift g g' k node ne c d h = record {
   other = λ _ l e. (let least = ap (λ (x : Entry). x.least) c.entry in let u = h.under in let t = top_up g g' c in let same : g.top ≡ g'.top = omega arith in d.other same (h.other ne (omega arith) (omega arith)));
   value = d.value;
   seen = d.seen;
+  unjoined = λ e. (let k = h.unjoined e in let b = c.birth in let u = d.kept in let x = k.0 in (omega arith, λ a. k.1 (omega arith)));
   vacuum = d.vacuum;
   asked = λ a s. h.asked a (subst (λ q. Asked a q) c.queue s);
   waits = λ r s. subst (λ fs. Recalled r fs) (sym c.sent) (h.waits r s);
@@ -232,6 +236,7 @@ pub record Own (g g' : Ghost) (n : ℕ) (node node' : Node) : Type 0 where
   pub owner : g'.register.owner ≡ Some n → node'.locked ≡ true
   pub unwished : node'.locked ≡ true → node'.wish ≡ None
   pub next : node'.next ≡ node.next
+  pub fresh : node'.fresh ≡ node.fresh
   pub recalls : node'.recalls ≡ node.recalls
   pub wishes : Wishes node node'
   pub runs : (v : Revocation) → node'.revoking ≡ Some v → (v.rsn + 1 ≡ rank node'.copy) × (g'.vacuum ≡ None)
@@ -241,8 +246,8 @@ pub record Own (g g' : Ghost) (n : ℕ) (node node' : Node) : Type 0 where
   pub granted : Granted g g' n node.wish
   pub seen : g'.register.seen n ≤ g'.place (rank node'.copy)
 
-pub NodeInv-own : (ps : List ℕ) (m : ℕ) (g g' : Ghost) (n : ℕ) (node node' : Node) → GlobalInv ps m g' → is_here node.copy ≡ true → Change g g' → Own g g' n node node' → NodeInv g n node → NodeInv g' n node'
-NodeInv-own ps m g g' n node node' all here c d h =
+pub NodeInv-own : (ps : List ℕ) (m : ℕ) (g g' : Ghost) (n : ℕ) (node node' : Node) → node.fresh ≡ false → GlobalInv ps m g' → is_here node.copy ≡ true → Change g g' → Own g g' n node node' → NodeInv g n node → NodeInv g' n node'
+NodeInv-own ps m g g' n node node' joined all here c d h =
     let at = h.here here in
     let least = ap (λ (x : Entry). x.least) c.entry in
     let holder = ap (λ (x : Entry). x.holder) c.entry in
@@ -276,6 +281,7 @@ NodeInv-own ps m g g' n node node' all here c d h =
       other = λ ne. absurd (ne (at.0 ∙ sym holder));
       value = d.value ∙ whole_reading ps m g' (rank node'.copy) all (omega arith);
       seen = d.seen;
+      unjoined = λ e. absurd (let z = d.fresh in cc);
       vacuum = λ v e. (let k = (all.vacuum v e).above in vacuum_top v n node'.copy (omega arith));
       asked = λ a s e. (let k = h.asked a (subst (λ q. Asked a q) c.queue s) e in (rw d.next k.0, k.1));
       waits = λ r s. subst (λ fs. Recalled r fs) (sym c.sent) (h.waits r (subst (λ l. Waits r l) d.recalls s));

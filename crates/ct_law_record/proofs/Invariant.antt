@@ -1,5 +1,5 @@
 -- What holds of every world, said node by node, over a ghost that all nodes are compared with.
-use Rattle.std.proofs.Common.{◌≡◌, ◌≢◌, ◌⊎◌, ℕ, ◌+◌, ◌<◌, ◌≤◌, Bool, true, false, ◌||◌, Option, Some, None, List, [], ◌∷◌, ◌++◌, length, take}
+use Rattle.std.proofs.Common.{length, ◌≡◌, ◌≢◌, ◌⊎◌, ℕ, ◌+◌, ◌<◌, ◌≤◌, Bool, true, false, ◌||◌, Option, Some, None, List, [], ◌∷◌, ◌++◌, take}
 use Rattle.ct_call.specs.Rules.{Rules}
 use Rattle.ct_deleg.specs.Tracked.{Revocation}
 use Rattle.ct_vacuum.specs.Vacuum.{Vacuuming}
@@ -143,7 +143,7 @@ pub record VacuumAt (v : Vacuuming) (n : ℕ) (copy : Option Copy) : Type 0 wher
   pub deleted : is_storing v.phase ≡ false → has_node n v.missing ≡ false → Past (v.rsn + 2) copy
 
 -- what holds of one node
-pub record Facts (g : Ghost) (n : ℕ) (copy : Option Copy) (now : Option Wish) (number : ℕ) (lock : Bool) (recalls_now : List RecallNote) (tracked : List ℕ) (revoking : Option Revocation) : Type 0 where
+pub record Facts (g : Ghost) (n : ℕ) (copy : Option Copy) (now : Option Wish) (number : ℕ) (lock : Bool) (recalls_now : List RecallNote) (tracked : List ℕ) (revoking : Option Revocation) (fresh : Bool) : Type 0 where
   pub under : rank copy ≤ g.top
   pub even : is_odd copy ≡ false
   pub here : is_here copy ≡ true → (n ≡ g.entry.holder) × (g.entry.least < rank copy)
@@ -168,13 +168,15 @@ pub record Facts (g : Ghost) (n : ℕ) (copy : Option Copy) (now : Option Wish) 
   -- the copy stands for its place; an absent one too
   pub value : value_of copy ≡ reading (take (g.place (rank copy)) g.register.versions)
   pub seen : g.register.seen n ≤ g.place (rank copy)
+  -- a node that has not joined has done nothing yet: its copy stands for all that the generation began with
+  pub unjoined : fresh ≡ true → (length g.register.birth ≤ g.place (rank copy)) × (1 ≤ length g.register.birth → 1 ≤ rank copy)
   pub vacuum : (v : Vacuuming) → g.vacuum ≡ Some v → VacuumAt v n copy
   pub asked : (a : Waiter) → Asked a g.queue → a.node ≡ n → (a.request < number) × (a.request ≢ 0)
   pub waits : (r : RecallNote) → Waits r recalls_now → Recalled r g.frames
   pub frames : (f : Frame) → Sent f g.frames → Says g n copy number now f.from f.to f.body
 
 abbrev pub NodeInv : Ghost → ℕ → Node → Type 0
-NodeInv g n node = Facts g n node.copy node.wish node.next node.locked node.recalls node.tracked node.revoking
+NodeInv g n node = Facts g n node.copy node.wish node.next node.locked node.recalls node.tracked node.revoking node.fresh
 
 -- the entry that OPEN makes
 abbrev pub default_entry : ℕ → ℕ → Entry
@@ -216,6 +218,7 @@ GlobalInv ps m g = Global ps m g.entry.holder g.top g.register.versions g.place 
 -- a node is in the middle of a step, the others as they were
 pub record Good (ps : List ℕ) (m me : ℕ) (nodes : ℕ → Node) (g : Ghost) (node : Node) : Type 0 where
   pub all : GlobalInv ps m g
+  pub joined : node.fresh ≡ false
   pub mine : NodeInv g me node
   pub others : (n : ℕ) → n ≢ me → NodeInv g n (nodes n)
   pub master : me ≡ m → MasterInv m g node

@@ -4,6 +4,7 @@ pub mod Nodes
 pub mod Copies
 pub mod Holder
 pub mod Parts
+pub mod Small
 pub mod Acts
 pub mod Revoking
 pub mod Frames
@@ -16,6 +17,7 @@ pub mod Alike
 pub mod Likewise
 pub mod Coming
 pub mod Events
+pub mod Leaving
 pub mod Worlds
 pub mod Law
 pub mod Births

@@ -50,6 +50,7 @@ node_of me readonly s next floor = record {
   revoking = s.tracking.revoking;
   vacuum = s.vacuum;
   floor = floor;
+  fresh = false;
 }
 
 unfoldable pub body_of : Msg → Body

@@ -1,5 +1,5 @@
 -- The rules of Want and of each message do the same to a node as the law sees it.
-use Rattle.std.proofs.Common.{◌≡◌, ◌≢◌, ℕ, true, false, Option, Some, None, List, [], ◌∷◌, refl, sym, ap, ◌∙◌, arith, ◌&&◌, ◌||◌, ◌==◌}
+use Rattle.std.proofs.Common.{◌≡◌, ◌≢◌, ℕ, true, false, Option, Some, None, List, [], ◌∷◌, refl, sym, ap, ◌∙◌, arith, ◌&&◌, ◌||◌, ◌==◌, nat_lt, eqb-true}
 use Rattle.std.proofs.lemmas.Bool.{cond_both, and_parts, ne_eqb}
 use Rattle.std.specs.Prelude.{is_none, nat_eq, Result, Ok, Err}
 use Rattle.ct_msg.specs.declared.client.Answer.TheVariants as answer
@@ -28,7 +28,6 @@ use Rattle.ct_law_record.proofs.Likeness.{kind_at, copy_of, wish_of, body_of, ou
 use Rattle.ct_law_record.proofs.Alike.{none_is_not_some, idle_like, if_like, like_opened_quiet, like_satisfy, like_revoke, like_grant, like_yield, like_drained}
 use Rattle.ct_rules.specs.Frames
 use Rattle.std.specs.List.{list_any}
-use Rattle.std.proofs.Common.{nat_lt, eqb-true}
 
 even-value : (v : List ℕ) (c : Option Copy) → Rule.is_odd (Rule.with_value v c) ≡ Rule.is_odd c
 unfolding Rule.is_odd Rule.with_value

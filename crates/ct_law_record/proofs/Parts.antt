@@ -83,7 +83,7 @@ abbrev pub tracks : List ℕ → Bool → ℕ → Ghost → Ghost
 tracks rs b t g = record g { readers = rs; revoking = b; top = t }
 
 pub change_tracks : (g : Ghost) (rs : List ℕ) (b : Bool) (t : ℕ) → (g.top < t) ⊎ ((g.top ≡ t) × (g.revoking ≡ true → b ≡ true)) → Change g (tracks rs b t g)
-change_tracks g rs b t top = record { entry = refl; queue = refl; sent = refl; top = top; empty = λ a l e. e; joined = λ a l e. e }
+change_tracks g rs b t top = record { entry = refl; queue = refl; sent = refl; birth = refl; top = top; empty = λ a l e. e; joined = λ a l e. e }
 
 pub global_tracks : (ps : List ℕ) (m : ℕ) (g : Ghost) (rs : List ℕ) (b : Bool) (t : ℕ) → g.vacuum ≡ None → g.top ≤ t → GlobalInv ps m g → GlobalInv ps m (tracks rs b t g)
 global_tracks ps m g rs b t calm up all = record { rises = all.rises; whole = λ a l. all.whole a (omega arith); within = all.within; absent = all.absent; vacuum = λ v e. absurd (cc) }
@@ -108,6 +108,7 @@ shift_to g rs b k node covered stays h = record {
   other = λ _ a. covered a;
   value = h.value;
   seen = h.seen;
+  kept = omega arith;
   vacuum = h.vacuum;
 }
 
@@ -126,6 +127,7 @@ shift_end g rs b t k node up gone h = record {
   other = λ e _. absurd (let l : g.top ≡ t = e in omega arith);
   value = h.value;
   seen = h.seen;
+  kept = omega arith;
   vacuum = h.vacuum;
 }
 
@@ -134,14 +136,15 @@ abbrev pub registers : Register → (ℕ → ℕ) → Ghost → Ghost
 registers t place g = record g { register = t; place = place }
 
 pub shift_register : (g : Ghost) (t : Register) (place : ℕ → ℕ) (k : ℕ) (node : Node) → g.readers ≡ [] → t.owner ≢ Some k →
-    value_of node.copy ≡ reading (take (place (rank node.copy)) t.versions) → t.seen k ≤ place (rank node.copy) → NodeInv g k node → Shift g (registers t place g) k node.copy node.wish
-shift_register g t place k node none owner value seen h = record {
+    value_of node.copy ≡ reading (take (place (rank node.copy)) t.versions) → t.seen k ≤ place (rank node.copy) → g.place (rank node.copy) ≤ place (rank node.copy) → NodeInv g k node → Shift g (registers t place g) k node.copy node.wish
+shift_register g t place k node none owner value seen kept h = record {
   owner = λ a. absurd (owner a);
   reader = λ a c. absurd (nobody_has k g.readers none c);
   granted = granted_end g (registers t place g) k node.copy node.wish (inl (nobody_has k g.readers none));
   other = λ _ a. a;
   value = value;
   seen = seen;
+  kept = kept;
   vacuum = h.vacuum;
 }
 
@@ -161,6 +164,7 @@ change_grown ps m g v owner me all = record {
   entry = refl;
   queue = refl;
   sent = refl;
+  birth = refl;
   top = inr (refl, λ a. a);
   empty = λ a l e. grown_below ps m g v a all l ∙ e;
   joined = λ a l e. rw (lt-leb g.top a l, lt-leb g.top 0 (omega arith)) e;

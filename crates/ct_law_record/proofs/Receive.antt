@@ -64,6 +64,7 @@ module _ (rules : Rules) (ps : List ℕ) (m me : ℕ) (nodes : ℕ → Node) (fr
       mine = NodeInv-moved g e me o.node up mine_calm.small top mine_calm.nobody readers revoking none mine_calm.unmet value (λ a. mine_low (sym a)) h.good.mine;
       others = λ n ne. (let c = calm n ne in NodeInv-moved g e n (nodes n) up c.small top c.nobody readers revoking none c.unmet value (λ a. low n ne (sym a)) (h.good.others n ne));
       master = λ _. record { entry = inl refl; queue = (h.good.master at).queue; vacuum = (h.good.master at).vacuum };
+      joined = h.good.joined;
       master_other = λ ne. absurd (ne at);
     };
   }
@@ -74,7 +75,7 @@ module _ (rules : Rules) (ps : List ℕ) (m me : ℕ) (nodes : ℕ → Node) (fr
   queue_holds asks g o at mine others h = record {
     sent = h.sent;
     told = h.told;
-    good = record { all = h.good.all; mine = mine; others = others; master = λ e. record { entry = (h.good.master e).entry; queue = refl; vacuum = (h.good.master e).vacuum }; master_other = λ ne. absurd (ne at) };
+    good = record { all = h.good.all; mine = mine; others = others; master = λ e. record { entry = (h.good.master e).entry; queue = refl; vacuum = (h.good.master e).vacuum }; joined = h.good.joined; master_other = λ ne. absurd (ne at) };
   }
 
   keep_holds : (rsn : ℕ) (value : List ℕ) (g : Ghost) (o : Out) → me ≡ m → g.entry.least < rsn → g.top ≤ rsn → g.readers ≡ [] → g.revoking ≡ false → g.vacuum ≡ None → value ≡ reading g.register.versions →
@@ -362,7 +363,7 @@ module _ (rules : Rules) (ps : List ℕ) (m me : ℕ) (nodes : ℕ → Node) (fr
       let new : Entry = default_entry me o.node.floor in
       let entry_is : g.entry ≡ new = p.1 ∙ ap (λ (x : ℕ). default_entry x o.node.floor) (sym at) in
       let o' = with_node (record o.node { entry = Some new }) o in
-      let h' : Holds rules ps m me nodes frames r g o' = node_holds rules ps m me nodes frames r (record o.node { entry = Some new }) g o h h.good.mine (λ e. record { entry = inl (ap Some (sym entry_is)); queue = (h.good.master e).queue; vacuum = (h.good.master e).vacuum }) in
+      let h' : Holds rules ps m me nodes frames r g o' = node_holds rules ps m me nodes frames r (record o.node { entry = Some new }) g o refl h h.good.mine (λ e. record { entry = inl (ap Some (sym entry_is)); queue = (h.good.master e).queue; vacuum = (h.good.master e).vacuum }) in
       let b = keeps_holds rules ps m me nodes frames r g o' (at ∙ sym holder) (omega arith)
       (λ w is z nz _. nz (z ∙ request)) (λ q x k z. k.asked (sym z ∙ request)) (λ _. ap Some (sym entry_is)) h' in
       (held g, subst (λ (x : Entry). Holds rules ps m me nodes frames r (held g) (become x.least x.value o')) entry_is b, calm, refl, refl, refl))

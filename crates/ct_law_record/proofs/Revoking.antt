@@ -5,7 +5,8 @@ use Rattle.ct_law_record.proofs.Invariant.{Sent, readers_of, is_revoking, Ghost,
 use Rattle.ct_law_record.proofs.Nodes.{and_frame, NodeInv-called, called, rank_of, ungranted_new, NodeInv-stale, reading-stale, rank-stale}
 use Rattle.ct_law_record.proofs.Copies.{NodeInv-granted, granted}
 use Rattle.ct_law_record.proofs.Parts.{nil_none, tracks, change_tracks, global_tracks, Done_with, granted_to, granted_end, shift_to, shift_end, nobody_has}
-use Rattle.ct_law_record.proofs.Acts.{reads_is_read, send_holds, node_holds, own_holds, Others, master_copy, see_holds, satisfy_holds, drain_holds}
+use Rattle.ct_law_record.proofs.Acts.{send_holds, node_holds, own_holds, Others, master_copy, see_holds, satisfy_holds, drain_holds}
+use Rattle.ct_law_record.proofs.Small.{reads_is_read}
 use Rattle.std.specs.Prelude.{List}
 use Rattle.ct_frame.specs.declared.frame.CallKind.TheVariants as kind
 use Rattle.ct_call.specs.Rules.{Rules}
@@ -55,6 +56,7 @@ module _ (rules : Rules) (ps : List ℕ) (m me : ℕ) (nodes : ℕ → Node) (fr
         owner = h.good.mine.owner;
         unwished = λ a. absurd (cc);
         next = refl;
+        fresh = refl;
         recalls = refl;
         wishes = λ w e. inl (wishes w e);
         runs = λ v e. absurd (cc);
@@ -130,6 +132,7 @@ module _ (rules : Rules) (ps : List ℕ) (m me : ℕ) (nodes : ℕ → Node) (fr
               owner = h.good.mine.owner;
               unwished = λ a. absurd (cc);
               next = refl;
+              fresh = refl;
               recalls = refl;
               wishes = λ w e. inl e;
               runs = λ u e. (let k : record v { missing = rest } ≡ u = cc in (rw (ap (λ (x : Revocation). x.rsn) (sym k)) runs.1, calm));
@@ -154,7 +157,7 @@ module _ (rules : Rules) (ps : List ℕ) (m me : ℕ) (nodes : ℕ → Node) (fr
 
   stale_holds : (rsn : ℕ) (g : Ghost) (o : Out) → Holds rules ps m me nodes frames r g o → Holds rules ps m me nodes frames r g (with_node (record o.node { copy = stale rsn o.node.copy }) o)
   unfolding stale
-  stale_holds rsn g o h = node_holds rules ps m me nodes frames r (record o.node { copy = stale rsn o.node.copy }) g o h (NodeInv-stale g me o.node rsn h.good.mine)
+  stale_holds rsn g o h = node_holds rules ps m me nodes frames r (record o.node { copy = stale rsn o.node.copy }) g o refl h (NodeInv-stale g me o.node rsn h.good.mine)
       (λ e. record { entry = ⊎_elim (λ (k : o.node.entry ≡ Some g.entry). inl k) (λ k. inr (k.0, k.1, ap (stale rsn) k.2)) (h.good.master e).entry; queue = (h.good.master e).queue; vacuum = (h.good.master e).vacuum })
 
   unread_ungranted : (g : Ghost) (wish : Option Wish) → ((w : Wish) → wish ≡ Some w → reads_op w.op ≡ false) → Ungranted g.frames me wish
@@ -170,7 +173,7 @@ module _ (rules : Rules) (ps : List ℕ) (m me : ℕ) (nodes : ℕ → Node) (fr
       let s = stale_holds rsn g o h in
       let node : Node = record o.node { copy = stale rsn o.node.copy } in
       let new : Node = called w.op node in
-      let c = node_holds rules ps m me nodes frames r new g (with_node node o) s (NodeInv-called g me node w.op (false_from_ne_true _ (λ t. (let z = h.good.mine.unwished t in cc))) s.good.mine) s.good.master in
+      let c = node_holds rules ps m me nodes frames r new g (with_node node o) refl s (NodeInv-called g me node w.op (false_from_ne_true _ (λ t. (let z = h.good.mine.unwished t in cc))) s.good.mine) s.good.master in
       let a = ack_sent x rsn g (with_node new o) k (λ a. rw rank-stale (reading-stale rsn o.node.copy a).1) (ungranted_new g me node w.op s.good.mine) c in
       (_, send_holds rules ps m me nodes frames r m (Call o.node.next kind.Read) _ _ (λ q s v is. absurd (cc)) a (λ _. (omega arith, (let n = h.good.mine.next in omega arith))) (λ n ne e. absurd (ne (sym e)))))
       (λ f. (
@@ -214,8 +217,8 @@ module _ (rules : Rules) (ps : List ℕ) (m me : ℕ) (nodes : ℕ → Node) (fr
       subst (λ (x : Option Wish). Kept rules ps m me nodes frames r (reads me (with_node (record o.node { copy = Some (record { rsn = rsn; kind = For_reading; value = value }) }) o) x value)) (sym w.1) (
         _,
         see_holds rules ps m me nodes frames r g (with_node (granted rsn value o.node) o) c.2 (λ n own. absurd (nobody_has me g.readers (owned_none g o n own h) c.0)) w.0.op.real (reads_is_read w.0.op w.3) value c.1
-            (node_holds rules ps m me nodes frames r (granted rsn value o.node) g o h
-            (NodeInv-granted ps m g me o.node rsn value h.good.all ne c.2 away c.0 c.1 (met w.0 w.1 w.2 w.3) h.good.mine) (λ e. record { entry = ⊎_elim (λ (j : o.node.entry ≡ Some g.entry). inl j) (λ j. absurd (ne (e ∙ sym (ap (λ (x : Entry). x.holder) j.1)))) (h.good.master e).entry; queue = (h.good.master e).queue; vacuum = (h.good.master e).vacuum })),
+            (node_holds rules ps m me nodes frames r (granted rsn value o.node) g o refl h
+            (NodeInv-granted ps m g me o.node rsn value h.good.joined h.good.all ne c.2 away c.0 c.1 (met w.0 w.1 w.2 w.3) h.good.mine) (λ e. record { entry = ⊎_elim (λ (j : o.node.entry ≡ Some g.entry). inl j) (λ j. absurd (ne (e ∙ sym (ap (λ (x : Entry). x.holder) j.1)))) (h.good.master e).entry; queue = (h.good.master e).queue; vacuum = (h.good.master e).vacuum })),
       ))
       (λ _. (g, h))
     where

@@ -57,6 +57,7 @@ pub record Node : Type 0 where
   pub revoking : Option Revocation
   pub vacuum : Option Vacuuming
   pub floor : ℕ
+  pub fresh : Bool
 
 pub data Body : Type 0 where
   Call : (request : ℕ) (asks : CallKind) → Body
@@ -257,7 +258,6 @@ on_ack rules me master n rsn o (Some v) =
     else with_node (record o.node { revoking = Some (record v { missing = others n v.missing }) }) o)
     else o
 
--- Revoke, from the holder
 unfoldable pub stale : ℕ → Option Copy → Option Copy
 stale rsn None = None
 stale rsn (Some c) = if is_kind_reading c.kind && nat_le c.rsn rsn then Some (record c { kind = Stale }) else Some c
@@ -273,7 +273,6 @@ on_revoke me master h rsn o (Some w) =
     }) o))
     else send me h (RevokeAck rsn) (with_node (record o.node { copy = stale rsn o.node.copy }) o)
 
--- Grant
 unfoldable pub reads : ℕ → Out → Option Wish → List ℕ → Out
 reads me o None value = o
 reads me o (Some w) value = tell (Told me w.op.real (answer.Read value)) (with_node (record o.node { wish = None }) o)
@@ -376,7 +375,6 @@ on_call me n q k o = let o' = opened me (end_vacuum o) in on_call_of me n q k o'
 unfoldable pub add_recall : RecallNote → Out → Out
 add_recall r o = if list_any (same_recall r) o.node.recalls then o else with_node (record o.node { recalls = o.node.recalls ++ (r ∷ []) }) o
 
--- Handle a recall that comes
 unfoldable pub handle : ℕ → ℕ → RecallNote → Out → Out
 handle me master r o = if is_read_kind r.kind then grant me master r (end_vacuum o) else yield_record me master (with_node (record o.node { recalls = r ∷ o.node.recalls; vacuum = None }) o)
 
@@ -465,7 +463,6 @@ on_vdeleted me n rsn o None = o
 on_vdeleted me n rsn o (Some v) =
     if is_last Deleting n rsn v then finish me rsn o else set_vacuum (deleted n rsn v) o
 
--- the vacuum event
 unfoldable pub phase_frame : ℕ → VacuumPhase → Body
 phase_frame rsn Storing = VStore rsn
 phase_frame rsn Deleting = VDelete rsn

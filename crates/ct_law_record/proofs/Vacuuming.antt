@@ -12,8 +12,7 @@ use Rattle.ct_law_record.proofs.Finish.{finish_holds}
 use Rattle.std.specs.Prelude.{is_none, List}
 use Rattle.ct_call.specs.Rules.{Rules}
 use Rattle.ct_deleg.specs.Tracked.{Revocation}
-use Rattle.ct_vacuum.specs.Vacuum.{Vacuuming, begun, is_phase, awaits, without, acknowledged, is_last, stored, deleting as in_deleting}
-use Rattle.ct_vacuum.specs.Vacuum.{is_none as is_none_left}
+use Rattle.ct_vacuum.specs.Vacuum.{Vacuuming, begun, is_phase, awaits, without, acknowledged, is_last, stored, deleting as in_deleting, is_none as is_none_left}
 use Rattle.ct_vacuum.specs.declared.vacuum.VacuumPhase.{VacuumPhase}
 use Rattle.ct_vacuum.specs.declared.vacuum.VacuumPhase.TheVariants.{Storing, Deleting}
 use Rattle.ct_rules.specs.State.{is_nil}
@@ -94,6 +93,7 @@ change_deleting ps m g v all empty = record {
   entry = refl;
   queue = refl;
   sent = refl;
+  birth = refl;
   top = inr (refl, λ a. a);
   empty = λ a l e. raised_empty (v.rsn + 1) g.place g.register.versions a empty e;
   joined = λ a l e. raised_joined (v.rsn + 1) g.place a all.rises e;
@@ -136,6 +136,7 @@ shift_deleting ps m g v k node all none empty past outside h = record {
       (λ (e : v.rsn + 1 ≤ rank node.copy). rw (greater_high (rank node.copy) (v.rsn + 1) e) h.value)
       (past_is (v.rsn + 1) node.copy past);
   seen = (let s = h.seen in let u = all.rises (rank node.copy) (greater (rank node.copy) (v.rsn + 1)) (greater_left _ _) in omega arith);
+  kept = all.rises (rank node.copy) (greater (rank node.copy) (v.rsn + 1)) (greater_left _ _);
   vacuum = λ w e. (let k' : in_deleting v ≡ w = cc in record {
     storing = λ a. absurd (let z : false ≡ is_storing w.phase = ap (λ (x : Vacuuming). is_storing x.phase) k' in cc);
     deleted = λ _ b. past_none (w.rsn + 2) node.copy (rank_none node.copy (outside (ap (λ (x : Vacuuming). has_node k x.missing) k' ∙ b)));
@@ -173,7 +174,7 @@ module _ (rules : Rules) (ps : List ℕ) (m me : ℕ) (nodes : ℕ → Node) (fr
   unfolding Rule.on_vstore Says raise_copy with_node
   on_vstore_holds x rsn g o k h =
       let b = k.below in
-      let p = node_holds rules ps m me nodes frames r (touched (raise_copy rsn o.node.locked o.node.copy) o.node) g o h (NodeInv-raised ps m g me rsn o.node o.node.locked h.good.all k.below k.empty h.good.mine)
+      let p = node_holds rules ps m me nodes frames r (touched (raise_copy rsn o.node.locked o.node.copy) o.node) g o refl h (NodeInv-raised ps m g me rsn o.node o.node.locked h.good.joined h.good.all k.below k.empty h.good.mine)
       (λ e. (let j = h.good.master e in record { entry = ⊎_elim (λ (i : o.node.entry ≡ Some g.entry). inl i) (λ i. inr (i.0, i.1, ap (raise_copy rsn o.node.locked) i.2)) j.entry; queue = j.queue; vacuum = j.vacuum })) in (
         _,
         send_holds rules ps m me nodes frames r x (VStored rsn) g _ (λ q s v is. absurd (cc)) p
@@ -185,7 +186,7 @@ module _ (rules : Rules) (ps : List ℕ) (m me : ℕ) (nodes : ℕ → Node) (fr
   unfolding Rule.on_vdelete Says drop_copy with_node
   on_vdelete_holds x rsn g o k h =
       let b = k.below in
-      let p = node_holds rules ps m me nodes frames r (touched (drop_copy rsn o.node.locked o.node.copy) o.node) g o h (NodeInv-dropped ps m g me rsn o.node o.node.locked h.good.all k.below k.joined h.good.mine)
+      let p = node_holds rules ps m me nodes frames r (touched (drop_copy rsn o.node.locked o.node.copy) o.node) g o refl h (NodeInv-dropped ps m g me rsn o.node o.node.locked h.good.joined h.good.all k.below k.joined h.good.mine)
       (λ e. (let j = h.good.master e in record { entry = ⊎_elim (λ (i : o.node.entry ≡ Some g.entry). inl i) (λ i. inr (i.0, i.1, ap (drop_copy rsn o.node.locked) i.2)) j.entry; queue = j.queue; vacuum = j.vacuum })) in (
         _,
         send_holds rules ps m me nodes frames r x (VDeleted rsn) g _ (λ q s v is. absurd (cc)) p
@@ -225,6 +226,7 @@ module _ (rules : Rules) (ps : List ℕ) (m me : ℕ) (nodes : ℕ → Node) (fr
     locked = λ a. absurd (let k = form.1 in cc);
     owner = λ a. h.owner (sym (ap (λ (x : Register). x.owner) register) ∙ a);
     next = refl;
+    fresh = refl;
     recalls = refl;
     wishes = λ w e. inl e;
     runs = λ w e. absurd (let k = form.3 in cc);
@@ -296,7 +298,7 @@ module _ (rules : Rules) (ps : List ℕ) (m me : ℕ) (nodes : ℕ → Node) (fr
         vacuum = λ u e. subst (λ (x : Vacuuming). Emptying ps m g.entry.holder g.top g.register.versions g.place g.readers g.revoking x) (let k : w ≡ u = cc in k)
             (record { at = f.at; others = f.others; peers = f.peers; home = fewer f.home; above = f.above; empty = f.empty; past = f.past; joined = f.joined; nobody = f.nobody; idle = f.idle });
       })
-      (record { entry = refl; queue = refl; sent = refl; top = inr (refl, λ a. a); empty = λ a b c. c; joined = λ a b c. c })
+      (record { entry = refl; queue = refl; sent = refl; birth = refl; top = inr (refl, λ a. a); empty = λ a b c. c; joined = λ a b c. c })
       (own_vacuum g g' o o.node.copy (Some w) form form.0 (omega arith) top refl refl refl refl h.good.mine.seen h.good.mine)
       (λ n ne. (let k = h.good.others n ne in record {
         owner = λ a. a;
@@ -305,6 +307,7 @@ module _ (rules : Rules) (ps : List ℕ) (m me : ℕ) (nodes : ℕ → Node) (fr
         other = λ _ a. a;
         value = k.value;
         seen = k.seen;
+        kept = omega arith;
         vacuum = λ u e. subst (λ (x : Vacuuming). VacuumAt x n (nodes n).copy) (let k : w ≡ u = cc in k) (each n ne);
       }))
       (λ e. (let k = h.good.master e in record { entry = k.entry; queue = k.queue; vacuum = refl })) (λ ne. absurd (ne at)) refl h
@@ -426,7 +429,7 @@ module _ (rules : Rules) (ps : List ℕ) (m me : ℕ) (nodes : ℕ → Node) (fr
         vacuum = λ u e. subst (λ (x : Vacuuming). Emptying ps m g.entry.holder (g.top + 1) g.register.versions g.place g.readers g.revoking x) (let k : v ≡ u = cc in k)
             (record { at = sym up.0 ∙ at; others = refl; peers = peers; home = peers; above = omega arith; empty = sym holds.1 ∙ empty; past = past; joined = λ a. absurd (cc); nobody = none; idle = readers.1 });
       })
-      (record { entry = refl; queue = refl; sent = refl; top = inl (omega arith); empty = λ a b c. c; joined = λ a b c. c })
+      (record { entry = refl; queue = refl; sent = refl; birth = refl; top = inl (omega arith); empty = λ a b c. c; joined = λ a b c. c })
       (own_vacuum g g' o copy (Some v) form refl (omega arith) (omega arith) refl refl refl refl (let s = h.good.mine.seen in let u = all.rises (rank o.node.copy) (rsn + 1 + 1) (omega arith) in omega arith) h.good.mine)
       (λ n ne. (let k = h.good.others n ne in record {
         owner = λ a. a;
@@ -435,6 +438,7 @@ module _ (rules : Rules) (ps : List ℕ) (m me : ℕ) (nodes : ℕ → Node) (fr
         other = λ e _. absurd (let l : g.top ≡ g.top + 1 = e in omega arith);
         value = k.value;
         seen = k.seen;
+        kept = omega arith;
         vacuum = λ u e. subst (λ (x : Vacuuming). VacuumAt x n (nodes n).copy) (let k : v ≡ u = cc in k)
             (record { storing = λ _ b. past_none (rsn + 1) (nodes n).copy (rank_none (nodes n).copy (outside n ne b)); deleted = λ a. absurd (cc) });
       }))

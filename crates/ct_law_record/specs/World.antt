@@ -23,7 +23,7 @@ use Rattle.ct_frame.specs.declared.frame.TableRow.{TableRow}
 use Rattle.ct_rules_node.specs.Rounds.{want_again, installed_state}
 use Rattle.ct_register.specs.Register.{Register, reading, newborn}
 use Rattle.ct_register.specs.Words.{is_in}
-use Rattle.ct_law_record.specs.Labels.{Label, Told, Unasked, Vacuumed, AcceptsAll}
+use Rattle.ct_law_record.specs.Labels.{Label, Told, Unasked, Vacuumed, Ended, Left, Joined, AcceptsAll}
 
 -- a record in a generation: its database and key, its location master, whether its database hands out copies for reading,
 -- the members of the generation, and the rules of the functions
@@ -47,8 +47,10 @@ pub record Mail : Type 0 where
   pub receiver : ℕ
   pub msg : Msg
 
+-- all nodes, which of them have joined the generation, and every message
 pub record World : Type 0 where
   pub nodes : ℕ → View
+  pub joined : ℕ → Bool
   pub mail : List Mail
 
 pub data Event : Type 0 where
@@ -64,6 +66,12 @@ pub data Event : Type 0 where
   Resends : (node : ℕ) → Event
   -- Thaw: the call that waits wants the record anew
   Thaws : (node : ℕ) → Event
+  -- the lock ends without its client
+  Ends : (node : ℕ) → Event
+  -- the node stops: its lock is gone, and what it had seen does not count any more
+  Leaves : (node : ℕ) → Event
+  -- the node joins the generation
+  Joins : (node : ℕ) → Event
   -- other records raised the node's next request number, or its floor
   Rises : (node next floor : ℕ) → Event
 
@@ -129,12 +137,27 @@ stays w = record { world = w; labels = [] }
 abbrev pub view_of : Moving → View
 view_of o = record { state = o.state; next = o.next; floor = o.floor }
 
--- who is no member does nothing; nor is there a step in which a number would reach 2^62
-abbrev pub put : Scene → World → ℕ → (ℕ → Option ClientOp) → Moving → Stepped
-put s w n asks o = if is_in n s.members && not o.spent then record {
-  world = record { nodes = λ k. if nat_eq k n then view_of o else w.nodes k; mail = w.mail ++ sent n o.acts };
-  labels = told n asks o.acts;
+-- a node comes to this view, tells this and sends this; who is no member, or has not joined, does nothing
+abbrev pub steps : Scene → World → ℕ → Bool → List Label → View → List Mail → Stepped
+steps s w n may labels v more = if is_in n s.members && w.joined n && may then record {
+  world = record { nodes = λ k. if nat_eq k n then v else w.nodes k; joined = w.joined; mail = w.mail ++ more };
+  labels = labels;
 } else stays w
+
+-- what a rule makes of a node, where the calls ask this; there is no step in which a number would reach 2^62
+abbrev pub put : Scene → World → ℕ → (ℕ → Option ClientOp) → Moving → Stepped
+put s w n asks o = steps s w n (not o.spent) (told n asks o.acts) (view_of o) (sent n o.acts)
+
+-- a member that has not joined joins
+abbrev pub joins : Scene → World → ℕ → Stepped
+joins s w n = if is_in n s.members && not (w.joined n) then record {
+  world = record { nodes = w.nodes; joined = λ k. if nat_eq k n then true else w.joined k; mail = w.mail };
+  labels = Joined n ∷ [];
+} else stays w
+
+-- the view without the lock
+abbrev pub unlocked : View → View
+unlocked v = record v { state = record v.state { locked = None } }
 
 -- a message comes to its receiver
 abbrev pub comes : Scene → World → Option Mail → Stepped
@@ -162,6 +185,9 @@ happens s w (Comes which) = comes s w (slice_get w.mail which)
 happens s w (Vacuums n) = put s w n (waiting_call (w.nodes n).state.wish) (move (place s n (w.nodes n)) s.rules (event.Vacuum (peers s n)) (starts (w.nodes n)))
 happens s w (Resends n) = put s w n (waiting_call (w.nodes n).state.wish) (move (place s n (w.nodes n)) s.rules event.Resend (starts (w.nodes n)))
 happens s w (Thaws n) = put s w n (waiting_call (w.nodes n).state.wish) (want_again s.rules (place s n (w.nodes n)) (starts (w.nodes n)))
+happens s w (Ends n) = steps s w n (is_some (w.nodes n).state.locked) (Ended n ∷ []) (unlocked (w.nodes n)) []
+happens s w (Leaves n) = steps s w n true (Left n ∷ []) (unlocked (w.nodes n)) []
+happens s w (Joins n) = joins s w n
 happens s w (Rises n next floor) =
     put s w n (waiting_call (w.nodes n).state.wish) (begins (w.nodes n).state (greater (w.nodes n).next next) (greater (w.nodes n).floor floor))
 
@@ -192,8 +218,8 @@ StandsFor r deleted places n (Some c) = (c.value ≡ reading (take (places c.hea
 
 -- nothing seen is lost: places rise with the RSN, the deleted prefix has an empty reading, and each copy stands for all that
 -- its node has seen
-abbrev pub Kept_all : World → Register → Type 0
-Kept_all w r = (deleted : ℕ) × (places : ℕ → ℕ) × (reading (take deleted r.versions) ≡ []) × ((a b : ℕ) → a ≤ b → places a ≤ places b) ×
+abbrev pub NothingIsLost : World → Register → Type 0
+NothingIsLost w r = (deleted : ℕ) × (places : ℕ → ℕ) × (reading (take deleted r.versions) ≡ []) × ((a b : ℕ) → a ≤ b → places a ≤ places b) ×
     ((a : ℕ) → places a ≤ length r.versions) × ((n : ℕ) → StandsFor r deleted places n (w.nodes n).state.copy)
 
 -- where the copies of some nodes are gathered, the one of the greatest RSN is the reading of a prefix that has all that
@@ -205,16 +231,16 @@ Parent w r = (who : ℕ → Bool) →
     (((k : ℕ) → who k ≡ true → (w.nodes k).state.copy ≡ None) → (p : ℕ) × (reading (take p r.versions) ≡ []) × ((k : ℕ) → who k ≡ true → r.seen k ≤ p))
 
 -- what a schedule leads to, from a world and a register
-abbrev pub Leads_to : Scene → World → Register → List Event → Type 0
-Leads_to s w r events = (t : Register) × AcceptsAll s.rules r (trace s w events) t × Stands (last s w events) t × Kept_all (last s w events) t × Parent (last s w events) t
+abbrev pub LeadsTo : Scene → World → Register → List Event → Type 0
+LeadsTo s w r events = (t : Register) × AcceptsAll s.rules r (trace s w events) t × Stands (last s w events) t × NothingIsLost (last s w events) t × Parent (last s w events) t
 
 -- nothing is kept but calls that wait, under these next request numbers, and nothing was sent
-abbrev pub bare : (ℕ → ℕ) → (ℕ → Option Wish) → World
-bare number wish = record { nodes = λ n. record { state = record nothing_kept { wish = wish n }; next = number n; floor = 0 }; mail = [] }
+abbrev pub bare : (ℕ → Bool) → (ℕ → ℕ) → (ℕ → Option Wish) → World
+bare joined number wish = record { nodes = λ n. record { state = record nothing_kept { wish = wish n }; next = number n; floor = 0 }; joined = joined; mail = [] }
 
 -- nothing is kept, and nothing was sent
 abbrev pub opening : World
-opening = bare (λ _. 1) (λ _. None)
+opening = bare (λ _. true) (λ _. 1) (λ _. None)
 
 -- each next request number is at least 1, and above the request of the call that waits
 pub record AreDrawn (number : ℕ → ℕ) (wish : ℕ → Option Wish) : Type 0 where
@@ -226,27 +252,27 @@ pub record AreDrawn (number : ℕ → ℕ) (wish : ℕ → Option Wish) : Type 0
 unfoldable pub born_state : Scene → TableRow → ℕ → Option Wish → RecState
 born_state s row n wish = if is_in n s.members then installed_state n s.lmaster row (record nothing_kept { wish = wish }) else record nothing_kept { wish = wish }
 
-abbrev pub born : Scene → TableRow → (ℕ → ℕ) → (ℕ → Option Wish) → World
-born s row number wish = record { nodes = λ n. record { state = born_state s row n (wish n); next = number n; floor = 0 }; mail = [] }
+abbrev pub born : Scene → TableRow → (ℕ → Bool) → (ℕ → ℕ) → (ℕ → Option Wish) → World
+born s row joined number wish = record { nodes = λ n. record { state = born_state s row n (wish n); next = number n; floor = 0 }; joined = joined; mail = [] }
 
 -- no node has seen more than what a member begins with
 abbrev pub SeesAtMost : Scene → (ℕ → ℕ) → ℕ → Type 0
 SeesAtMost s seen count = (n : ℕ) → seen n ≤ (if is_in n s.members then count else 0)
 
 -- every schedule from the opening is one register's
-abbrev pub Theorem : Type 0
-Theorem = (s : Scene) (events : List Event) → list_all is_node s.members ≡ true → Leads_to s opening (newborn []) events
+abbrev pub OpensAsOneRegister : Type 0
+OpensAsOneRegister = (s : Scene) (events : List Event) → list_all is_node s.members ≡ true → LeadsTo s opening (newborn []) events
 
--- so is every schedule of a generation in which the record has no row, with any calls that wait
-abbrev pub Theorem_bare : Type 0
-Theorem_bare = (s : Scene) (number : ℕ → ℕ) (wish : ℕ → Option Wish) (events : List Event) → list_all is_node s.members ≡ true → AreDrawn number wish →
-    Leads_to s (bare number wish) (newborn []) events
+-- so is every schedule of a generation in which the record has no row, with any calls that wait, and whoever has joined it
+abbrev pub BeginsAsOneRegister : Type 0
+BeginsAsOneRegister = (s : Scene) (joined : ℕ → Bool) (number : ℕ → ℕ) (wish : ℕ → Option Wish) (events : List Event) → list_all is_node s.members ≡ true → AreDrawn number wish →
+    LeadsTo s (bare joined number wish) (newborn []) events
 
 -- and every schedule of a generation that begins with a row, whose data master is a member as the location master is, with
 -- any calls that wait; the register begins with any versions whose reading is the row's value, and with what its nodes have
 -- seen of them
-abbrev pub Theorem_born : Type 0
-Theorem_born = (s : Scene) (row : TableRow) (master : ℕ) (versions : List (List ℕ)) (seen : ℕ → ℕ) (number : ℕ → ℕ) (wish : ℕ → Option Wish) (events : List Event) →
+abbrev pub IsBornAsOneRegister : Type 0
+IsBornAsOneRegister = (s : Scene) (row : TableRow) (master : ℕ) (versions : List (List ℕ)) (seen : ℕ → ℕ) (joined : ℕ → Bool) (number : ℕ → ℕ) (wish : ℕ → Option Wish) (events : List Event) →
     list_all is_node s.members ≡ true → is_in s.lmaster s.members ≡ true → row.master ≡ Some master → is_in master s.members ≡ true → row.value ≡ reading versions →
     SeesAtMost s seen (length versions) → AreDrawn number wish →
-    Leads_to s (born s row number wish) (record (newborn versions) { seen = seen }) events
+    LeadsTo s (born s row joined number wish) (record (newborn versions) { seen = seen }) events
