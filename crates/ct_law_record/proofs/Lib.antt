@@ -1,0 +1,13 @@
+pub mod Rule
+pub mod Invariant
+pub mod Nodes
+pub mod Copies
+pub mod Holder
+pub mod Parts
+pub mod Acts
+pub mod Revoking
+pub mod Frames
+pub mod Receive
+pub mod Finish
+pub mod Floor
+pub mod Vacuuming

@@ -1,0 +1,24 @@
+-- What the nodes tell of one record, and which of it its register accepts.
+use Rattle.std.specs.Prelude.{◌≡◌, ℕ, List, [], ◌∷◌}
+use Rattle.ct_msg.specs.declared.client.Answer.{Answer}
+use Rattle.ct_msg.specs.declared.client.ClientOp.{ClientOp}
+use Rattle.ct_call.specs.Rules.{Rules}
+use Rattle.ct_register.specs.Register.{Register, Accepts, AcceptsVacuum}
+
+-- a client of a node asked for this and was answered this; a call was answered that nobody asked; or the record was
+-- vacuumed at a node
+pub data Label : Type 0 where
+  Told : (node : ℕ) (asked : ClientOp) (answer : Answer) → Label
+  Unasked : (node : ℕ) (answer : Answer) → Label
+  Vacuumed : (node : ℕ) → Label
+
+-- the register accepts the label and goes on as the second; it accepts no answer that nobody asked
+abbrev pub AcceptsLabel : Rules → Register → Label → Register → Type 0
+AcceptsLabel rules r (Told n asked answer) s = Accepts rules n asked answer r s
+AcceptsLabel rules r (Unasked n answer) s = ⊥
+AcceptsLabel rules r (Vacuumed n) s = AcceptsVacuum r s
+
+-- all labels, one after the other
+abbrev pub AcceptsAll : Rules → Register → List Label → Register → Type 0
+AcceptsAll rules r [] s = s ≡ r
+AcceptsAll rules r (label ∷ labels) s = (mid : Register) × AcceptsLabel rules r label mid × AcceptsAll rules mid labels s
