@@ -1,0 +1,74 @@
+-- What a cluster in its first generation shows of one record, and what its labels tell of that record.
+use Rattle.std.specs.Prelude.{◌≡◌, ◌≢◌, ℕ, nat_eq, bytes_eq, Bool, true, false, ◌&&◌, if◌then◌else◌, List, [], ◌∷◌, ◌++◌, Option, None, Some}
+use Rattle.ct_msg.specs.declared.client.Answer.{Answer}
+use Rattle.ct_msg.specs.declared.client.Answer.TheVariants as answer
+use Rattle.ct_msg.specs.declared.client.ClientOp.{ClientOp}
+use Rattle.ct_msg.specs.declared.client.Why.TheVariants as why
+use Rattle.ct_msg.specs.declared.config.Config.{Config}
+use Rattle.ct_frame.specs.declared.event.Note.TheVariants as note
+use Rattle.ct_frame.specs.declared.frame.Frame.{Frame}
+use Rattle.ct_call.specs.Rules.{Rules}
+use Rattle.ct_rules_node.specs.Node.{Node, db_at, state_at, master_of, kind_at, is_readonly}
+use Rattle.ct_rules_node.specs.Admission.{record_in}
+use Rattle.ct_cluster.specs.Cluster.{Cluster, Sent, everyone, node_at}
+use Rattle.ct_cluster.specs.Labels.{Label, Answered, Noted}
+use Rattle.ct_register.specs.Legal.{db_of, key_of}
+use Rattle.ct_register.specs.Legal as legal
+use Rattle.ct_law_record.specs.Labels as law
+use Rattle.ct_law_record.specs.World.{Scene, View, Mail, World}
+
+-- the record in the first generation, of which all nodes are members
+abbrev pub scene : Config → Rules → ℕ → List ℕ → Scene
+scene c rules db key = record { db = db; key = key; lmaster = master_of (everyone c) key; readonly = is_readonly (kind_at c db); members = everyone c; rules = rules }
+
+-- what a node has of the record
+abbrev pub view : ℕ → List ℕ → Node → View
+view db key n = record { state = state_at db key n; next = n.next; floor = (db_at db n).floor }
+
+-- is this the record?
+unfoldable pub is_it : ℕ → List ℕ → ℕ → List ℕ → Bool
+is_it db key d k = nat_eq d db && bytes_eq k key
+
+-- the message, where it speaks of the record
+unfoldable pub mail_of : ℕ → List ℕ → Frame → Option (ℕ × List ℕ) → List Mail
+mail_of db key f None = []
+mail_of db key f (Some r) = if is_it db key r.0 r.1 then record { sender = f.sender; receiver = f.receiver; msg = f.msg } ∷ [] else []
+
+-- those of the messages that speak of the record, in their order
+unfoldable pub mails : ℕ → List ℕ → List Sent → List Mail
+mails db key [] = []
+mails db key (s ∷ ss) = mail_of db key s.frame (record_in s.frame.msg) ++ mails db key ss
+
+-- the world of the record shows all that the cluster has of it
+pub record Shows (db : ℕ) (key : List ℕ) (c : Cluster) (w : World) : Type 0 where
+  pub nodes : (n : ℕ) → w.nodes n ≡ view db key (node_at n c)
+  pub mail : w.mail ≡ mails db key c.sent
+
+-- does the answer tell anything of a record? A refusal does not, but for that of a value which is too long
+unfoldable pub is_telling : Answer → Bool
+is_telling (answer.Refused (why.TooLong n)) = true
+is_telling (answer.Refused w) = false
+is_telling _ = true
+
+-- a label, where it is of the record
+unfoldable pub told_of : Bool → law.Label → List law.Label
+told_of true x = x ∷ []
+told_of false x = []
+
+-- what a label of the cluster tells of the record
+unfoldable pub told_by : ℕ → List ℕ → Label → List law.Label
+told_by db key (Answered n asked a) = told_of (is_telling a && is_it db key (db_of asked) (key_of asked)) (law.Told n asked a)
+told_by db key (Noted n (note.Vacuumed d k)) = told_of (is_it db key d k) (law.Vacuumed n)
+told_by db key _ = []
+
+-- what labels of the cluster tell of the record
+unfoldable pub told_by_all : ℕ → List ℕ → List Label → List law.Label
+told_by_all db key [] = []
+told_by_all db key (x ∷ xs) = told_by db key x ++ told_by_all db key xs
+
+-- The label is of records of nodes in line 1: it is an answer or ends a vacuum. An answer that tells nothing may be of any
+-- database.
+unfoldable pub IsOfLineOne : Config → (ℕ → ℕ) → Label → Type 0
+IsOfLineOne config line (Answered n asked a) = is_telling a ≡ true → (line n ≡ 1) × (legal.is_of_records (legal.kind_at config (db_of asked)) ≡ true)
+IsOfLineOne config line (Noted n (note.Vacuumed db key)) = (line n ≡ 1) × (legal.is_of_records (legal.kind_at config db) ≡ true)
+IsOfLineOne config line _ = ⊥
