@@ -1,2 +1,3 @@
 pub mod Weave
 pub mod Standing
+pub mod Speaking
