@@ -1,3 +1,4 @@
 pub mod Weave
 pub mod Standing
 pub mod Speaking
+pub mod Hearing

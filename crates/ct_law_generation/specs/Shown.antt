@@ -5,6 +5,8 @@ use Rattle.ct_msg.specs.declared.client.Answer.TheVariants as answer
 use Rattle.ct_msg.specs.declared.client.ClientOp.{ClientOp}
 use Rattle.ct_msg.specs.declared.client.Why.TheVariants as why
 use Rattle.ct_msg.specs.declared.config.Config.{Config}
+use Rattle.ct_frame.specs.declared.event.Out.{Out}
+use Rattle.ct_frame.specs.declared.event.Out.TheVariants as out
 use Rattle.ct_frame.specs.declared.event.Note.TheVariants as note
 use Rattle.ct_frame.specs.declared.frame.Frame.{Frame}
 use Rattle.ct_call.specs.Rules.{Rules}
@@ -12,6 +14,8 @@ use Rattle.ct_rules_node.specs.Node.{Node, db_at, state_at, master_of, kind_at, 
 use Rattle.ct_rules_node.specs.Admission.{record_in}
 use Rattle.ct_cluster.specs.Cluster.{Cluster, Sent, everyone, node_at}
 use Rattle.ct_cluster.specs.Labels.{Label, Answered, Noted}
+use Rattle.ct_cluster.specs.Traces.{answered, sent_label}
+use Rattle.ct_cluster.specs.declared.step.PendingCall.{PendingCall}
 use Rattle.ct_register.specs.Legal.{db_of, key_of}
 use Rattle.ct_register.specs.Legal as legal
 use Rattle.ct_law_record.specs.Labels as law
@@ -72,3 +76,27 @@ unfoldable pub IsOfLineOne : Config → (ℕ → ℕ) → Label → Type 0
 IsOfLineOne config line (Answered n asked a) = is_telling a ≡ true → (line n ≡ 1) × (legal.is_of_records (legal.kind_at config (db_of asked)) ≡ true)
 IsOfLineOne config line (Noted n (note.Vacuumed db key)) = (line n ≡ 1) × (legal.is_of_records (legal.kind_at config db) ≡ true)
 IsOfLineOne config line _ = ⊥
+
+-- what a world's labels tell: all but the answers that tell nothing
+unfoldable pub heard : List law.Label → List law.Label
+heard [] = []
+heard (law.Told n asked a ∷ xs) = told_of (is_telling a) (law.Told n asked a) ++ heard xs
+heard (x ∷ xs) = x ∷ heard xs
+
+-- every answer is of a call that was asked
+unfoldable pub AllAsked : List law.Label → Type 0
+AllAsked [] = Unit {0}
+AllAsked (law.Unasked n a ∷ xs) = ⊥
+AllAsked (x ∷ xs) = AllAsked xs
+
+-- the labels of what node n does, where these calls may be answered
+unfoldable pub labels_of : ℕ → List PendingCall → List Out → List Label
+labels_of n calls [] = []
+labels_of n calls (out.Send f ∷ xs) = sent_label f.sender f.generation f.msg ++ labels_of n calls xs
+labels_of n calls (out.Answer call a ∷ xs) = answered call a calls ++ labels_of n calls xs
+labels_of n calls (out.Note x ∷ xs) = Noted n x ∷ labels_of n calls xs
+
+-- what a call asks that may be answered at the record is found among these calls, and asks of the record
+pub record Finds (db : ℕ) (key : List ℕ) (n : ℕ) (calls : List PendingCall) (asks : ℕ → Option ClientOp) : Type 0 where
+  pub found : (call : ℕ) (asked : ClientOp) → asks call ≡ Some asked → (a : Answer) → answered call a calls ≡ Answered n asked a ∷ []
+  pub about : (call : ℕ) (asked : ClientOp) → asks call ≡ Some asked → (db_of asked ≡ db) × (key_of asked ≡ key)
