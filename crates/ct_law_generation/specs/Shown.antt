@@ -19,7 +19,9 @@ use Rattle.ct_cluster.specs.declared.step.PendingCall.{PendingCall}
 use Rattle.ct_register.specs.Legal.{db_of, key_of}
 use Rattle.ct_register.specs.Legal as legal
 use Rattle.ct_law_record.specs.Labels as law
-use Rattle.ct_law_record.specs.World.{Scene, View, Mail, World}
+use Rattle.ct_rules_node.specs.Turn.{Turn}
+use Rattle.ct_cluster.specs.Steps.{frames_of}
+use Rattle.ct_law_record.specs.World.{Scene, View, Mail, World, Event, last, trace}
 
 -- the record in the first generation, of which all nodes are members
 abbrev pub scene : Config → Rules → ℕ → List ℕ → Scene
@@ -100,3 +102,17 @@ labels_of n calls (out.Note x ∷ xs) = Noted n x ∷ labels_of n calls xs
 pub record Finds (db : ℕ) (key : List ℕ) (n : ℕ) (calls : List PendingCall) (asks : ℕ → Option ClientOp) : Type 0 where
   pub found : (call : ℕ) (asked : ClientOp) → asks call ≡ Some asked → (a : Answer) → answered call a calls ≡ Answered n asked a ∷ []
   pub about : (call : ℕ) (asked : ClientOp) → asks call ≡ Some asked → (db_of asked ≡ db) × (key_of asked ≡ key)
+
+-- the world of the record while node n is amid a step: what it has and sent so far, over the world before the step
+abbrev pub amid : ℕ → List ℕ → ℕ → World → Turn → World
+amid db key n w t = record { nodes = λ k. if nat_eq k n then view db key t.node else w.nodes k; mail = w.mail ++ mails db key (frames_of t.outs) }
+
+-- From one middle of a step to another the world of the record comes by these events, which tell what the step tells of the
+-- record.
+pub record Comes_by (s : Scene) (n : ℕ) (w : World) (calls : List PendingCall) (t u : Turn) (es : List Event) : Type 0 where
+  pub world : last s (amid s.db s.key n w t) es ≡ amid s.db s.key n w u
+  pub labels : told_by_all s.db s.key (labels_of n calls u.outs) ≡ told_by_all s.db s.key (labels_of n calls t.outs) ++ heard (trace s (amid s.db s.key n w t) es)
+
+-- by some events
+abbrev pub Follows : Scene → ℕ → World → List PendingCall → Turn → Turn → Type 0
+Follows s n w calls t u = (es : List Event) × Comes_by s n w calls t u es
