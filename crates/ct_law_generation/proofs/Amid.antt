@@ -50,12 +50,12 @@ if_same : {X : Type 0} (b : Bool) (x y z : X) → cond b x (cond b y z) ≡ cond
 if_same true x y z = refl
 if_same false x y z = refl
 
-place_is : (c : Config) (rules : Rules) (n db : ℕ) (key : List ℕ) (t : Node) → t.members ≡ everyone c → place_of c n db key t ≡ place (scene c rules db key) n (view db key t)
+pub place_is : (c : Config) (rules : Rules) (n db : ℕ) (key : List ℕ) (t : Node) → t.members ≡ everyone c → place_of c n db key t ≡ place (scene c rules db key) n (view db key t)
 unfolding place_of
 place_is c rules n db key t e = ap (λ (ms : List ℕ). place (record (scene c rules db key) { lmaster = master_of ms key }) n (view db key t)) e
 
 -- the node's own place in the world
-self : (db : ℕ) (key : List ℕ) (n : ℕ) (w : World) (t : Turn) → (amid db key n w t).nodes n ≡ view db key t.node
+pub self : (db : ℕ) (key : List ℕ) (n : ℕ) (w : World) (t : Turn) → (amid db key n w t).nodes n ≡ view db key t.node
 self db key n w t = ap (λ (b : Bool). cond b (view db key t.node) (w.nodes n)) (eq-eqb n n refl)
 
 goes : (a b : Bool) → a ≡ true → b ≡ false → (a && not b) ≡ true

@@ -4,3 +4,4 @@ pub mod Speaking
 pub mod Hearing
 pub mod Telling
 pub mod Amid
+pub mod Events

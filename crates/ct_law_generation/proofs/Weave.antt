@@ -24,7 +24,7 @@ use Rattle.ct_law_record.specs.Labels.{AcceptsAll}
 use Rattle.ct_law_record.specs.Labels as law
 use Rattle.ct_law_generation.specs.Shown.{is_it, is_telling, told_of, told_by, told_by_all, IsOfLineOne}
 
-true_or_false : (b : Bool) → (b ≡ true) ⊎ (b ≡ false)
+pub true_or_false : (b : Bool) → (b ≡ true) ⊎ (b ≡ false)
 true_or_false true = inl refl
 true_or_false false = inr refl
 
