@@ -11,3 +11,11 @@ pub mod Receive
 pub mod Finish
 pub mod Floor
 pub mod Vacuuming
+pub mod Likeness
+pub mod Alike
+pub mod Likewise
+pub mod Coming
+pub mod Events
+pub mod Worlds
+pub mod Law
+pub mod Births

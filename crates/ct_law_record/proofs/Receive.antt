@@ -402,14 +402,17 @@ module _ (rules : Rules) (ps : List ℕ) (m me : ℕ) (nodes : ℕ → Node) (fr
   store_holds db key v g o t h = (let k = h.good.mine.locked t in
       (_, grow_holds rules ps m me nodes frames r v (Told me (op.Store db key v) answer.Stored) g.register.owner g o k.0 k.2 k.3 k.4 (k.1, refl) (λ _. k.1) (λ _. t) (λ n ne e. absurd (ne (let j : Some n ≡ Some me = sym e ∙ k.1 in cc))) h))
 
-  pub unlock_holds : (db : ℕ) (key : List ℕ) (g : Ghost) (o : Out) → o.node.locked ≡ true → Holds rules ps m me nodes frames r g o → Kept rules ps m me nodes frames r (Rule.unlock me m db key o)
-  unfolding Rule.unlock tell with_node
-  unlock_holds db key g o t h =
+  pub release_holds : (db : ℕ) (key : List ℕ) (g : Ghost) (o : Out) → o.node.locked ≡ true → Holds rules ps m me nodes frames r g o → Kept rules ps m me nodes frames r (Rule.release me db key o)
+  unfolding Rule.release
+  release_holds db key g o t h =
       let k = h.good.mine.locked t in
       let s = h.good.mine.seen in
       let w = h.good.all.within (rank o.node.copy) in
-      drain_holds rules ps m me nodes frames r o.node.recalls _ _ (λ s w. w)
-      (lock_holds rules ps m me nodes frames r false (Told me (op.Unlock db key) answer.Unlocked) None g.register.seen g o k.0 k.2 k.3 k.4 (k.1, refl) (λ a. absurd (cc)) (λ a. absurd (cc)) (λ n ne e. absurd (cc)) (λ a. absurd (cc)) (omega arith) (λ n ne. refl) h)
+      (_, lock_holds rules ps m me nodes frames r false (Told me (op.Unlock db key) answer.Unlocked) None g.register.seen g o k.0 k.2 k.3 k.4 (k.1, refl) (λ a. absurd (cc)) (λ a. absurd (cc)) (λ n ne e. absurd (cc)) (λ a. absurd (cc)) (omega arith) (λ n ne. refl) h)
+
+  pub unlock_holds : (db : ℕ) (key : List ℕ) (g : Ghost) (o : Out) → o.node.locked ≡ true → Holds rules ps m me nodes frames r g o → Kept rules ps m me nodes frames r (Rule.unlock me m db key o)
+  unfolding Rule.unlock Rule.release tell with_node
+  unlock_holds db key g o t h = (let k = release_holds db key g o t h in drain_holds rules ps m me nodes frames r o.node.recalls _ _ (λ s w. w) k.1)
 
   pub retry_holds : (wish : Option Wish) (g : Ghost) (o : Out) → o.node.wish ≡ wish → Holds rules ps m me nodes frames r g o → Kept rules ps m me nodes frames r (Rule.retry me m o wish)
   unfolding Rule.retry Says

@@ -341,6 +341,9 @@ want rules me master op o = want_of rules me master op (if me == master && not o
 unfoldable pub store : ℕ → ℕ → List ℕ → List ℕ → Out → Out
 store me db key v o = tell (Told me (op.Store db key v) answer.Stored) (with_node (record o.node { copy = with_value v o.node.copy }) o)
 
+unfoldable pub release : ℕ → ℕ → List ℕ → Out → Out
+release me db key o = tell (Told me (op.Unlock db key) answer.Unlocked) (with_node (record o.node { locked = false }) o)
+
 unfoldable pub unlock : ℕ → ℕ → ℕ → List ℕ → Out → Out
 unlock me master db key o = drain me master o.node.recalls (tell (Told me (op.Unlock db key) answer.Unlocked) (with_node (record o.node { locked = false }) o))
 

@@ -475,7 +475,7 @@ module _ (rules : Rules) (ps : List ℕ) (m me : ℕ) (nodes : ℕ → Node) (fr
   empty_value (x ∷ xs) h = absurd (cc)
 
   -- the vacuum event: the list has all who take part, where the node is the location master
-  pub vacuum_event_holds : (all : List ℕ) (g : Ghost) (o : Out) → has_node m ps ≡ false → (me ≡ m → all ≡ ps) → Apart → Holds rules ps m me nodes frames r g o → Kept rules ps m me nodes frames r (Rule.vacuum_event me m all o)
+  pub vacuum_event_holds : (all : List ℕ) (g : Ghost) (o : Out) → has_node m ps ≡ false → (me ≡ m → all ≡ ps) → (me ≡ m → Apart) → Holds rules ps m me nodes frames r g o → Kept rules ps m me nodes frames r (Rule.vacuum_event me m all o)
   unfolding Rule.vacuum_event Rule.is_vacuumed
   vacuum_event_holds all g o peers all_are outside h = cond_both (Rule.is_vacuumed o.node) _ _ (Kept rules ps m me nodes frames r)
       (λ t.
@@ -487,6 +487,6 @@ module _ (rules : Rules) (ps : List ℕ) (m me : ℕ) (nodes : ℕ → Node) (fr
       let free = free_parts rules ps m me nodes frames r o.node p5.0 in
       let untracked = nil_none _ p4.1 in
       cond_both (me == m) _ _ (Kept rules ps m me nodes frames r)
-      (λ at. (let is = eqb-true me m at in subst (λ (l : List ℕ). Kept rules ps m me nodes frames r (Rule.vacuum_of me l o o.node.vacuum)) (sym (all_are is)) (vacuum_of_holds g o o.node.vacuum peers refl is (free.0, free.1, untracked, free.2) (empty_value _ p5.1) outside h)))
+      (λ at. (let is = eqb-true me m at in subst (λ (l : List ℕ). Kept rules ps m me nodes frames r (Rule.vacuum_of me l o o.node.vacuum)) (sym (all_are is)) (vacuum_of_holds g o o.node.vacuum peers refl is (free.0, free.1, untracked, free.2) (empty_value _ p5.1) (outside is) h)))
       (λ ne. give_holds rules ps m me nodes frames r g o free.0 free.1 untracked free.2 (calm_other rules ps m me nodes frames r g o.node h.good free.0 (eqb-false me m ne)) h))
       (λ _. (g, h))

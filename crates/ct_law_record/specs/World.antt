@@ -1,5 +1,5 @@
 -- All nodes of one record in one generation, and every message about it that was ever sent.
-use Rattle.std.specs.Prelude.{◌≡◌, ◌↔◌, ℕ, ◌≤◌, nat_eq, Bool, true, not, ◌&&◌, ◌||◌, if◌then◌else◌, Option, Some, None, is_none, is_some, List, [], ◌∷◌, ◌++◌, slice_get, take, length}
+use Rattle.std.specs.Prelude.{◌≡◌, ◌↔◌, ℕ, ◌≤◌, ◌<◌, nat_eq, Bool, true, not, ◌&&◌, ◌||◌, if◌then◌else◌, Option, Some, None, is_none, is_some, List, [], ◌∷◌, ◌++◌, slice_get, take, length}
 use Rattle.std.specs.List.{list_all}
 use Rattle.ct_msg.specs.declared.client.ClientOp.{ClientOp}
 use Rattle.ct_msg.specs.declared.client.ClientOp.TheVariants as op
@@ -7,11 +7,11 @@ use Rattle.ct_frame.specs.Fields.{is_node}
 use Rattle.ct_frame.specs.declared.frame.Msg.{Msg}
 use Rattle.ct_frame.specs.declared.header.RecCopy.{RecCopy}
 use Rattle.ct_call.specs.Rules.{Rules}
-use Rattle.ct_deleg.specs.Tracked.{untracked, others}
-use Rattle.ct_rules.specs.State.{nothing_kept, nobody, plain, for_reading, a_copy, is_read_op}
+use Rattle.ct_deleg.specs.Tracked.{others}
+use Rattle.ct_rules.specs.State.{nothing_kept, for_reading, is_read_op}
 use Rattle.ct_rules.specs.Parts.{Moving}
 use Rattle.ct_rules.specs.Frames.{greater}
-use Rattle.ct_rules.specs.Moves.{move, begins}
+use Rattle.ct_rules.specs.Moves.{move, release, begins}
 use Rattle.ct_rules.specs.Form.{is_wanting}
 use Rattle.ct_rules.specs.declared.event.Act.{Act}
 use Rattle.ct_rules.specs.declared.event.Act.TheVariants as act
@@ -19,7 +19,8 @@ use Rattle.ct_rules.specs.declared.event.MoveEvent.TheVariants as event
 use Rattle.ct_rules.specs.declared.event.Place.{Place}
 use Rattle.ct_rules.specs.declared.state.RecState.{RecState}
 use Rattle.ct_rules.specs.declared.state.Wish.{Wish}
-use Rattle.ct_rules_node.specs.Rounds.{want_again}
+use Rattle.ct_frame.specs.declared.frame.TableRow.{TableRow}
+use Rattle.ct_rules_node.specs.Rounds.{want_again, installed_state}
 use Rattle.ct_register.specs.Register.{Register, reading, newborn}
 use Rattle.ct_register.specs.Words.{is_in}
 use Rattle.ct_law_record.specs.Labels.{Label, Told, Unasked, Vacuumed, AcceptsAll}
@@ -55,6 +56,8 @@ pub data Event : Type 0 where
   Wants : (node call : ℕ) (asked : ClientOp) → Event
   Stores : (node call : ℕ) (value : List ℕ) → Event
   Unlocks : (node call : ℕ) → Event
+  -- the same at a node that freezes: the lock ends, and nothing else
+  Releases : (node call : ℕ) → Event
   -- any message that was sent comes, as often as it likes
   Comes : (which : ℕ) → Event
   Vacuums : (node : ℕ) → Event
@@ -151,6 +154,10 @@ happens s w (Unlocks n call) =
     if is_some (w.nodes n).state.locked
     then put s w n (own_call call (op.Unlock s.db s.key)) (move (place s n (w.nodes n)) s.rules (event.Unlock call) (starts (w.nodes n)))
     else stays w
+happens s w (Releases n call) =
+    if is_some (w.nodes n).state.locked
+    then put s w n (own_call call (op.Unlock s.db s.key)) (release call (starts (w.nodes n)))
+    else stays w
 happens s w (Comes which) = comes s w (slice_get w.mail which)
 happens s w (Vacuums n) = put s w n (waiting_call (w.nodes n).state.wish) (move (place s n (w.nodes n)) s.rules (event.Vacuum (peers s n)) (starts (w.nodes n)))
 happens s w (Resends n) = put s w n (waiting_call (w.nodes n).state.wish) (move (place s n (w.nodes n)) s.rules event.Resend (starts (w.nodes n)))
@@ -201,10 +208,45 @@ Parent w r = (who : ℕ → Bool) →
 abbrev pub Leads_to : Scene → World → Register → List Event → Type 0
 Leads_to s w r events = (t : Register) × AcceptsAll s.rules r (trace s w events) t × Stands (last s w events) t × Kept_all (last s w events) t × Parent (last s w events) t
 
+-- nothing is kept but calls that wait, under these next request numbers, and nothing was sent
+abbrev pub bare : (ℕ → ℕ) → (ℕ → Option Wish) → World
+bare number wish = record { nodes = λ n. record { state = record nothing_kept { wish = wish n }; next = number n; floor = 0 }; mail = [] }
+
 -- nothing is kept, and nothing was sent
 abbrev pub opening : World
-opening = record { nodes = λ _. record { state = nothing_kept; next = 1; floor = 0 }; mail = [] }
+opening = bare (λ _. 1) (λ _. None)
 
--- every schedule is one register's
+-- each next request number is at least 1, and above the request of the call that waits
+pub record AreDrawn (number : ℕ → ℕ) (wish : ℕ → Option Wish) : Type 0 where
+  pub some : (n : ℕ) → 1 ≤ number n
+  pub above : (n : ℕ) (w : Wish) → wish n ≡ Some w → w.request < number n
+
+-- what a node has of the record in a generation that began with this row for it: each member what the installation makes of
+-- the call that waits, and nobody else anything but this call
+unfoldable pub born_state : Scene → TableRow → ℕ → Option Wish → RecState
+born_state s row n wish = if is_in n s.members then installed_state n s.lmaster row (record nothing_kept { wish = wish }) else record nothing_kept { wish = wish }
+
+abbrev pub born : Scene → TableRow → (ℕ → ℕ) → (ℕ → Option Wish) → World
+born s row number wish = record { nodes = λ n. record { state = born_state s row n (wish n); next = number n; floor = 0 }; mail = [] }
+
+-- no node has seen more than what a member begins with
+abbrev pub SeesAtMost : Scene → (ℕ → ℕ) → ℕ → Type 0
+SeesAtMost s seen count = (n : ℕ) → seen n ≤ (if is_in n s.members then count else 0)
+
+-- every schedule from the opening is one register's
 abbrev pub Theorem : Type 0
 Theorem = (s : Scene) (events : List Event) → list_all is_node s.members ≡ true → Leads_to s opening (newborn []) events
+
+-- so is every schedule of a generation in which the record has no row, with any calls that wait
+abbrev pub Theorem_bare : Type 0
+Theorem_bare = (s : Scene) (number : ℕ → ℕ) (wish : ℕ → Option Wish) (events : List Event) → list_all is_node s.members ≡ true → AreDrawn number wish →
+    Leads_to s (bare number wish) (newborn []) events
+
+-- and every schedule of a generation that begins with a row, whose data master is a member as the location master is, with
+-- any calls that wait; the register begins with any versions whose reading is the row's value, and with what its nodes have
+-- seen of them
+abbrev pub Theorem_born : Type 0
+Theorem_born = (s : Scene) (row : TableRow) (master : ℕ) (versions : List (List ℕ)) (seen : ℕ → ℕ) (number : ℕ → ℕ) (wish : ℕ → Option Wish) (events : List Event) →
+    list_all is_node s.members ≡ true → is_in s.lmaster s.members ≡ true → row.master ≡ Some master → is_in master s.members ≡ true → row.value ≡ reading versions →
+    SeesAtMost s seen (length versions) → AreDrawn number wish →
+    Leads_to s (born s row number wish) (record (newborn versions) { seen = seen }) events

@@ -1,2 +1,5 @@
-//! One record in one generation: whatever its nodes do, its labels are one register's.
+//! One record in one generation. Its nodes may do whatever the rules allow them, in any order, and any message that was
+//! sent about it may come late, often or never: all that their clients are told is one register's.
 #![tactic(auto)]
+
+pub mod laws;

@@ -1,0 +1,192 @@
+-- Every schedule keeps the invariant, so its trace is the register's.
+use Rattle.std.proofs.Common.{◌≡◌, ◌≢◌, ℕ, true, false, Option, Some, None, List, [], ◌∷◌, ◌++◌, refl, sym, ap, ◌∙◌, arith, append-nil, not, ◌&&◌}
+use Rattle.std.proofs.lemmas.Bool.{cond_both, and_parts, ne_eqb}
+use Rattle.std.specs.Prelude.{is_some, nat_eq}
+use Rattle.ct_msg.specs.declared.client.ClientOp.{ClientOp}
+use Rattle.ct_msg.specs.declared.client.ClientOp.TheVariants as op
+use Rattle.ct_call.specs.Rules.{Rules}
+use Rattle.ct_rules.specs.State.{nobody}
+use Rattle.ct_rules.specs.Parts.{Moving}
+use Rattle.ct_rules.specs.declared.event.Act.{Act}
+use Rattle.ct_rules.specs.declared.event.Act.TheVariants as act
+use Rattle.ct_law_record.specs.Labels.{Label}
+use Rattle.ct_law_record.specs.World.{Mail, told, sent}
+use Rattle.ct_law_record.proofs.Rule
+use Rattle.ct_law_record.proofs.Rule.{Kind, Copy, Node, Frame, Body, Out}
+use Rattle.ct_law_record.proofs.Likeness.{copy_of, node_of, out_of}
+use Rattle.ct_rules.specs.Frames
+use Rattle.std.proofs.Common.{eqb-true}
+use Rattle.ct_deleg.specs.Tracked.{others}
+use Rattle.ct_rules.specs.Moves
+use Rattle.ct_rules_node.specs.Rounds
+use Rattle.std.proofs.Common.{subst, inl, inr, eq-eqb}
+use Rattle.ct_register.specs.Register.{Register}
+use Rattle.ct_law_record.proofs.Invariant.{Sent, Ghost, NodeInv, Holds, Kept}
+use Rattle.ct_law_record.proofs.Vacuuming.{Apart}
+use Rattle.ct_law_record.specs.World.{own_call, waiting_call, may_want, View, starts}
+use Rattle.std.proofs.Common.{◌⊎◌, ⊎_elim, slice_get, zero, suc}
+use Rattle.std.specs.List.{list_all}
+use Rattle.std.proofs.lemmas.Bool.{eqb-false}
+use Rattle.ct_frame.specs.Fields.{is_node}
+use Rattle.ct_register.specs.Words.{is_in}
+use Rattle.ct_law_record.specs.Labels.{AcceptsAll}
+use Rattle.ct_law_record.specs.World.{sends, Scene, World, Event, Wants, Stores, Unlocks, Releases, Comes, Vacuums, Resends, Thaws, Rises, place, peers, Stepped, view_of, put, comes, happens, trace, last}
+use Rattle.ct_law_record.proofs.Invariant.{MasterInv, GlobalInv}
+use Rattle.ct_law_record.proofs.Likeness.{frame_of, frames_of, frames_append}
+use Rattle.ct_law_record.proofs.Events.{arrive_holds, wants_holds, stores_holds, unlocks_holds, releases_holds, vacuums_holds, resends_holds, thaws_holds, rises_holds, none_none, none_unlocked, own_is, waiting_is, may_parts}
+
+-- the nodes, as the law sees them
+abbrev pub node_at : Scene → ℕ → View → Node
+node_at s n v = node_of n s.readonly v.state v.next v.floor
+
+abbrev pub nodes_at : Scene → World → ℕ → Node
+nodes_at s w n = node_at s n (w.nodes n)
+
+pub record WorldInv (s : Scene) (w : World) (r : Register) (g : Ghost) : Type 0 where
+  pub frames : g.frames ≡ frames_of w.mail
+  pub register : g.register ≡ r
+  pub all : GlobalInv (peers s s.lmaster) s.lmaster g
+  pub nodes : (n : ℕ) → NodeInv g n (nodes_at s w n)
+  pub master : MasterInv s.lmaster g (nodes_at s w s.lmaster)
+  pub outside : (n : ℕ) → is_in n s.members ≡ false → (w.nodes n).state.copy ≡ None
+  pub senders : (f : Frame) → Sent f (frames_of w.mail) → is_in f.from s.members ≡ true
+
+accepts_append : (rules : Rules) (r s t : Register) (ls ks : List Label) → AcceptsAll rules r ls s → AcceptsAll rules s ks t → AcceptsAll rules r (ls ++ ks) t
+accepts_append rules r s t [] ks h k = subst (λ x. AcceptsAll rules x ks t) h k
+accepts_append rules r s t (l ∷ ls) ks h k = (h.0, h.1, accepts_append rules h.0 s t ls ks h.2 k)
+
+-- who is a member is a node
+member_node : (n : ℕ) (ms : List ℕ) → is_in n ms ≡ true → list_all is_node ms ≡ true → is_node n ≡ true
+unfolding is_in
+member_node n [] i a = absurd (cc)
+member_node n (m ∷ ms) i a = grind (arith, eqb-true, member_node n ms)
+
+pub member_real : (n : ℕ) (ms : List ℕ) → is_in n ms ≡ true → list_all is_node ms ≡ true → n ≢ nobody
+member_real n ms i a e = (let k : is_node nobody ≡ true = subst (λ x. is_node x ≡ true) e (member_node n ms i a) in absurd (cc))
+
+peers_not : (m : ℕ) (ns : List ℕ) → Rule.has_node m (others m ns) ≡ false
+unfolding Rule.has_node
+peers_not m [] = refl
+peers_not m (n ∷ ns) = grind (arith, peers_not m ns)
+
+peers_in : (n m : ℕ) (ns : List ℕ) → n ≢ m → Rule.has_node n (others m ns) ≡ false → is_in n ns ≡ false
+unfolding Rule.has_node is_in
+peers_in n m [] ne e = refl
+peers_in n m (k ∷ ns) ne e = grind (arith, eq-eqb, ne_eqb, peers_in n m ns)
+
+sent_split : (f : Frame) (xs ys : List Frame) → Sent f (xs ++ ys) → Sent f xs ⊎ Sent f ys
+unfolding Sent
+sent_split f [] ys h = inr h
+sent_split f (x ∷ xs) ys (inl e) = inl (inl e)
+sent_split f (x ∷ xs) ys (inr h) = ⊎_elim (λ (k : Sent f xs). inl (inr k)) (λ (k : Sent f ys). inr k) (sent_split f xs ys h)
+
+-- a step sends in its node's own name
+sent_from : (n : ℕ) (f : Frame) (as' : List Act) → Sent f (frames_of (sent n as')) → f.from ≡ n
+unfolding Sent sent sends frames_of
+sent_from n f [] h = elim h [ ]
+sent_from n f (act.Send receiver m ∷ as') (inl e) = ap (λ (x : Frame). x.from) (sym e)
+sent_from n f (act.Send receiver m ∷ as') (inr h) = sent_from n f as' h
+sent_from n f (act.Answer call a ∷ as') h = sent_from n f as' h
+sent_from n f (act.Finished floor ∷ as') h = sent_from n f as' h
+
+pub sent_at : (k : ℕ) (ms : List Mail) (m : Mail) → slice_get ms k ≡ Some m → Sent (frame_of m) (frames_of ms)
+unfolding Sent frames_of
+sent_at k [] m e = absurd (cc)
+sent_at zero (x ∷ xs) m e = inl (let j : x ≡ m = cc in ap frame_of j)
+sent_at (suc k) (x ∷ xs) m e = inr (sent_at k xs m e)
+
+-- what a step leads to
+abbrev Leads : Scene → Register → Stepped → Type 0
+Leads s r x = (t : Register) × (g : Ghost) × AcceptsAll s.rules r x.labels t × WorldInv s x.world t g
+
+-- where a step begins, and where it ends
+abbrev pub Begun : Scene → World → Register → ℕ → (ℕ → Option ClientOp) → Ghost → Moving → Type 0
+Begun s w r n asks g o = Holds s.rules (peers s s.lmaster) s.lmaster n (nodes_at s w) (frames_of w.mail) r g (out_of (place s n (w.nodes n)) asks o)
+
+abbrev Ended : Scene → World → Register → ℕ → (ℕ → Option ClientOp) → Moving → Type 0
+Ended s w r n asks o = Kept s.rules (peers s s.lmaster) s.lmaster n (nodes_at s w) (frames_of w.mail) r (out_of (place s n (w.nodes n)) asks o)
+
+pub begin_holds : (s : Scene) (w : World) (r : Register) (n : ℕ) (asks : ℕ → Option ClientOp) (g : Ghost) → WorldInv s w r g → Begun s w r n asks g (starts (w.nodes n))
+unfolding sent told frames_of
+begin_holds s w r n asks g h = record {
+  sent = h.frames ∙ sym (append-nil (frames_of w.mail));
+  told = h.register;
+  good = record {
+    all = h.all;
+    mine = h.nodes n;
+    others = λ k _. h.nodes k;
+    master = λ e. subst (λ x. MasterInv s.lmaster g (nodes_at s w x)) (sym e) h.master;
+    master_other = λ _. h.master;
+  };
+}
+
+put_holds : (s : Scene) (w : World) (r : Register) (n : ℕ) (asks : ℕ → Option ClientOp) (g : Ghost) (o : Moving) → WorldInv s w r g → (is_in n s.members ≡ true → Ended s w r n asks o) → Leads s r (put s w n asks o)
+put_holds s w r n asks g₀ o before k = cond_both (is_in n s.members && not o.spent) _ _ (Leads s r)
+    (λ t. (let member = (and_parts (is_in n s.members) (not o.spent) t).0 in let g = (k member).0 in let h = (k member).1 in (
+      g.register,
+      g,
+      h.told,
+      record {
+        frames = h.sent ∙ sym (frames_append w.mail (sent n o.acts));
+        register = refl;
+        all = h.good.all;
+        nodes = λ j. cond_both (nat_eq j n) (view_of o) (w.nodes j) (λ (v : View). NodeInv g j (node_at s j v))
+            (λ t'. subst (λ x. NodeInv g x (node_at s x (view_of o))) (sym (eqb-true j n t')) h.good.mine)
+            (λ f. h.good.others j (eqb-false j n f));
+        master = cond_both (nat_eq s.lmaster n) (view_of o) (w.nodes s.lmaster) (λ (v : View). MasterInv s.lmaster g (node_at s s.lmaster v))
+            (λ t'. (let e = eqb-true s.lmaster n t' in subst (λ x. MasterInv s.lmaster g (node_at s x (view_of o))) (sym e) (h.good.master (sym e))))
+            (λ f. h.good.master_other (λ e. eqb-false s.lmaster n f (sym e)));
+        outside = λ j e. cond_both (nat_eq j n) (view_of o) (w.nodes j) (λ (v : View). v.state.copy ≡ None)
+            (λ t'. absurd (let z : is_in n s.members ≡ false = subst (λ x. is_in x s.members ≡ false) (eqb-true j n t') e in cc))
+            (λ f. before.outside j e);
+        senders = λ f h'. ⊎_elim
+            (λ (x : Sent f (frames_of w.mail)). before.senders f x)
+            (λ (x : Sent f (frames_of (sent n o.acts))). subst (λ y. is_in y s.members ≡ true) (sym (sent_from n f o.acts x)) member)
+            (sent_split f (frames_of w.mail) (frames_of (sent n o.acts)) (subst (λ l. Sent f l) (frames_append w.mail (sent n o.acts)) h'));
+      },
+    )))
+    (λ _. (r, g₀, refl, before))
+
+apart : (s : Scene) (w : World) (r : Register) (n : ℕ) (g : Ghost) → WorldInv s w r g → n ≡ s.lmaster → Apart s.rules (peers s s.lmaster) s.lmaster n (nodes_at s w) (frames_of w.mail) r
+unfolding copy_of
+apart s w r n g h is k ne e = ap (copy_of k) (h.outside k (peers_in k s.lmaster s.members (λ z. ne (z ∙ sym is)) e))
+
+comes_holds : (s : Scene) (w : World) (r : Register) (g : Ghost) (found : Option Mail) → list_all is_node s.members ≡ true → ((m : Mail) → found ≡ Some m → Sent (frame_of m) (frames_of w.mail)) → WorldInv s w r g → Leads s r (comes s w found)
+comes_holds s w r g None real there h = (r, g, refl, h)
+comes_holds s w r g (Some m) real there h =
+    let f = there m refl in
+    let f' : Sent (frame_of m) g.frames = subst (λ l. Sent (frame_of m) l) (sym h.frames) f in
+    let n = m.receiver in
+    let asks = waiting_call (w.nodes m.receiver).state.wish in
+    put_holds s w r m.receiver asks g _ h (λ member. arrive_holds (place s m.receiver (w.nodes m.receiver)) asks (member_real m.receiver s.members member real) s.rules (peers s s.lmaster) (nodes_at s w) (frames_of w.mail) r m.sender m.msg g (starts (w.nodes m.receiver))
+    (member_real m.sender s.members (h.senders (frame_of m) f) real) (λ v e. waiting_is (w.nodes m.receiver).state.wish v e) (λ e. apart s w r m.receiver g h e) f'
+    ((h.nodes m.receiver).frames (frame_of m) f', (λ k ne. (h.nodes k).frames (frame_of m) f')) (begin_holds s w r m.receiver asks g h))
+
+step_holds : (s : Scene) (w : World) (r : Register) (g : Ghost) (e : Event) → list_all is_node s.members ≡ true → WorldInv s w r g → Leads s r (happens s w e)
+unfolding Rounds.want_again
+step_holds s w r g (Wants n call asked) real h = cond_both (may_want (w.nodes n).state asked) _ _ (Leads s r)
+    (λ t. (let p = may_parts (w.nodes n).state asked t in put_holds s w r n (own_call call asked) g _ h (λ member. wants_holds (place s n (w.nodes n)) (own_call call asked) (member_real n s.members member real) s.rules (peers s s.lmaster) (nodes_at s w) (frames_of w.mail) r call asked g (starts (w.nodes n))
+    (own_is call asked) (none_none _ p.0) (λ e. none_unlocked _ (p.1 e)) (begin_holds s w r n (own_call call asked) g h))))
+    (λ _. (r, g, refl, h))
+step_holds s w r g (Stores n call v) real h = cond_both (is_some (w.nodes n).state.locked) _ _ (Leads s r)
+    (λ t. (let asks = own_call call (op.Store s.db s.key v) in put_holds s w r n asks g _ h (λ member. stores_holds (place s n (w.nodes n)) asks (member_real n s.members member real) s.rules (peers s s.lmaster) (nodes_at s w) (frames_of w.mail) r call v g (starts (w.nodes n)) (own_is call (op.Store s.db s.key v)) t (begin_holds s w r n asks g h))))
+    (λ _. (r, g, refl, h))
+step_holds s w r g (Unlocks n call) real h = cond_both (is_some (w.nodes n).state.locked) _ _ (Leads s r)
+    (λ t. (let asks = own_call call (op.Unlock s.db s.key) in put_holds s w r n asks g _ h (λ member. unlocks_holds (place s n (w.nodes n)) asks (member_real n s.members member real) s.rules (peers s s.lmaster) (nodes_at s w) (frames_of w.mail) r call g (starts (w.nodes n)) (own_is call (op.Unlock s.db s.key)) t (begin_holds s w r n asks g h))))
+    (λ _. (r, g, refl, h))
+step_holds s w r g (Releases n call) real h = cond_both (is_some (w.nodes n).state.locked) _ _ (Leads s r)
+    (λ t. (let asks = own_call call (op.Unlock s.db s.key) in put_holds s w r n asks g _ h (λ member. releases_holds (place s n (w.nodes n)) asks (member_real n s.members member real) s.rules (peers s s.lmaster) (nodes_at s w) (frames_of w.mail) r call g (starts (w.nodes n)) (own_is call (op.Unlock s.db s.key)) t (begin_holds s w r n asks g h))))
+    (λ _. (r, g, refl, h))
+step_holds s w r g (Comes which) real h = comes_holds s w r g (slice_get w.mail which) real (λ m e. sent_at which w.mail m e) h
+step_holds s w r g (Vacuums n) real h = (let asks = waiting_call (w.nodes n).state.wish in put_holds s w r n asks g _ h (λ member. vacuums_holds (place s n (w.nodes n)) asks (member_real n s.members member real) s.rules (peers s s.lmaster) (nodes_at s w) (frames_of w.mail) r (peers s n) g (starts (w.nodes n))
+    (peers_not s.lmaster s.members) (λ e. ap (peers s) e) (λ e. apart s w r n g h e) (begin_holds s w r n asks g h)))
+step_holds s w r g (Resends n) real h = (let asks = waiting_call (w.nodes n).state.wish in put_holds s w r n asks g _ h (λ member. resends_holds (place s n (w.nodes n)) asks (member_real n s.members member real) s.rules (peers s s.lmaster) (nodes_at s w) (frames_of w.mail) r g (starts (w.nodes n)) (begin_holds s w r n asks g h)))
+step_holds s w r g (Thaws n) real h = (let asks = waiting_call (w.nodes n).state.wish in put_holds s w r n asks g _ h (λ member. thaws_holds (place s n (w.nodes n)) asks (member_real n s.members member real) s.rules (peers s s.lmaster) (nodes_at s w) (frames_of w.mail) r g (starts (w.nodes n)) (w.nodes n).state.wish refl (λ v e. waiting_is (w.nodes n).state.wish v e) (begin_holds s w r n asks g h)))
+step_holds s w r g (Rises n next floor) real h = (let asks = waiting_call (w.nodes n).state.wish in put_holds s w r n asks g (Moves.begins (w.nodes n).state (Frames.greater (w.nodes n).next next) (Frames.greater (w.nodes n).floor floor)) h (λ member. rises_holds (place s n (w.nodes n)) asks (member_real n s.members member real) s.rules (peers s s.lmaster) (nodes_at s w) (frames_of w.mail) r next floor g (starts (w.nodes n)) (begin_holds s w r n asks g h)))
+
+pub run_holds : (s : Scene) (events : List Event) (w : World) (r : Register) (g : Ghost) → list_all is_node s.members ≡ true → WorldInv s w r g → (t : Register) × (g' : Ghost) × AcceptsAll s.rules r (trace s w events) t × WorldInv s (last s w events) t g'
+run_holds s [] w r g real h = (r, g, refl, h)
+run_holds s (e ∷ es) w r g real h =
+    let x = step_holds s w r g e real h in
+    let k = run_holds s es (happens s w e).world x.0 x.1 real x.3 in
+    (k.0, k.1, accepts_append s.rules r x.0 k.0 (happens s w e).labels (trace s (happens s w e).world es) x.2 k.2, k.3)
