@@ -5,3 +5,4 @@ pub mod Hearing
 pub mod Telling
 pub mod Amid
 pub mod Events
+pub mod Forming
