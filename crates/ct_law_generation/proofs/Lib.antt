@@ -6,3 +6,4 @@ pub mod Telling
 pub mod Amid
 pub mod Events
 pub mod Forming
+pub mod Concluding

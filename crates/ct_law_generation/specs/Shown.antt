@@ -21,7 +21,7 @@ use Rattle.ct_register.specs.Legal as legal
 use Rattle.ct_law_record.specs.Labels as law
 use Rattle.ct_rules_node.specs.Turn.{Turn}
 use Rattle.ct_cluster.specs.Steps.{frames_of}
-use Rattle.ct_law_record.specs.World.{Scene, View, Mail, World, Event, last, trace}
+use Rattle.ct_law_record.specs.World.{Scene, View, Mail, World, Event, opening, last, trace}
 
 -- the record in the first generation, of which all nodes are members
 abbrev pub scene : Config → Rules → ℕ → List ℕ → Scene
@@ -116,3 +116,12 @@ pub record Comes_by (s : Scene) (n : ℕ) (w : World) (calls : List PendingCall)
 -- by some events
 abbrev pub Follows : Scene → ℕ → World → List PendingCall → Turn → Turn → Type 0
 Follows s n w calls t u = (es : List Event) × Comes_by s n w calls t u es
+
+-- the world of the record, as the cluster shows it
+abbrev pub project : ℕ → List ℕ → Cluster → World
+project db key c = record { nodes = λ n. view db key (node_at n c); mail = mails db key c.sent }
+
+-- schedules of the worlds of all records lead to what the cluster shows of them, and tell what these labels tell
+abbrev pub Schedules : Config → Rules → Cluster → List Label → (ℕ → List ℕ → List Event) → Type 0
+Schedules config rules c labels es = (db : ℕ) (key : List ℕ) →
+    (last (scene config rules db key) opening (es db key) ≡ project db key c) × (heard (trace (scene config rules db key) opening (es db key)) ≡ told_by_all db key labels)
