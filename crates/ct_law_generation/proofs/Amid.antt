@@ -34,7 +34,7 @@ use Rattle.ct_law_generation.proofs.Telling.{hear_same, hear_other}
 
 -- ---- the node after the step
 
-seen_same : (c : Config) (n db : ℕ) (key : List ℕ) (part : Place → Moving → Moving) (t : Turn) (o : Moving) → left_by c n db key part t ≡ o → NodeAscends t.node → db < length t.node.dbs → or_nothing (unless_blank o.state) ≡ o.state →
+pub seen_same : (c : Config) (n db : ℕ) (key : List ℕ) (part : Place → Moving → Moving) (t : Turn) (o : Moving) → left_by c n db key part t ≡ o → NodeAscends t.node → db < length t.node.dbs → or_nothing (unless_blank o.state) ≡ o.state →
     view db key (at_record c n db key part t).node ≡ view_of o
 unfolding at_record acted put_back with_db db_at
 seen_same c n db key part t o e h l k =
@@ -125,14 +125,14 @@ own_step c rules n db key part t calls asks w e f h =
 -- ---- every other record
 
 -- the place is of another database, or of another key of this one
-apart : (db db0 : ℕ) (key key0 : List ℕ) → is_it db key db0 key0 ≡ false → (db ≢ db0) ⊎ ((db ≡ db0) × (key ≢ key0))
+pub apart : (db db0 : ℕ) (key key0 : List ℕ) → is_it db key db0 key0 ≡ false → (db ≢ db0) ⊎ ((db ≡ db0) × (key ≢ key0))
 unfolding is_it
 apart db db0 key key0 e = ⊎_elim
     (λ (is : db ≡ db0). inr (is, λ same. absurd (let t = it_is_itself db key in let u = subst (λ (d : ℕ). is_it db key d key ≡ true) is t in let v = subst (λ (k : List ℕ). is_it db key db0 k ≡ true) same u in cc)))
     (λ (ne : db ≢ db0). inl ne)
     (cases_eq db db0)
 
-other_state : (c : Config) (n db0 db : ℕ) (key0 key : List ℕ) (part : Place → Moving → Moving) (t : Turn) → NodeAscends t.node → is_it db key db0 key0 ≡ false →
+pub other_state : (c : Config) (n db0 db : ℕ) (key0 key : List ℕ) (part : Place → Moving → Moving) (t : Turn) → NodeAscends t.node → is_it db key db0 key0 ≡ false →
     state_at db key (at_record c n db0 key0 part t).node ≡ state_at db key t.node
 unfolding state_at
 other_state c n db0 db key0 key part t h e =
@@ -141,11 +141,11 @@ other_state c n db0 db key0 key part t h e =
     (λ (p : (db ≡ db0) × (key ≢ key0)). subst (λ (d : ℕ). state_at d key (at_record c n db0 key0 part t).node ≡ state_at d key t.node) (sym p.0) (m.other_keys key p.1))
     (apart db db0 key key0 e)
 
-floor_own : (c : Config) (n db0 : ℕ) (key0 : List ℕ) (part : Place → Moving → Moving) (t : Turn) → db0 < length t.node.dbs → (db_at db0 (at_record c n db0 key0 part t).node).floor ≡ (left_by c n db0 key0 part t).floor
+pub floor_own : (c : Config) (n db0 : ℕ) (key0 : List ℕ) (part : Place → Moving → Moving) (t : Turn) → db0 < length t.node.dbs → (db_at db0 (at_record c n db0 key0 part t).node).floor ≡ (left_by c n db0 key0 part t).floor
 unfolding at_record acted put_back with_db db_at
 floor_own c n db0 key0 part t l = ap (λ (d : Database). d.floor) (at_set t.node.dbs db0 _ l)
 
-other_floor : (c : Config) (n db0 db : ℕ) (key0 : List ℕ) (part : Place → Moving → Moving) (t : Turn) → NodeAscends t.node → db0 < length t.node.dbs → Grows (node.view db0 key0 t.node) (left_by c n db0 key0 part t) →
+pub other_floor : (c : Config) (n db0 db : ℕ) (key0 : List ℕ) (part : Place → Moving → Moving) (t : Turn) → NodeAscends t.node → db0 < length t.node.dbs → Grows (node.view db0 key0 t.node) (left_by c n db0 key0 part t) →
     (db_at db t.node).floor ≤ (db_at db (at_record c n db0 key0 part t).node).floor
 unfolding node.view
 other_floor c n db0 db key0 part t h l g = ⊎_elim
@@ -157,7 +157,7 @@ greater_is : (a b : ℕ) → a ≤ b → greater a b ≡ b
 unfolding greater
 greater_is a b l = grind arith
 
-next_grows : (c : Config) (n db0 : ℕ) (key0 : List ℕ) (part : Place → Moving → Moving) (t : Turn) → Grows (node.view db0 key0 t.node) (left_by c n db0 key0 part t) → t.node.next ≤ (at_record c n db0 key0 part t).node.next
+pub next_grows : (c : Config) (n db0 : ℕ) (key0 : List ℕ) (part : Place → Moving → Moving) (t : Turn) → Grows (node.view db0 key0 t.node) (left_by c n db0 key0 part t) → t.node.next ≤ (at_record c n db0 key0 part t).node.next
 unfolding at_record acted put_back node.view
 next_grows c n db0 key0 part t g = g.next
 

@@ -7,4 +7,6 @@ pub mod Telling
 pub mod Amid
 pub mod Events
 pub mod Forming
+pub mod Pending
+pub mod Staying
 pub mod Concluding
