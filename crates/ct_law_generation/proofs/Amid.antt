@@ -63,7 +63,7 @@ goes true false a b = refl
 goes true true a b = absurd (cc)
 goes false b a e = absurd (cc)
 
-put_world : (s : Scene) (w : World) (n : ℕ) (asks : ℕ → Option ClientOp) (o : Moving) → is_in n s.members ≡ true → o.spent ≡ false →
+pub put_world : (s : Scene) (w : World) (n : ℕ) (asks : ℕ → Option ClientOp) (o : Moving) → is_in n s.members ≡ true → o.spent ≡ false →
     put s w n asks o ≡ record { world = record { nodes = λ k. cond (nat_eq k n) (view_of o) (w.nodes k); mail = w.mail ++ sent n o.acts }; labels = told n asks o.acts }
 put_world s w n asks o a e = (let g : (is_in n s.members && not o.spent) ≡ true = goes (is_in n s.members) o.spent a e in
     λ i. cond (g i) (record { world = record { nodes = λ k. cond (nat_eq k n) (view_of o) (w.nodes k); mail = w.mail ++ sent n o.acts }; labels = told n asks o.acts }) (record { world = w; labels = [] }))

@@ -9,4 +9,5 @@ pub mod Events
 pub mod Forming
 pub mod Pending
 pub mod Staying
+pub mod Following
 pub mod Concluding

@@ -20,6 +20,7 @@ use Rattle.ct_cluster.specs.Cluster.{Cluster, node_at, or_absent, absent, wished
 use Rattle.ct_cluster.specs.Labels.{Label, Answered}
 use Rattle.ct_cluster.specs.Traces.{answered}
 use Rattle.ct_cluster.specs.declared.step.PendingCall.{PendingCall}
+use Rattle.ct_register.specs.Legal.{db_of, key_of}
 use Rattle.ct_law_generation.proofs.Wishing.{Wishful}
 
 -- who made each call, and what it asked
@@ -96,9 +97,9 @@ right_any f (x ∷ xs) ys e = right_case (f x) (list_any f (xs ++ ys)) (right_an
 
 -- ---- one database
 
--- what the call that waits for a record of the node asked, and when
+-- what the call that waits for a record of the node asked: of that record, under a number that was given
 unfoldable pub Known : Callers → ℕ → ℕ → ℕ → List ℕ → ℕ → ClientOp → Type 0
-Known who calls n db key call asked = (who call ≡ (n, asked)) × (call ≤ calls)
+Known who calls n db key call asked = (who call ≡ (n, asked)) × (call ≤ calls) × (db_of asked ≡ db) × (key_of asked ≡ key)
 
 unfoldable pub CommitFits : Callers → ℕ → ℕ → Option Committing → Type 0
 CommitFits who n db None = Unit {0}
