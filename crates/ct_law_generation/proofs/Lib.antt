@@ -10,4 +10,5 @@ pub mod Forming
 pub mod Pending
 pub mod Staying
 pub mod Following
+pub mod Delivering
 pub mod Concluding
