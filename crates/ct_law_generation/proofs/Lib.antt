@@ -11,4 +11,5 @@ pub mod Pending
 pub mod Staying
 pub mod Following
 pub mod Delivering
+pub mod Calling
 pub mod Concluding
