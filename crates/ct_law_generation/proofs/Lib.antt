@@ -12,4 +12,5 @@ pub mod Staying
 pub mod Following
 pub mod Delivering
 pub mod Calling
+pub mod Putting
 pub mod Concluding
