@@ -39,7 +39,7 @@ use Rattle.ct_law_generation.proofs.Pending.{Callers, Known, KnownAt, DatabaseKn
 use Rattle.ct_law_generation.proofs.Forming.{may_want_comes}
 use Rattle.ct_law_generation.proofs.Staying.{NodeStays}
 use Rattle.ct_law_generation.proofs.Events.{wants_happen, stores_happen, unlocks_happen}
-use Rattle.ct_law_generation.proofs.Following.{Reached, Comes_to, follows}
+use Rattle.ct_law_generation.proofs.Following.{Reached, Comes_to, Goes_on, follows}
 use Rattle.ct_law_generation.proofs.Delivering.{begun, whole_part}
 
 -- the call that comes, before those that wait
@@ -74,7 +74,7 @@ pub record Calls_at (c : Config) (rules : Rules) (who : Callers) (calls n db cal
 -- the node stays as it was, and the world of every record follows
 abbrev pub Goes : Config → Rules → Callers → ℕ → ℕ → ℕ → ClientOp → Cluster → Turn → Type 0
 Goes c rules who calls n call asked w u =
-    NodeStays c rules who calls n u.node × ((db : ℕ) (key : List ℕ) → Follows (scene c rules db key) n (project db key w) (own_pending n call asked ∷ pending w) (makes call (begins (node_at n w))) u)
+    Goes_on c rules who calls n (own_pending n call asked ∷ pending w) (λ db key. project db key w) (makes call (begins (node_at n w))) u
 
 at_call : (c : Config) (rules : Rules) (who : Callers) (calls n db call : ℕ) (key : List ℕ) (asked : ClientOp) (w : Cluster) (e : MoveEvent) (ev : Event) → Calls_at c rules who calls n db call key asked w →
     MayCome (place (scene c rules db key) n (view db key (node_at n w))) (state_at db key (node_at n w)) e → is_from_node e ≡ true →

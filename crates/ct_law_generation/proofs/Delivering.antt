@@ -31,7 +31,7 @@ use Rattle.ct_law_generation.proofs.Pending.{Callers, Known, KnownAt, DatabaseKn
 use Rattle.ct_law_generation.proofs.Forming.{Is_formed, Is_sound_mail, mail_comes}
 use Rattle.ct_law_generation.proofs.Staying.{NodeStays}
 use Rattle.ct_law_generation.proofs.Events.{arrives_at, arrives_not, comes_happen}
-use Rattle.ct_law_generation.proofs.Following.{Reached, Comes_to, follows, finds_waiting}
+use Rattle.ct_law_generation.proofs.Following.{Reached, Comes_to, Goes_on, follows, finds_waiting}
 
 -- ---- where the message is in the mail of its record
 
@@ -99,8 +99,7 @@ pub delivers : (c : Config) (rules : Rules) (who : Callers) (w : Cluster) (k : �
     slice_get w.sent k ≡ Some s → record_in s.frame.msg ≡ Some (db0, key0) → Is_sound_mail (record { sender = s.frame.sender; receiver = s.frame.receiver; msg = s.frame.msg }) →
     (is_current s.frame (node_at s.frame.receiver w) && has_records (kind_at c db0)) ≡ true → Reached (scene c rules db0 key0) (project db0 key0 w) →
     (arrives c rules s.frame.receiver s.frame (begins (node_at s.frame.receiver w)) s.frame.msg).spent ≡ false →
-    NodeStays c rules who w.calls s.frame.receiver (arrives c rules s.frame.receiver s.frame (begins (node_at s.frame.receiver w)) s.frame.msg).node
-    × ((db : ℕ) (key : List ℕ) → Follows (scene c rules db key) s.frame.receiver (project db key w) (pending w) (begins (node_at s.frame.receiver w)) (arrives c rules s.frame.receiver s.frame (begins (node_at s.frame.receiver w)) s.frame.msg))
+    Goes_on c rules who w.calls s.frame.receiver (pending w) (λ db key. project db key w) (begins (node_at s.frame.receiver w)) (arrives c rules s.frame.receiver s.frame (begins (node_at s.frame.receiver w)) s.frame.msg)
 unfolding KnownAt state_at node.view
 delivers c rules who w k s db0 key0 real small member h all at r sound ok reached spent =
     let n = s.frame.receiver in
@@ -109,7 +108,7 @@ delivers c rules who w k s db0 key0 real small member h all at r sound ok reache
     let parts = and_parts (is_current s.frame (node_at n w)) (has_records (kind_at c db0)) ok in
     let inside = has_place c db0 parts.1 in
     let mail = mail_there db0 key0 w.sent k s at r in
-    subst (λ (u : Turn). NodeStays c rules who w.calls n u.node × ((db : ℕ) (key : List ℕ) → Follows (scene c rules db key) n (project db key w) (pending w) t u)) (sym is)
+    subst (λ (u : Turn). Goes_on c rules who w.calls n (pending w) (λ db key. project db key w) t u) (sym is)
     (follows c rules who w.calls n db0 key0 (event.Arrive s.frame.sender s.frame.msg) t (pending w) (waiting_call (state_at db0 key0 (node_at n w)).wish) (λ db key. project db key w) (Comes mail.0) real member h (record {
       has = small db0 inside;
       there = subst (λ (l : ℕ). db0 < l) (sym h.size) inside;

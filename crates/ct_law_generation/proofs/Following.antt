@@ -1,12 +1,13 @@
 -- A step of a node at one record: what follows for the node, for every record's world, and for what is sent.
-use Rattle.std.proofs.Common.{◌≡◌, ◌≢◌, ℕ, ◌+◌, ◌<◌, ◌≤◌, ◌^◌, Bool, true, false, cond, List, [], ◌∷◌, ◌++◌, map, length, Option, Some, None, refl, sym, ap, ◌∙◌, arith, subst, ⊎_elim}
+use Rattle.std.proofs.Common.{◌≡◌, ◌≢◌, ℕ, ◌+◌, ◌<◌, ◌≤◌, ◌^◌, Bool, true, false, cond, List, [], ◌∷◌, ◌++◌, ◌||◌, map, length, Option, Some, None, refl, sym, ap, ◌∙◌, arith, subst, ⊎_elim}
 use Rattle.std.specs.Prelude.{nat_eq, ◌⊎◌}
 use Rattle.std.specs.List.{list_all, list_any, AllByRecursion}
-use Rattle.std.proofs.lemmas.Bool.{cases_eq, cond_both, eqb-true}
+use Rattle.std.proofs.lemmas.Bool.{cases_eq, cond_both, eqb-true, ne_eqb, and_parts}
 use Rattle.ct_msg.specs.declared.client.Answer.{Answer}
 use Rattle.ct_msg.specs.declared.client.ClientOp.{ClientOp}
 use Rattle.ct_msg.specs.declared.config.Config.{Config}
 use Rattle.ct_frame.specs.Fields.{is_db, is_node}
+use Rattle.ct_frame.specs.declared.frame.Msg.{Msg}
 use Rattle.ct_call.specs.Rules.{Rules}
 use Rattle.ct_rules.specs.Form.{MayCome}
 use Rattle.ct_rules.specs.Sent.{is_from_node}
@@ -19,9 +20,10 @@ use Rattle.ct_rules.proofs.Growing.{move_grows}
 use Rattle.ct_rules_node.specs.Node.{Node, state_at}
 use Rattle.ct_rules_node.specs.Turn.{Turn}
 use Rattle.ct_rules_node.specs.Records as node
-use Rattle.ct_rules_node.specs.Records.{at_record, place_of}
+use Rattle.ct_rules_node.specs.Records.{out_of, acted, at_record, place_of}
 use Rattle.ct_rules_node.specs.Laws.{left_by}
-use Rattle.ct_cluster.specs.Cluster.{Cluster, everyone, node_at, pending}
+use Rattle.ct_cluster.specs.Steps.{frames_of}
+use Rattle.ct_cluster.specs.Cluster.{Cluster, Sent, everyone, node_at, pending}
 use Rattle.ct_cluster.specs.Labels.{Label, Answered}
 use Rattle.ct_cluster.specs.Traces.{answered}
 use Rattle.ct_cluster.specs.declared.step.PendingCall.{PendingCall}
@@ -29,10 +31,11 @@ use Rattle.ct_register.specs.Register.{newborn}
 use Rattle.ct_register.specs.Legal.{db_of, key_of}
 use Rattle.ct_register.specs.Words.{is_in}
 use Rattle.ct_law_record.specs.Labels as law
-use Rattle.ct_law_record.specs.World.{Scene, View, World, Event, opening, last, trace, happens, put, place, starts, view_of, told, waiting_call, own_call, Stepped}
+use Rattle.ct_law_record.specs.World.{Scene, View, World, Event, opening, last, trace, happens, put, place, starts, view_of, told, sent, waiting_call, own_call, Stepped}
 use Rattle.ct_law_record.proofs.Law.{proved}
 use Rattle.ct_law_generation.specs.Shown.{scene, view, is_it, AllAsked, Finds, amid, Follows}
-use Rattle.ct_law_generation.proofs.Hearing.{accepts_asked, asked_left, asked_right}
+use Rattle.ct_law_generation.proofs.Plain.{AllPlain, plain_more, plain_sends}
+use Rattle.ct_law_generation.proofs.Hearing.{frames_more, accepts_asked, asked_left, asked_right}
 use Rattle.ct_law_generation.proofs.Speaking.{Told, move_told}
 use Rattle.ct_law_generation.proofs.Wishing.{Wishful}
 use Rattle.ct_law_generation.proofs.Pending.{Callers, Fits, is_call, Known, KnownAt, NodeKnown, answered_as, pending_fits, pending_has}
@@ -117,14 +120,49 @@ fair c rules who calls n db key e t pend asks w ev real member h k =
       asked = subst (λ (x : Stepped). AllAsked x.labels) (k.is_event ∙ put_world (scene c rules db key) (amid db key n w t) n asks o member k.whole) (asked_by_law (scene c rules db key) (amid db key n w t) ev real k.reached);
     }
 
--- an event at a record of the node: the node stays as it was, every record's world follows
+-- what it sends keeps the rules of its fields
+sends_sound : (c : Config) (rules : Rules) (who : Callers) (calls n db : ℕ) (key : List ℕ) (e : MoveEvent) (t : Turn) (pend : List PendingCall) (asks : ℕ → Option ClientOp) (w : World) (ev : Event) → is_node n ≡ true →
+    NodeStays c rules who calls n t.node → Comes_to c rules who calls n db key e t pend asks w ev → AllByRecursion Is_sound_mail (sent n (left_by c n db key (λ at o. move at rules e o) t).acts)
+sends_sound c rules who calls n db key e t pend asks w ev node h k =
+    let is = left_is c rules n db key e t h.members in
+    subst (λ (o : Moving). AllByRecursion Is_sound_mail (sent n o.acts)) (sym is)
+    (sound_moves (scene c rules db key) n (view db key t.node) e k.has node (h.formed db key) k.may k.from (ap (λ (o : Moving). o.spent) (sym is) ∙ k.whole))
+
+all_plain : (c : Config) (n db : ℕ) (key : List ℕ) (part : Place → Moving → Moving) (t : Turn) (p : Msg → Bool) → Told (place_of c n db key t.node) (left_by c n db key part t).acts → AllByRecursion Is_sound_mail (sent n (left_by c n db key part t).acts) →
+    AllPlain p (frames_of t.outs) → AllPlain p (frames_of (at_record c n db key part t).outs)
+unfolding at_record acted place_of
+all_plain c n db key part t p told sound before =
+    subst (λ (l : List Sent). AllPlain p l) (sym (frames_more t.outs (map (out_of t.node.generation n db key) (left_by c n db key part t).acts)))
+    (plain_more p (frames_of t.outs) _ before (plain_sends p (place_of c n db key t.node) t.node.generation n (left_by c n db key part t).acts told sound))
+
+node_of : (n : ℕ) (ns : List ℕ) → list_all is_node ns ≡ true → is_in n ns ≡ true → is_node n ≡ true
+unfolding is_in
+node_of n [] all e = absurd (cc)
+node_of n (m ∷ ms) all e = ⊎_elim
+    (λ (is : n ≡ m). subst (λ (x : ℕ). is_node x ≡ true) (sym is) (and_parts _ _ all).0)
+    (λ (ne : n ≢ m). node_of n ms (and_parts _ _ all).1 (rest (nat_eq n m) _ (ne_eqb n m ne) e))
+    (cases_eq n m)
+  where
+    rest : (a b : Bool) → a ≡ false → (a || b) ≡ true → b ≡ true
+    rest true b e k = absurd (cc)
+    rest false b e k = k
+
+-- what follows of a step from one turn to another: the node stays as it was, every record's world follows, and plain
+-- messages are sent
+abbrev pub Goes_on : Config → Rules → Callers → ℕ → ℕ → List PendingCall → (ℕ → List ℕ → World) → Turn → Turn → Type 0
+Goes_on c rules who calls n pend ws t u =
+    NodeStays c rules who calls n u.node × ((db : ℕ) (key : List ℕ) → Follows (scene c rules db key) n (ws db key) pend t u) × ((p : Msg → Bool) → AllPlain p (frames_of t.outs) → AllPlain p (frames_of u.outs))
+
+-- so it is of an event at a record of the node
 pub follows : (c : Config) (rules : Rules) (who : Callers) (calls n db0 : ℕ) (key0 : List ℕ) (e : MoveEvent) (t : Turn) (pend : List PendingCall) (asks : ℕ → Option ClientOp) (ws : ℕ → List ℕ → World) (ev : Event) → list_all is_node (everyone c) ≡ true → is_in n (everyone c) ≡ true →
     NodeStays c rules who calls n t.node → Comes_to c rules who calls n db0 key0 e t pend asks (ws db0 key0) ev →
-    NodeStays c rules who calls n (at_record c n db0 key0 (λ at o. move at rules e o) t).node × ((db : ℕ) (key : List ℕ) → Follows (scene c rules db key) n (ws db key) pend t (at_record c n db0 key0 (λ at o. move at rules e o) t))
-follows c rules who calls n db0 key0 e t pend asks ws ev real member h k = (
-  stays_at c rules who calls n db0 key0 (λ at o. move at rules e o) t h (sure c rules who calls n db0 key0 e t pend asks (ws db0 key0) ev h k),
-  each_follows c rules n db0 key0 (λ at o. move at rules e o) t pend asks ws ev (fair c rules who calls n db0 key0 e t pend asks (ws db0 key0) ev real member h k) k.is_event,
-)
+    Goes_on c rules who calls n pend ws t (at_record c n db0 key0 (λ at o. move at rules e o) t)
+follows c rules who calls n db0 key0 e t pend asks ws ev real member h k =
+    let f = fair c rules who calls n db0 key0 e t pend asks (ws db0 key0) ev real member h k in (
+      stays_at c rules who calls n db0 key0 (λ at o. move at rules e o) t h (sure c rules who calls n db0 key0 e t pend asks (ws db0 key0) ev h k),
+      each_follows c rules n db0 key0 (λ at o. move at rules e o) t pend asks ws ev f k.is_event,
+      λ p before. all_plain c n db0 key0 (λ at o. move at rules e o) t p f.sends (sends_sound c rules who calls n db0 key0 e t pend asks (ws db0 key0) ev (node_of n (everyone c) real member) h k) before,
+    )
 
 -- ---- whose the answers are
 

@@ -8,9 +8,11 @@ pub mod Amid
 pub mod Events
 pub mod Forming
 pub mod Pending
+pub mod Plain
 pub mod Staying
 pub mod Following
 pub mod Delivering
 pub mod Calling
 pub mod Putting
+pub mod Clusters
 pub mod Concluding
