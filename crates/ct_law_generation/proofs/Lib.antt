@@ -15,4 +15,5 @@ pub mod Delivering
 pub mod Calling
 pub mod Putting
 pub mod Clusters
+pub mod Coming
 pub mod Concluding
