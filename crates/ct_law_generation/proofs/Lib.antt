@@ -16,4 +16,5 @@ pub mod Calling
 pub mod Putting
 pub mod Clusters
 pub mod Coming
+pub mod Opening
 pub mod Concluding
