@@ -17,4 +17,5 @@ pub mod Putting
 pub mod Clusters
 pub mod Coming
 pub mod Opening
+pub mod Counting
 pub mod Concluding

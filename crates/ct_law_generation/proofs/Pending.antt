@@ -101,9 +101,9 @@ right_any f (x ∷ xs) ys e = right_case (f x) (list_any f (xs ++ ys)) (right_an
 unfoldable pub Known : Callers → ℕ → ℕ → ℕ → List ℕ → ℕ → ClientOp → Type 0
 Known who calls n db key call asked = (who call ≡ (n, asked)) × (call ≤ calls) × (db_of asked ≡ db) × (key_of asked ≡ key)
 
-unfoldable pub CommitFits : Callers → ℕ → ℕ → Option Committing → Type 0
-CommitFits who n db None = Unit {0}
-CommitFits who n db (Some x) = who x.call ≡ (n, op.Commit db x.writes)
+unfoldable pub CommitFits : Callers → ℕ → ℕ → ℕ → Option Committing → Type 0
+CommitFits who calls n db None = Unit {0}
+CommitFits who calls n db (Some x) = (who x.call ≡ (n, op.Commit db x.writes)) × (x.call ≤ calls)
 
 unfoldable pub KnownAt : Callers → ℕ → ℕ → ℕ → List ℕ → Option RecState → Type 0
 KnownAt who calls n db key s = Wishful (Known who calls n db key) (or_nothing s).wish
@@ -111,7 +111,7 @@ KnownAt who calls n db key s = Wishful (Known who calls n db key) (or_nothing s)
 -- of every call that waits in a database of the node, it is known who made it and what it asked
 pub record DatabaseKnown (who : Callers) (calls n db : ℕ) (d : Database) : Type 0 where
   pub records : (key : List ℕ) → KnownAt who calls n db key (look key d.records)
-  pub commit : CommitFits who n db d.commit
+  pub commit : CommitFits who calls n db d.commit
 
 pub record NodeKnown (who : Callers) (calls n : ℕ) (x : Node) : Type 0 where
   pub order : AllAscend x.dbs
@@ -166,10 +166,10 @@ records_any n (x ∷ m) key w e = records_case n m x.1 (look key m) w (is_eq (ke
 
 -- ---- all databases of a node
 
-committing_fits : (who : Callers) (n db : ℕ) (x : Option Committing) → CommitFits who n db x → AllByRecursion (Fits who) (committing n db x)
+committing_fits : (who : Callers) (calls n db : ℕ) (x : Option Committing) → CommitFits who calls n db x → AllByRecursion (Fits who) (committing n db x)
 unfolding CommitFits committing Fits
-committing_fits who n db None h = tt
-committing_fits who n db (Some x) h = (h, tt)
+committing_fits who calls n db None h = tt
+committing_fits who calls n db (Some x) h = (h.0, tt)
 
 next_index : (i k : ℕ) → i + suc k ≡ (i + 1) + k
 next_index i k = omega arith
@@ -184,7 +184,7 @@ node_fits who calls n i [] h all = tt
 node_fits who calls n i (d ∷ ds) h all =
     let first : DatabaseKnown who calls n i d = subst (λ (j : ℕ). DatabaseKnown who calls n j d) (omega arith) (all 0) in
     both_all (Fits who) (wished_in n d.records ++ committing n i d.commit) (pending_in n (i + 1) ds)
-    (both_all (Fits who) (wished_in n d.records) (committing n i d.commit) (records_fit who calls n i d.records h.0 first.records) (committing_fits who n i d.commit first.commit))
+    (both_all (Fits who) (wished_in n d.records) (committing n i d.commit) (records_fit who calls n i d.records h.0 first.records) (committing_fits who calls n i d.commit first.commit))
     (node_fits who calls n (i + 1) ds h.1 (λ k. subst (λ (j : ℕ). DatabaseKnown who calls n j (or_untouched (slice_get ds k))) (next_index i k) (all (suc k))))
 
 node_any : (n i k : ℕ) (ds : List Database) (key : List ℕ) (w : Wish) → (or_nothing (look key (or_untouched (slice_get ds k)).records)).wish ≡ Some w → list_any (is_call w.call) (pending_in n i ds) ≡ true
