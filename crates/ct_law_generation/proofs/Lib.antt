@@ -18,4 +18,5 @@ pub mod Clusters
 pub mod Coming
 pub mod Opening
 pub mod Counting
+pub mod Called
 pub mod Concluding
