@@ -19,4 +19,5 @@ pub mod Coming
 pub mod Opening
 pub mod Counting
 pub mod Called
+pub mod Admitted
 pub mod Concluding
