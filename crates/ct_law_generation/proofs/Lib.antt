@@ -20,4 +20,5 @@ pub mod Opening
 pub mod Counting
 pub mod Called
 pub mod Admitted
+pub mod Served
 pub mod Concluding
