@@ -21,4 +21,5 @@ pub mod Counting
 pub mod Called
 pub mod Admitted
 pub mod Served
+pub mod Clients
 pub mod Concluding
