@@ -22,4 +22,5 @@ pub mod Called
 pub mod Admitted
 pub mod Served
 pub mod Clients
+pub mod Lining
 pub mod Concluding
