@@ -23,4 +23,5 @@ pub mod Admitted
 pub mod Served
 pub mod Clients
 pub mod Lining
+pub mod Refusing
 pub mod Concluding
