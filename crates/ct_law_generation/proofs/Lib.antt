@@ -24,4 +24,5 @@ pub mod Served
 pub mod Clients
 pub mod Lining
 pub mod Refusing
+pub mod Refused
 pub mod Concluding
