@@ -25,4 +25,5 @@ pub mod Clients
 pub mod Lining
 pub mod Refusing
 pub mod Refused
+pub mod Fed
 pub mod Concluding
