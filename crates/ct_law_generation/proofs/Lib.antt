@@ -26,4 +26,5 @@ pub mod Lining
 pub mod Refusing
 pub mod Refused
 pub mod Fed
+pub mod Delivered
 pub mod Concluding
