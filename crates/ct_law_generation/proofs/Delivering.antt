@@ -1,0 +1,122 @@
+-- A message of a record comes to its receiver.
+use Rattle.std.proofs.Common.{◌≡◌, ◌≢◌, ℕ, zero, suc, ◌+◌, ◌<◌, ◌≤◌, Bool, true, false, cond, ◌&&◌, ◌||◌, List, [], ◌∷◌, ◌++◌, length, Option, Some, None, refl, sym, ap, ◌∙◌, append-nil, arith, subst, ⊎_elim}
+use Rattle.std.specs.Prelude.{nat_eq, nat_lt, slice_get, ◌⊎◌}
+use Rattle.std.specs.List.{list_all, AllByRecursion}
+use Rattle.std.proofs.lemmas.Bool.{cases_eq, cond_both, eqb-true, and_parts}
+use Rattle.ct_msg.specs.declared.config.Config.{Config}
+use Rattle.ct_msg.specs.declared.config.DbDecl.{DbDecl}
+use Rattle.ct_frame.specs.Fields.{is_db, is_node}
+use Rattle.ct_frame.specs.declared.frame.Frame.{Frame}
+use Rattle.ct_frame.specs.declared.event.Out.{Out}
+use Rattle.ct_call.specs.Rules.{Rules}
+use Rattle.ct_rules.specs.Moves.{arrive}
+use Rattle.ct_rules.specs.Parts.{Moving}
+use Rattle.ct_rules.specs.declared.event.MoveEvent.TheVariants as event
+use Rattle.ct_rules.specs.declared.event.Place.{Place}
+use Rattle.ct_rules_node.specs.Node.{Node, state_at, has_records, kind_at, kind_in}
+use Rattle.ct_rules_node.specs.Turn.{Turn, begins}
+use Rattle.ct_rules_node.specs.Records as node
+use Rattle.ct_rules_node.specs.Records.{acted, at_record, place_of}
+use Rattle.ct_rules_node.specs.Admission.{record_in, is_current}
+use Rattle.ct_rules_node.specs.Steps.{arrives}
+use Rattle.ct_rules_node.specs.Laws.{left_by}
+use Rattle.ct_cluster.specs.Cluster.{Cluster, Sent, everyone, node_at, pending}
+use Rattle.ct_cluster.specs.Steps.{frames_of}
+use Rattle.ct_register.specs.Words.{is_in}
+use Rattle.ct_law_record.specs.World.{Scene, View, Mail, World, Event, Comes, waiting_call}
+use Rattle.ct_law_generation.specs.Shown.{scene, view, is_it, mail_of, mails, project, amid, Follows}
+use Rattle.ct_law_generation.proofs.Weave.{it_is_itself}
+use Rattle.ct_law_generation.proofs.Wishing.{Wishful, arrive_wish}
+use Rattle.ct_law_generation.proofs.Pending.{Callers, Known, KnownAt, DatabaseKnown, NodeKnown}
+use Rattle.ct_law_generation.proofs.Forming.{Is_formed, Is_sound_mail, mail_comes}
+use Rattle.ct_law_generation.proofs.Staying.{NodeStays}
+use Rattle.ct_law_generation.proofs.Events.{arrives_at, arrives_not, comes_happen}
+use Rattle.ct_law_generation.proofs.Following.{Reached, Comes_to, Goes_on, follows, finds_waiting}
+
+-- ---- where the message is in the mail of its record
+
+further : (ys xs : List Mail) (m : Mail) → (which : ℕ) × (slice_get xs which ≡ Some m) → (which : ℕ) × (slice_get (ys ++ xs) which ≡ Some m)
+further [] xs m h = h
+further (y ∷ ys) xs m h = (let p = further ys xs m h in (suc p.0, p.1))
+
+longer : (xs ys : List Mail) (which : ℕ) (m : Mail) → slice_get xs which ≡ Some m → slice_get (xs ++ ys) which ≡ Some m
+longer [] ys which m e = absurd (cc)
+longer (x ∷ xs) ys zero m e = e
+longer (x ∷ xs) ys (suc k) m e = longer xs ys k m e
+
+own_mail : (db : ℕ) (key : List ℕ) (f : Frame) (rest : List Mail) → record_in f.msg ≡ Some (db, key) → slice_get (mail_of db key f (record_in f.msg) ++ rest) 0 ≡ Some (record { sender = f.sender; receiver = f.receiver; msg = f.msg })
+unfolding mail_of
+own_mail db key f rest e = rw e (rw (it_is_itself db key) refl)
+
+pub mail_there : (db : ℕ) (key : List ℕ) (sent : List Sent) (k : ℕ) (s : Sent) → slice_get sent k ≡ Some s → record_in s.frame.msg ≡ Some (db, key) →
+    (which : ℕ) × (slice_get (mails db key sent) which ≡ Some (record { sender = s.frame.sender; receiver = s.frame.receiver; msg = s.frame.msg }))
+unfolding mails
+mail_there db key [] k s e r = absurd (cc)
+mail_there db key (x ∷ xs) zero s e r =
+    let same : s ≡ x = cc in
+    subst (λ (y : Sent). (which : ℕ) × (slice_get (mail_of db key y.frame (record_in y.frame.msg) ++ mails db key xs) which ≡ Some (record { sender = s.frame.sender; receiver = s.frame.receiver; msg = s.frame.msg }))) same
+    (0, own_mail db key s.frame (mails db key xs) r)
+mail_there db key (x ∷ xs) (suc k) s e r = further (mail_of db key x.frame (record_in x.frame.msg)) (mails db key xs) _ (mail_there db key xs k s e r)
+
+-- ---- a step begins
+
+begun_node : (db : ℕ) (key : List ℕ) (n : ℕ) (w : Cluster) (k : ℕ) → view db key (node_at k w) ≡ cond (nat_eq k n) (view db key (node_at n w)) (view db key (node_at k w))
+begun_node db key n w k = cond_both (nat_eq k n) _ _ (λ (v : View). view db key (node_at k w) ≡ v) (λ t. ap (λ (j : ℕ). view db key (node_at j w)) (eqb-true k n t)) (λ _. refl)
+
+-- amid a step that has just begun the world is that of the cluster
+pub begun : (db : ℕ) (key : List ℕ) (n : ℕ) (w : Cluster) → project db key w ≡ amid db key n (project db key w) (begins (node_at n w))
+unfolding frames_of mails
+begun db key n w = (let mail : mails db key w.sent ≡ mails db key w.sent ++ [] = sym (append-nil (mails db key w.sent)) in
+    λ i. record { nodes = λ k. begun_node db key n w k i; mail = mail i })
+
+-- ---- the database of the record
+
+kind_there : (dbs : List DbDecl) (db : ℕ) → has_records (kind_in (slice_get dbs db)) ≡ true → db < length dbs
+unfolding has_records kind_in
+kind_there [] db e = absurd (cc)
+kind_there (d ∷ ds) zero e = omega arith
+kind_there (d ∷ ds) (suc k) e = (let l = kind_there ds k e in omega arith)
+
+pub has_place : (c : Config) (db : ℕ) → has_records (kind_at c db) ≡ true → db < length c.dbs
+unfolding kind_at
+has_place c db e = kind_there c.dbs db e
+
+-- the rule of the record was whole where the step is
+pub whole_part : (c : Config) (n db : ℕ) (key : List ℕ) (part : Place → Moving → Moving) (t : Turn) → (at_record c n db key part t).spent ≡ false → (left_by c n db key part t).spent ≡ false
+unfolding at_record acted
+whole_part c n db key part t e = second t.spent (left_by c n db key part t).spent e
+  where
+    second : (a b : Bool) → (a || b) ≡ false → b ≡ false
+    second true b e = absurd (cc)
+    second false b e = e
+
+-- ---- the message is followed
+
+-- A message of a record that was sent comes to its receiver, which follows it: the receiver stays as it was, and the world of
+-- every record follows.
+pub delivers : (c : Config) (rules : Rules) (who : Callers) (w : Cluster) (k : ℕ) (s : Sent) (db0 : ℕ) (key0 : List ℕ) → list_all is_node (everyone c) ≡ true → ((db : ℕ) → db < length c.dbs → is_db db ≡ true) →
+    is_in s.frame.receiver (everyone c) ≡ true → NodeStays c rules who w.calls s.frame.receiver (node_at s.frame.receiver w) → ((m : ℕ) → NodeKnown who w.calls m (node_at m w)) →
+    slice_get w.sent k ≡ Some s → record_in s.frame.msg ≡ Some (db0, key0) → Is_sound_mail (record { sender = s.frame.sender; receiver = s.frame.receiver; msg = s.frame.msg }) →
+    (is_current s.frame (node_at s.frame.receiver w) && has_records (kind_at c db0)) ≡ true → Reached (scene c rules db0 key0) (project db0 key0 w) →
+    (arrives c rules s.frame.receiver s.frame (begins (node_at s.frame.receiver w)) s.frame.msg).spent ≡ false →
+    Goes_on c rules who w.calls s.frame.receiver (pending w) (λ db key. project db key w) (begins (node_at s.frame.receiver w)) (arrives c rules s.frame.receiver s.frame (begins (node_at s.frame.receiver w)) s.frame.msg)
+unfolding KnownAt state_at node.view
+delivers c rules who w k s db0 key0 real small member h all at r sound ok reached spent =
+    let n = s.frame.receiver in
+    let t = begins (node_at n w) in
+    let is = arrives_at c rules n s.frame t db0 key0 r ok in
+    let parts = and_parts (is_current s.frame (node_at n w)) (has_records (kind_at c db0)) ok in
+    let inside = has_place c db0 parts.1 in
+    let mail = mail_there db0 key0 w.sent k s at r in
+    subst (λ (u : Turn). Goes_on c rules who w.calls n (pending w) (λ db key. project db key w) t u) (sym is)
+    (follows c rules who w.calls n db0 key0 (event.Arrive s.frame.sender s.frame.msg) t (pending w) (waiting_call (state_at db0 key0 (node_at n w)).wish) (λ db key. project db key w) (Comes mail.0) real member h (record {
+      has = small db0 inside;
+      there = subst (λ (l : ℕ). db0 < l) (sym h.size) inside;
+      may = mail_comes (scene c rules db0 key0) n (view db0 key0 (node_at n w)) _ sound;
+      from = sound.sender;
+      whole = whole_part c n db0 key0 (λ at o. arrive at rules s.frame.sender s.frame.msg o) t (sym (ap (λ (u : Turn). u.spent) is) ∙ spent);
+      known = arrive_wish (Known who w.calls n db0 key0) (place_of c n db0 key0 (node_at n w)) rules s.frame.sender s.frame.msg (node.view db0 key0 (node_at n w)) ((h.known.dbs db0).records key0);
+      finds = finds_waiting who w.calls n db0 key0 w all;
+      reached = (reached.0, reached.1 ∙ begun db0 key0 n w);
+      is_event = comes_happen c rules n db0 mail.0 s.frame.sender key0 s.frame.msg t (project db0 key0 w) h.members (longer (mails db0 key0 w.sent) _ mail.0 _ mail.1);
+    }))

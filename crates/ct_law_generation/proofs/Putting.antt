@@ -1,0 +1,91 @@
+-- The step of a node becomes the cluster's: what the cluster shows of each record then, and the schedules that lead to it.
+use Rattle.std.proofs.Common.{◌≡◌, ◌≢◌, ℕ, zero, suc, ◌+◌, ◌<◌, ◌≤◌, Bool, true, false, cond, List, [], ◌∷◌, ◌++◌, length, Option, Some, None, get_or, set, get_or-set_same, get_or-set_other, refl, sym, ap, ◌∙◌, append-nil, arith, subst, ⊎_elim}
+use Rattle.std.specs.Prelude.{nat_eq, slice_get, slice_set}
+use Rattle.std.proofs.lemmas.Bool.{cases_eq, cond_both, eqb-true, eqb-false}
+use Rattle.ct_msg.specs.declared.config.Config.{Config}
+use Rattle.ct_call.specs.Rules.{Rules}
+use Rattle.ct_rules_node.specs.Node.{Node}
+use Rattle.ct_rules_node.specs.Turn.{Turn, begins}
+use Rattle.ct_rules_node.specs.Admission.{record_in}
+use Rattle.ct_cluster.specs.Cluster.{Cluster, Sent, Fate, absent, or_absent, node_at, pending}
+use Rattle.ct_cluster.specs.Labels.{Label}
+use Rattle.ct_cluster.specs.Steps.{frames_of, with_node, put, with_fate}
+use Rattle.ct_cluster.specs.declared.step.Line.{Line}
+use Rattle.ct_cluster.specs.declared.step.PendingCall.{PendingCall}
+use Rattle.ct_law_record.specs.Labels as law
+use Rattle.ct_law_record.specs.World.{Scene, View, Mail, World, Event, opening, last, trace}
+use Rattle.ct_law_generation.specs.Shown.{scene, view, mail_of, mails, told_by_all, heard, labels_of, project, amid, Follows, Schedules}
+use Rattle.ct_law_generation.proofs.Hearing.{mails_more, told_by_more, heard_more}
+use Rattle.ct_law_generation.proofs.Following.{last_more, trace_more}
+
+-- ---- the nodes
+
+or_get : (ns : List Node) (i : ℕ) → or_absent (slice_get ns i) ≡ get_or ns i absent
+unfolding or_absent
+or_get [] i = refl
+or_get (x ∷ xs) zero = refl
+or_get (x ∷ xs) (suc i) = or_get xs i
+
+pub own_node : (n : ℕ) (x : Node) (w : Cluster) → n < length w.nodes → node_at n (with_node n x w) ≡ x
+unfolding node_at with_node
+own_node n x w l = or_get (set w.nodes n x) n ∙ get_or-set_same w.nodes n x absent l
+
+pub other_node : (n k : ℕ) (x : Node) (w : Cluster) → k ≢ n → node_at k (with_node n x w) ≡ node_at k w
+unfolding node_at with_node
+other_node n k x w ne = or_get (set w.nodes n x) k ∙ get_or-set_other w.nodes n k x absent ne ∙ sym (or_get w.nodes k)
+
+put_node : (db : ℕ) (key : List ℕ) (n k : ℕ) (x : Node) (w : Cluster) → n < length w.nodes → view db key (node_at k (with_node n x w)) ≡ cond (nat_eq k n) (view db key x) (view db key (node_at k w))
+put_node db key n k x w l = cond_both (nat_eq k n) _ _ (λ (v : View). view db key (node_at k (with_node n x w)) ≡ v)
+    (λ t. subst (λ (j : ℕ). view db key (node_at j (with_node n x w)) ≡ view db key x) (sym (eqb-true k n t)) (ap (view db key) (own_node n x w l)))
+    (λ f. ap (view db key) (other_node n k x w (eqb-false k n f)))
+
+-- the cluster shows what there was amid the step at its end
+pub put_shows : (db : ℕ) (key : List ℕ) (n : ℕ) (u : Turn) (own : List Line) (w : Cluster) → n < length w.nodes → project db key (put n u own w).cluster ≡ amid db key n (project db key w) u
+unfolding put with_node node_at
+put_shows db key n u own w l = (let mail = mails_more db key w.sent (frames_of u.outs) in
+    λ i. record { nodes = λ k. put_node db key n k u.node w l i; mail = mail i })
+
+-- ---- what became of a message does not show
+
+fates : (db : ℕ) (key : List ℕ) (ss : List Sent) (k : ℕ) (s : Sent) (f : Fate) → slice_get ss k ≡ Some s → mails db key (set ss k (record s { fate = f })) ≡ mails db key ss
+unfolding mails
+fates db key [] k s f e = absurd (cc)
+fates db key (x ∷ xs) zero s f e = (let same : s ≡ x = cc in ap (λ (y : Sent). mail_of db key y.frame (record_in y.frame.msg) ++ mails db key xs) same)
+fates db key (x ∷ xs) (suc k) s f e = ap (λ (l : List Mail). mail_of db key x.frame (record_in x.frame.msg) ++ l) (fates db key xs k s f e)
+
+pub fate_hidden : (db : ℕ) (key : List ℕ) (k : ℕ) (s : Sent) (f : Fate) (w : Cluster) → slice_get w.sent k ≡ Some s → project db key (with_fate (suc k) s f w) ≡ project db key w
+unfolding with_fate node_at
+fate_hidden db key k s f w e = ap (λ (l : List Mail). record { nodes = λ n. view db key (node_at n w); mail = l }) (fates db key w.sent k s f e)
+
+-- nor does it change which calls wait
+pub fate_waits : (k : ℕ) (s : Sent) (f : Fate) (w : Cluster) → pending (with_fate (suc k) s f w) ≡ pending w
+unfolding with_fate pending
+fate_waits k s f w = refl
+
+-- ---- the schedules go on
+
+-- the world of a record goes on by these events
+extended : (s : Scene) (w v : World) (es fs : List Event) (told more : List law.Label) → last s opening es ≡ w → heard (trace s opening es) ≡ told → last s w fs ≡ v → heard (trace s w fs) ≡ more →
+    (last s opening (es ++ fs) ≡ v) × (heard (trace s opening (es ++ fs)) ≡ told ++ more)
+extended s w v es fs told more at tells to tells_more = (
+  last_more s opening es fs ∙ ap (λ (x : World). last s x fs) at ∙ to,
+  ap heard (trace_more s opening es fs) ∙ heard_more (trace s opening es) (trace s (last s opening es) fs)
+      ∙ (λ i. tells i ++ heard (trace s (at i) fs)) ∙ ap (λ (l : List law.Label). told ++ l) tells_more,
+)
+
+-- Schedules that lead to a cluster go on to what a step of a node makes of it, where each record's world follows the step
+-- from its beginning.
+pub extends : (c : Config) (rules : Rules) (n : ℕ) (t u : Turn) (own : List Line) (w : Cluster) (pend : List PendingCall) (labels : List Label) (es : ℕ → List ℕ → List Event) → n < length w.nodes → t.outs ≡ [] →
+    ((db : ℕ) (key : List ℕ) → project db key w ≡ amid db key n (project db key w) t) → Schedules c rules w labels es →
+    (follow : (db : ℕ) (key : List ℕ) → Follows (scene c rules db key) n (project db key w) pend t u) →
+    Schedules c rules (put n u own w).cluster (labels ++ labels_of n pend u.outs) (λ db key. es db key ++ (follow db key).0)
+unfolding labels_of told_by_all
+extends c rules n t u own w pend labels es l empty begun h follow db key =
+    let f = follow db key in
+    let s = scene c rules db key in
+    let none : told_by_all db key (labels_of n pend t.outs) ≡ [] = ap (λ xs. told_by_all db key (labels_of n pend xs)) empty in
+    let tells : heard (trace s (project db key w) f.0) ≡ told_by_all db key (labels_of n pend u.outs) =
+    ap (λ (x : World). heard (trace s x f.0)) (begun db key) ∙ sym (f.1.labels ∙ ap (λ (l : List law.Label). l ++ heard (trace s (amid db key n (project db key w) t) f.0)) none) in
+    let to : last s (project db key w) f.0 ≡ project db key (put n u own w).cluster = ap (λ (x : World). last s x f.0) (begun db key) ∙ f.1.world ∙ sym (put_shows db key n u own w l) in
+    let p = extended s (project db key w) (project db key (put n u own w).cluster) (es db key) f.0 (told_by_all db key labels) (told_by_all db key (labels_of n pend u.outs)) (h db key).0 (h db key).1 to tells in
+    (p.0, p.1 ∙ sym (told_by_more db key labels (labels_of n pend u.outs)))
