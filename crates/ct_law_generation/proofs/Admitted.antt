@@ -1,6 +1,6 @@
 -- What a call that is not refused may do.
-use Rattle.std.proofs.Common.{◌≡◌, ℕ, Bool, true, false, cond, not, ◌&&◌, ◌||◌, List, [], ◌∷◌, Option, Some, None, refl, sym, ap, ◌∙◌, arith, subst}
-use Rattle.std.specs.Prelude.{is_some, is_none}
+use Rattle.std.proofs.Common.{◌≡◌, ℕ, true, List, ◌∷◌, Option, Some, None, refl, arith}
+use Rattle.std.specs.Prelude.{is_some}
 use Rattle.ct_msg.specs.declared.client.ClientOp.{ClientOp}
 use Rattle.ct_msg.specs.declared.client.ClientOp.TheVariants as op
 use Rattle.ct_msg.specs.declared.client.Why.{Why}
@@ -8,8 +8,6 @@ use Rattle.ct_msg.specs.declared.config.Config.{Config}
 use Rattle.ct_call.specs.Rules.{Rules}
 use Rattle.ct_rules.specs.Form.{is_wanting}
 use Rattle.ct_rules.specs.State.{is_read_op}
-use Rattle.ct_rules.specs.declared.state.RecState.{RecState}
-use Rattle.ct_rules.specs.declared.state.Wish.{Wish}
 use Rattle.ct_rules_node.specs.Node.{Node, state_at}
 use Rattle.ct_rules_node.specs.Clients.{refusal, first_of, refused_if, call_pending, pending_of, already_locked, not_locked, no_such_db, wrong_kind, wants_record, wants_change, is_read, is_under_lock, is_commit, is_locked, db_of, key_of}
 use Rattle.ct_law_record.specs.World.{may_want}

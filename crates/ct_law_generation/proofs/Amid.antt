@@ -1,7 +1,7 @@
 -- A step at one record of a node, in the world of each record.
-use Rattle.std.proofs.Common.{◌≡◌, ◌≢◌, ℕ, ◌<◌, ◌≤◌, Bool, true, false, cond, List, [], ◌∷◌, ◌++◌, map, length, Option, Some, None, refl, sym, ap, ◌∙◌, append-nil, arith, subst, ⊎_elim, inl, inr}
-use Rattle.std.specs.Prelude.{nat_eq, nat_le, not, ◌&&◌, ◌⊎◌}
-use Rattle.std.proofs.lemmas.Bool.{cases_eq, cond_both, eq-eqb, ne_eqb, eqb-true}
+use Rattle.std.proofs.Common.{◌≡◌, ◌≢◌, ℕ, ◌<◌, ◌≤◌, Bool, true, false, cond, List, [], ◌∷◌, ◌++◌, map, length, Option, refl, sym, ap, ◌∙◌, append-nil, arith, subst, ⊎_elim, inl, inr}
+use Rattle.std.specs.Prelude.{nat_eq, not, ◌&&◌, ◌⊎◌}
+use Rattle.std.proofs.lemmas.Bool.{cases_eq, eq-eqb}
 use Rattle.ct_msg.specs.declared.client.ClientOp.{ClientOp}
 use Rattle.ct_msg.specs.declared.config.Config.{Config}
 use Rattle.ct_frame.specs.declared.event.Out.{Out}
@@ -11,25 +11,23 @@ use Rattle.ct_rules.specs.Frames.{greater}
 use Rattle.ct_rules.specs.Laws.{Grows}
 use Rattle.ct_rules.specs.Moves.{begins}
 use Rattle.ct_rules.specs.Parts.{Moving}
-use Rattle.ct_rules.specs.declared.event.Act.{Act}
 use Rattle.ct_rules.specs.declared.event.Place.{Place}
-use Rattle.ct_rules.specs.declared.state.RecState.{RecState}
-use Rattle.ct_rules_node.specs.Node.{Node, Database, db_at, with_db, state_at, or_nothing, master_of, or_untouched}
+use Rattle.ct_rules_node.specs.Node.{Node, Database, db_at, with_db, state_at, or_nothing, master_of}
 use Rattle.ct_rules_node.specs.Turn.{Turn}
 use Rattle.ct_rules_node.specs.Records as node
 use Rattle.ct_rules_node.specs.Records.{out_of, kept, put_back, acted, at_record, place_of}
-use Rattle.ct_rules_node.specs.Laws.{unless_blank, NodeAscends, IsAtRecord, left_by}
-use Rattle.ct_rules_node.proofs.AtRecord.{moves_at, at_set, at_other}
+use Rattle.ct_rules_node.specs.Laws.{unless_blank, NodeAscends, left_by}
+use Rattle.ct_rules_node.proofs.AtRecord.{moves_at, at_set}
 use Rattle.ct_cluster.specs.Cluster.{everyone}
 use Rattle.ct_cluster.specs.Steps.{frames_of}
 use Rattle.ct_cluster.specs.declared.step.PendingCall.{PendingCall}
 use Rattle.ct_register.specs.Words.{is_in}
 use Rattle.ct_law_record.specs.Labels as law
-use Rattle.ct_law_record.specs.World.{Scene, View, Mail, World, Event, Rises, place, starts, view_of, told, sent, Stepped, put, happens, trace, last, waiting_call}
-use Rattle.ct_law_generation.specs.Shown.{scene, view, is_it, mails, told_by_all, heard, AllAsked, labels_of, Finds, amid, Comes_by, Follows}
-use Rattle.ct_law_generation.proofs.Weave.{it_is, it_is_itself}
+use Rattle.ct_law_record.specs.World.{Scene, View, Mail, World, Event, Rises, place, view_of, told, sent, Stepped, put, happens, waiting_call}
+use Rattle.ct_law_generation.specs.Shown.{scene, view, is_it, mails, told_by_all, heard, AllAsked, labels_of, Finds, amid, Comes_by}
+use Rattle.ct_law_generation.proofs.Weave.{it_is_itself}
 use Rattle.ct_law_generation.proofs.Speaking.{Told}
-use Rattle.ct_law_generation.proofs.Hearing.{frames_more, mails_more, mails_same, mails_other, labels_more, told_by_more, heard_more}
+use Rattle.ct_law_generation.proofs.Hearing.{frames_more, mails_more, mails_same, mails_other, labels_more, told_by_more}
 use Rattle.ct_law_generation.proofs.Telling.{hear_same, hear_other}
 
 -- ---- the node after the step
@@ -58,15 +56,16 @@ place_is c rules n db key t e = ap (λ (ms : List ℕ). place (record (scene c r
 pub self : (db : ℕ) (key : List ℕ) (n : ℕ) (w : World) (t : Turn) → (amid db key n w t).nodes n ≡ view db key t.node
 self db key n w t = ap (λ (b : Bool). cond b (view db key t.node) (w.nodes n)) (eq-eqb n n refl)
 
-goes : (a b : Bool) → a ≡ true → b ≡ false → (a && not b) ≡ true
-goes true false a b = refl
-goes true true a b = absurd (cc)
-goes false b a e = absurd (cc)
+goes : (a j b : Bool) → a ≡ true → j ≡ true → b ≡ false → (a && j && not b) ≡ true
+goes true true false a e b = refl
+goes true true true a e b = absurd (cc)
+goes true false b a e c = absurd (cc)
+goes false j b a e c = absurd (cc)
 
-pub put_world : (s : Scene) (w : World) (n : ℕ) (asks : ℕ → Option ClientOp) (o : Moving) → is_in n s.members ≡ true → o.spent ≡ false →
-    put s w n asks o ≡ record { world = record { nodes = λ k. cond (nat_eq k n) (view_of o) (w.nodes k); mail = w.mail ++ sent n o.acts }; labels = told n asks o.acts }
-put_world s w n asks o a e = (let g : (is_in n s.members && not o.spent) ≡ true = goes (is_in n s.members) o.spent a e in
-    λ i. cond (g i) (record { world = record { nodes = λ k. cond (nat_eq k n) (view_of o) (w.nodes k); mail = w.mail ++ sent n o.acts }; labels = told n asks o.acts }) (record { world = w; labels = [] }))
+pub put_world : (s : Scene) (w : World) (n : ℕ) (asks : ℕ → Option ClientOp) (o : Moving) → is_in n s.members ≡ true → w.joined n ≡ true → o.spent ≡ false →
+    put s w n asks o ≡ record { world = record { nodes = λ k. cond (nat_eq k n) (view_of o) (w.nodes k); joined = w.joined; mail = w.mail ++ sent n o.acts }; labels = told n asks o.acts }
+put_world s w n asks o a here e = (let g : (is_in n s.members && w.joined n && not o.spent) ≡ true = goes (is_in n s.members) (w.joined n) o.spent a here e in
+    λ i. cond (g i) (record { world = record { nodes = λ k. cond (nat_eq k n) (view_of o) (w.nodes k); joined = w.joined; mail = w.mail ++ sent n o.acts }; labels = told n asks o.acts }) (record { world = w; labels = [] }))
 
 list_more : {X : Type 0} (xs ys zs : List X) → (xs ++ ys) ++ zs ≡ xs ++ (ys ++ zs)
 list_more [] ys zs = refl
@@ -111,13 +110,13 @@ pub own_step : (c : Config) (rules : Rules) (n db : ℕ) (key : List ℕ) (part 
 unfolding at_record acted place_of
 own_step c rules n db key part t calls asks w e f h =
     let o = left_by c n db key part t in
-    let all = h ∙ put_world (scene c rules db key) (amid db key n w t) n asks o f.member f.whole in
+    let all = h ∙ put_world (scene c rules db key) (amid db key n w t) n asks o f.member refl f.whole in
     let seen = seen_same c n db key part t o refl f.order f.has f.blank in
     let nodes : (k : ℕ) → cond (nat_eq k n) (view_of o) (cond (nat_eq k n) (view db key t.node) (w.nodes k)) ≡ cond (nat_eq k n) (view db key (at_record c n db key part t).node) (w.nodes k)
     = λ k. if_same (nat_eq k n) (view_of o) (view db key t.node) (w.nodes k) ∙ ap (λ (v : View). cond (nat_eq k n) v (w.nodes k)) (sym seen) in
     let mail = mail_after db key w.mail t.outs (map (out_of t.node.generation n db key) o.acts) (sent n o.acts) (mails_same (place_of c n db key t.node) t.node.generation n o.acts f.sends) in
     record {
-      world = ap (λ (x : Stepped). x.world) all ∙ (λ i. record { nodes = λ k. nodes k i; mail = mail i });
+      world = ap (λ (x : Stepped). x.world) all ∙ (λ i. record { nodes = λ k. nodes k i; joined = λ _. true; mail = mail i });
       labels = labels_after db key n calls t.outs (map (out_of t.node.generation n db key) o.acts) _ (hear_same db key t.node.generation n calls asks o.acts f.finds f.asked)
           ∙ ap (λ (l : List law.Label). told_by_all db key (labels_of n calls t.outs) ++ heard l) (sym (append-nil (told n asks o.acts)) ∙ ap (λ (x : Stepped). x.labels ++ []) (sym all));
     }
@@ -186,13 +185,13 @@ unfolding at_record acted place_of rises sent told heard
 other_step c rules n db0 db key0 key part t calls asks w f e =
     let u = at_record c n db0 key0 part t in
     let o = left_by c n db0 key0 part t in
-    let all = rises_happens (scene c rules db key) n w t u ∙ put_world (scene c rules db key) (amid db key n w t) n (waiting_call (state_at db key t.node).wish) (rises db key t u) f.member refl in
+    let all = rises_happens (scene c rules db key) n w t u ∙ put_world (scene c rules db key) (amid db key n w t) n (waiting_call (state_at db key t.node).wish) (rises db key t u) f.member refl refl in
     let seen = risen c n db0 db key0 key part t calls asks f e in
     let nodes : (k : ℕ) → cond (nat_eq k n) (view_of (rises db key t u)) (cond (nat_eq k n) (view db key t.node) (w.nodes k)) ≡ cond (nat_eq k n) (view db key u.node) (w.nodes k)
     = λ k. if_same (nat_eq k n) (view_of (rises db key t u)) (view db key t.node) (w.nodes k) ∙ ap (λ (v : View). cond (nat_eq k n) v (w.nodes k)) seen in
     let mail = mail_after db key w.mail t.outs (map (out_of t.node.generation n db0 key0) o.acts) [] (mails_other (place_of c n db0 key0 t.node) db key t.node.generation n o.acts e f.sends) in
     record {
-      world = ap (λ (x : Stepped). x.world) all ∙ (λ i. record { nodes = λ k. nodes k i; mail = mail i });
+      world = ap (λ (x : Stepped). x.world) all ∙ (λ i. record { nodes = λ k. nodes k i; joined = λ _. true; mail = mail i });
       labels = labels_after db key n calls t.outs (map (out_of t.node.generation n db0 key0) o.acts) _ (hear_other db db0 key key0 t.node.generation n calls asks o.acts e f.finds f.asked)
           ∙ ap (λ (x : Stepped). told_by_all db key (labels_of n calls t.outs) ++ heard (x.labels ++ [])) (sym all);
     }

@@ -1,6 +1,5 @@
 -- A client's call on a record comes to a node of the cluster: it is the call of its number, and the cluster goes on.
-use Rattle.std.proofs.Common.{◌≡◌, ℕ, ◌+◌, ◌<◌, ◌≤◌, Bool, true, List, [], ◌∷◌, ◌++◌, length, refl, sym, ap, ◌∙◌, arith, subst}
-use Rattle.std.specs.Prelude.{nat_lt}
+use Rattle.std.proofs.Common.{◌≡◌, ℕ, ◌+◌, ◌<◌, Bool, true, List, [], ◌∷◌, ◌++◌, length, refl, arith}
 use Rattle.std.specs.List.{list_all}
 use Rattle.ct_msg.specs.declared.client.ClientOp.{ClientOp}
 use Rattle.ct_msg.specs.declared.config.Config.{Config}
@@ -13,7 +12,7 @@ use Rattle.ct_cluster.specs.Labels.{Label}
 use Rattle.ct_cluster.specs.Steps.{put}
 use Rattle.ct_register.specs.Legal.{db_of, key_of}
 use Rattle.ct_law_record.specs.World as law
-use Rattle.ct_law_generation.specs.Shown.{project, labels_of, Schedules}
+use Rattle.ct_law_generation.specs.Shown.{labels_of, Schedules}
 use Rattle.ct_law_generation.proofs.Pending.{Callers}
 use Rattle.ct_law_generation.proofs.Delivering.{begun}
 use Rattle.ct_law_generation.proofs.Calling.{own_pending, Calls_at, Goes}

@@ -1,45 +1,38 @@
 -- A client's call on a record that is not refused.
-use Rattle.std.proofs.Common.{◌≡◌, ◌≢◌, ℕ, zero, suc, ◌+◌, ◌<◌, ◌≤◌, Bool, true, false, cond, not, ◌&&◌, ◌||◌, List, [], ◌∷◌, ◌++◌, length, Option, Some, None, refl, sym, ap, ◌∙◌, append-nil, arith, subst, ⊎_elim}
-use Rattle.std.specs.Prelude.{nat_eq, is_some, is_none, ◌⊎◌}
-use Rattle.std.specs.List.{list_all, AllByRecursion}
+use Rattle.std.proofs.Common.{◌≡◌, ℕ, ◌<◌, ◌≤◌, Bool, true, false, cond, List, [], ◌∷◌, length, Option, Some, None, refl, sym, ap, ◌∙◌, subst}
+use Rattle.std.specs.Prelude.{nat_eq, is_some}
+use Rattle.std.specs.List.{list_all}
 use Rattle.std.proofs.lemmas.Bool.{cond_both, eqb-true, eq-eqb}
-use Rattle.ct_msg.specs.declared.client.Answer.{Answer}
 use Rattle.ct_msg.specs.declared.client.ClientOp.{ClientOp}
 use Rattle.ct_msg.specs.declared.client.ClientOp.TheVariants as op
-use Rattle.ct_msg.specs.declared.client.Why.{Why}
 use Rattle.ct_msg.specs.declared.config.Config.{Config}
 use Rattle.ct_frame.specs.Fields.{is_db, is_node}
 use Rattle.ct_call.specs.Rules.{Rules}
-use Rattle.ct_rules.specs.Form.{MayCome, is_wanting}
-use Rattle.ct_rules.specs.State.{is_read_op}
+use Rattle.ct_rules.specs.Form.{MayCome}
 use Rattle.ct_rules.specs.Sent.{is_from_node}
 use Rattle.ct_rules.specs.Moves.{move, store, unlock}
-use Rattle.ct_rules.specs.Parts.{Moving, want}
+use Rattle.ct_rules.specs.Parts.{want}
 use Rattle.ct_rules.specs.declared.event.MoveEvent.{MoveEvent}
 use Rattle.ct_rules.specs.declared.event.MoveEvent.TheVariants as event
-use Rattle.ct_rules.specs.declared.event.Place.{Place}
-use Rattle.ct_rules.specs.declared.state.Wish.{Wish}
-use Rattle.ct_rules_node.specs.Node.{Node, Phase, Serving, state_at, has_records, is_persistent, kind_at}
+use Rattle.ct_rules_node.specs.Node.{state_at}
 use Rattle.ct_rules_node.specs.Turn.{Turn, begins, makes}
 use Rattle.ct_rules_node.specs.Records as node
 use Rattle.ct_rules_node.specs.Records.{at_record, place_of}
-use Rattle.ct_rules_node.specs.Clients as clients
-use Rattle.ct_rules_node.specs.Clients.{refusal, client, serves_or, serves, reads, unlocks, first_of, refused_if, call_pending, pending_of, already_locked, not_locked, no_such_db, wrong_kind, wants_record, wants_change, is_read, is_under_lock, is_locked}
 use Rattle.ct_rules_node.specs.Laws.{left_by}
 use Rattle.ct_cluster.specs.Cluster.{Cluster, everyone, node_at, pending}
-use Rattle.ct_cluster.specs.Labels.{Label, Answered}
+use Rattle.ct_cluster.specs.Labels.{Answered}
 use Rattle.ct_cluster.specs.Traces.{answered}
 use Rattle.ct_cluster.specs.declared.step.PendingCall.{PendingCall}
 use Rattle.ct_register.specs.Legal.{db_of, key_of}
 use Rattle.ct_register.specs.Words.{is_in}
-use Rattle.ct_law_record.specs.World.{Scene, View, World, Event, Wants, Stores, Unlocks, happens, put, place, own_call, may_want}
-use Rattle.ct_law_generation.specs.Shown.{scene, view, project, amid, Finds, Follows}
+use Rattle.ct_law_record.specs.World.{Event, Wants, Stores, Unlocks, happens, put, place, own_call, may_want}
+use Rattle.ct_law_generation.specs.Shown.{scene, view, project, amid, Finds}
 use Rattle.ct_law_generation.proofs.Wishing.{Wishful, want_wish, store_wish, unlock_wish}
-use Rattle.ct_law_generation.proofs.Pending.{Callers, Known, KnownAt, DatabaseKnown, NodeKnown}
+use Rattle.ct_law_generation.proofs.Pending.{Callers, Known, KnownAt}
 use Rattle.ct_law_generation.proofs.Forming.{may_want_comes}
 use Rattle.ct_law_generation.proofs.Staying.{NodeStays}
 use Rattle.ct_law_generation.proofs.Events.{wants_happen, stores_happen, unlocks_happen}
-use Rattle.ct_law_generation.proofs.Following.{Reached, Comes_to, Goes_on, follows}
+use Rattle.ct_law_generation.proofs.Following.{Reached, Goes_on, follows}
 use Rattle.ct_law_generation.proofs.Delivering.{begun, whole_part}
 
 -- the call that comes, before those that wait

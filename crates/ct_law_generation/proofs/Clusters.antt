@@ -1,29 +1,18 @@
 -- What holds of the cluster in its first generation stays so when a message of a record is delivered or comes again.
-use Rattle.std.proofs.Common.{◌≡◌, ◌≢◌, ℕ, zero, suc, ◌+◌, ◌<◌, ◌≤◌, Bool, true, false, cond, ◌&&◌, List, [], ◌∷◌, ◌++◌, map, length, Option, Some, None, set, refl, sym, ap, ◌∙◌, append-nil, arith, subst, ⊎_elim, inl, inr}
-use Rattle.std.specs.Prelude.{nat_eq, nat_lt, slice_get, slice_set, ◌⊎◌}
-use Rattle.std.specs.List.{list_all, AllByRecursion}
-use Rattle.std.proofs.lemmas.Bool.{cases_eq, cond_both, eqb-true, ltb-true}
+use Rattle.std.proofs.Common.{◌≡◌, ◌≢◌, ℕ, zero, suc, ◌<◌, Bool, true, false, List, [], ◌∷◌, length, Some, None, refl, sym, ap, ◌∙◌, arith, subst, ⊎_elim, inl, inr}
+use Rattle.std.specs.Prelude.{nat_lt, slice_get, ◌⊎◌}
+use Rattle.std.proofs.lemmas.Bool.{cases_eq}
 use Rattle.std.proofs.lemmas.List.{length-set}
 use Rattle.ct_msg.specs.declared.config.Config.{Config}
-use Rattle.ct_frame.specs.Fields.{is_db, is_node}
-use Rattle.ct_frame.specs.declared.frame.Frame.{Frame}
 use Rattle.ct_frame.specs.declared.frame.Msg.{Msg}
-use Rattle.ct_frame.specs.declared.event.Out.{Out}
 use Rattle.ct_call.specs.Rules.{Rules}
-use Rattle.ct_rules.specs.declared.event.Act.{Act}
-use Rattle.ct_rules.specs.declared.event.Act.TheVariants as act
-use Rattle.ct_rules.specs.declared.event.Place.{Place}
-use Rattle.ct_rules_node.specs.Node.{Node, Database, has_records, kind_at, db_at, or_untouched, untouched}
+use Rattle.ct_rules_node.specs.Node.{Node, db_at, or_untouched, untouched}
 use Rattle.ct_rules_node.specs.Laws.{AllAscend}
-use Rattle.ct_rules_node.specs.Turn.{Turn, begins}
-use Rattle.ct_rules_node.specs.Records.{out_of}
-use Rattle.ct_rules_node.specs.Admission.{record_in, is_current}
-use Rattle.ct_rules_node.specs.Steps.{arrives}
-use Rattle.ct_cluster.specs.Cluster.{Cluster, Sent, Fate, Waiting, absent, or_absent, everyone, is_up, node_at, pending}
+use Rattle.ct_rules_node.specs.Turn.{Turn}
+use Rattle.ct_cluster.specs.Cluster.{Cluster, Sent, Fate, absent, or_absent, is_up, node_at}
 use Rattle.ct_cluster.specs.Steps.{frames_of, with_node, put, with_fate}
-use Rattle.ct_law_record.specs.World.{Scene, Mail, sent, sends}
-use Rattle.ct_law_generation.proofs.Plain.{IsPlain, AllPlain, plain_more, plain_at, plain_fate}
-use Rattle.ct_law_generation.proofs.Pending.{Callers, KnownAt, CommitFits, DatabaseKnown, NodeKnown, none_known}
+use Rattle.ct_law_generation.proofs.Plain.{AllPlain, plain_more, plain_at, plain_fate}
+use Rattle.ct_law_generation.proofs.Pending.{Callers, CommitFits, NodeKnown, none_known}
 use Rattle.ct_law_generation.proofs.Staying.{NodeStays}
 use Rattle.ct_law_generation.proofs.Putting.{own_node, other_node}
 

@@ -1,36 +1,30 @@
 -- A message of a record is delivered, or comes again: the cluster stays so, and the schedules of all records go on.
-use Rattle.std.proofs.Common.{◌≡◌, ◌≢◌, ℕ, zero, suc, ◌+◌, ◌<◌, ◌≤◌, Bool, true, false, cond, ◌&&◌, ◌||◌, List, [], ◌∷◌, ◌++◌, length, Option, Some, None, set, refl, sym, ap, ◌∙◌, append-nil, arith, subst, ⊎_elim}
-use Rattle.std.specs.Prelude.{nat_eq, nat_lt, slice_get, slice_set, ◌⊎◌, Result, Ok, Err}
-use Rattle.std.specs.List.{list_all, AllByRecursion}
-use Rattle.std.proofs.lemmas.Bool.{cases_eq, cond_both, eqb-true, eq-eqb, ltb-true}
+use Rattle.std.proofs.Common.{◌≡◌, ◌≢◌, ℕ, zero, suc, ◌+◌, ◌<◌, ◌≤◌, Bool, true, false, ◌&&◌, ◌||◌, List, [], ◌++◌, length, Some, refl, sym, ap, ◌∙◌, append-nil, arith, subst, ⊎_elim}
+use Rattle.std.specs.Prelude.{nat_eq, nat_lt, slice_get}
+use Rattle.std.specs.List.{list_all}
+use Rattle.std.proofs.lemmas.Bool.{cases_eq, eq-eqb, ltb-true}
 use Rattle.ct_msg.specs.declared.config.Config.{Config}
 use Rattle.ct_frame.specs.Fields.{is_db, is_node}
-use Rattle.ct_frame.specs.declared.event.Event.TheVariants as event
-use Rattle.ct_frame.specs.declared.event.Event.{Event}
-use Rattle.ct_frame.specs.declared.frame.Frame.{Frame}
 use Rattle.ct_frame.specs.declared.frame.Msg.{Msg}
 use Rattle.ct_call.specs.Rules.{Rules}
-use Rattle.ct_rules_node.specs.Node.{Node, has_records, kind_at}
+use Rattle.ct_rules_node.specs.Node.{has_records, kind_at}
 use Rattle.ct_rules_node.specs.Turn.{Turn, begins}
 use Rattle.ct_rules_node.specs.Admission.{record_in, is_current}
-use Rattle.ct_rules_node.specs.Steps.{arrives, happens, stepped, unless_spent}
-use Rattle.ct_cluster.specs.Cluster.{Cluster, Sent, Fate, Delivered, Dropped, numbers, everyone, is_up, node_at, pending}
+use Rattle.ct_rules_node.specs.Steps.{arrives}
+use Rattle.ct_cluster.specs.Cluster.{Cluster, Sent, Fate, numbers, everyone, is_up, node_at, pending}
 use Rattle.ct_cluster.specs.Labels.{Label}
-use Rattle.ct_cluster.specs.Steps.{Stepped, frames_of, put, with_fate, is_counted, if_counted, fed_of, fed, done, deliver}
-use Rattle.ct_cluster.specs.declared.step.Line.{Line}
+use Rattle.ct_cluster.specs.Steps.{frames_of, put, with_fate}
 use Rattle.ct_cluster.specs.declared.step.PendingCall.{PendingCall}
-use Rattle.ct_cluster.specs.declared.step.StepFault.{StepFault}
 use Rattle.ct_register.specs.Words.{is_in}
 use Rattle.ct_law_record.specs.World.{Scene, Mail, World}
 use Rattle.ct_law_record.specs.World as law
-use Rattle.ct_law_generation.specs.Shown.{scene, project, amid, Comes_by, Follows, heard, labels_of, told_by_all, Schedules}
+use Rattle.ct_law_generation.specs.Shown.{project, heard, labels_of, Schedules}
 use Rattle.ct_law_generation.proofs.Weave.{true_or_false}
-use Rattle.ct_law_generation.proofs.Plain.{IsPlain, AllPlain}
 use Rattle.ct_law_generation.proofs.Pending.{Callers}
 use Rattle.ct_law_generation.proofs.Forming.{Is_sound_mail}
 use Rattle.ct_law_generation.proofs.Staying.{NodeStays}
 use Rattle.ct_law_generation.proofs.Events.{arrives_not}
-use Rattle.ct_law_generation.proofs.Following.{Reached, Goes_on}
+use Rattle.ct_law_generation.proofs.Following.{Goes_on}
 use Rattle.ct_law_generation.proofs.Delivering.{begun, delivers}
 use Rattle.ct_law_generation.proofs.Putting.{extends, fate_hidden}
 use Rattle.ct_law_generation.proofs.Clusters.{ClusterStays, all_known, fate_stays, put_stays}

@@ -1,6 +1,6 @@
 -- Where a run is a schedule of each record's world, the registers of line 1 accept what it tells of records, and its last
 -- cluster stands for them.
-use Rattle.std.proofs.Common.{◌≡◌, ◌≢◌, ℕ, ◌<◌, Bool, true, false, cond, List, [], ◌∷◌, length, Option, Some, None, refl, sym, ap, ◌∙◌, arith, subst, ⊎_elim}
+use Rattle.std.proofs.Common.{◌≡◌, ℕ, true, List, [], refl, sym, subst}
 use Rattle.std.specs.List.{list_all, AllByRecursion}
 use Rattle.ct_msg.specs.declared.config.Config.{Config}
 use Rattle.ct_frame.specs.Fields.{is_node}
@@ -8,21 +8,20 @@ use Rattle.ct_call.specs.Rules.{Rules}
 use Rattle.ct_cluster.specs.Cluster.{Cluster, everyone}
 use Rattle.ct_cluster.specs.Labels.{Label}
 use Rattle.ct_cluster.specs.Traces.{Ran}
-use Rattle.ct_register.specs.Register.{Register, newborn}
+use Rattle.ct_register.specs.Register.{newborn}
 use Rattle.ct_register.specs.Lines
 use Rattle.ct_register.specs.Lines.{Lines}
-use Rattle.ct_register.proofs.Places.{at_same}
 use Rattle.ct_promise.specs.Generation.{record_labels, KeepsRecords}
 use Rattle.ct_law_record.specs.Labels.{AcceptsAll}
-use Rattle.ct_law_record.specs.World.{World, View, Event, Stands, opening, last, trace, Leads_to}
+use Rattle.ct_law_record.specs.World.{World, Event, Stands, opening, trace, LeadsTo}
 use Rattle.ct_law_record.proofs.Law.{proved}
-use Rattle.ct_law_generation.specs.Shown.{scene, view, project, Shows, heard, told_by_all, IsOfLineOne, Schedules}
+use Rattle.ct_law_generation.specs.Shown.{scene, project, IsOfLineOne, Schedules}
 use Rattle.ct_law_generation.proofs.Weave.{Each, weave}
-use Rattle.ct_law_generation.proofs.Standing.{OneLine, EachStands, records_stand}
+use Rattle.ct_law_generation.proofs.Standing.{OneLine, records_stand}
 use Rattle.ct_law_generation.proofs.Hearing.{accepts_heard}
 
 -- the register that the schedule of a record leads to
-register_of : (config : Config) (rules : Rules) (es : ℕ → List ℕ → List Event) → list_all is_node (everyone config) ≡ true → (db : ℕ) (key : List ℕ) → Leads_to (scene config rules db key) opening (newborn []) (es db key)
+register_of : (config : Config) (rules : Rules) (es : ℕ → List ℕ → List Event) → list_all is_node (everyone config) ≡ true → (db : ℕ) (key : List ℕ) → LeadsTo (scene config rules db key) opening (newborn []) (es db key)
 register_of config rules es real db key = proved (scene config rules db key) (es db key) real
 
 each_accepts : (config : Config) (rules : Rules) (c : Cluster) (labels : List Label) (es : ℕ → List ℕ → List Event) (real : list_all is_node (everyone config) ≡ true) → Schedules config rules c labels es →

@@ -1,5 +1,5 @@
 -- A call gets the next number: what is known of the calls before it stays so.
-use Rattle.std.proofs.Common.{◌≡◌, ◌≢◌, ℕ, ◌+◌, ◌<◌, ◌≤◌, Bool, true, false, cond, List, [], ◌∷◌, ◌++◌, length, Option, Some, None, refl, sym, ap, ◌∙◌, arith, subst}
+use Rattle.std.proofs.Common.{◌≡◌, ℕ, ◌+◌, ◌<◌, ◌≤◌, Bool, true, cond, List, [], ◌++◌, length, Option, Some, None, refl, sym, ap, ◌∙◌, arith, subst}
 use Rattle.std.specs.Prelude.{nat_eq, nat_lt}
 use Rattle.std.proofs.lemmas.Bool.{ne_eqb, eq-eqb, ltb-true}
 use Rattle.ct_msg.specs.declared.client.ClientOp.{ClientOp}
@@ -7,16 +7,16 @@ use Rattle.ct_msg.specs.declared.config.Config.{Config}
 use Rattle.ct_frame.specs.declared.frame.Msg.{Msg}
 use Rattle.ct_call.specs.Rules.{Rules}
 use Rattle.ct_rules.specs.declared.state.Wish.{Wish}
-use Rattle.ct_rules_node.specs.Node.{Node, Database, Committing, or_nothing}
+use Rattle.ct_rules_node.specs.Node.{Node, Committing}
 use Rattle.ct_rules_node.specs.Turn.{Turn}
-use Rattle.ct_cluster.specs.Cluster.{Cluster, is_up, node_at, pending}
+use Rattle.ct_cluster.specs.Cluster.{Cluster, is_up, node_at}
 use Rattle.ct_cluster.specs.Labels.{Label}
 use Rattle.ct_cluster.specs.Steps.{frames_of, put}
 use Rattle.ct_cluster.specs.declared.step.PendingCall.{PendingCall}
 use Rattle.ct_law_record.specs.World as law
 use Rattle.ct_law_generation.specs.Shown.{project, amid, labels_of, Schedules}
 use Rattle.ct_law_generation.proofs.Wishing.{Wishful}
-use Rattle.ct_law_generation.proofs.Pending.{Callers, Known, KnownAt, CommitFits, DatabaseKnown, NodeKnown}
+use Rattle.ct_law_generation.proofs.Pending.{Callers, Known, KnownAt, CommitFits, NodeKnown}
 use Rattle.ct_law_generation.proofs.Staying.{NodeStays}
 use Rattle.ct_law_generation.proofs.Following.{Goes_on}
 use Rattle.ct_law_generation.proofs.Plain.{AllPlain}

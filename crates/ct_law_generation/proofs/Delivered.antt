@@ -1,19 +1,18 @@
 -- Deliver and Repeat of a message of a record, as the cluster takes them.
-use Rattle.std.proofs.Common.{◌≡◌, ℕ, suc, ◌<◌, Bool, true, false, cond, List, [], ◌∷◌, ◌++◌, length, Option, Some, None, refl, sym, ap, ◌∙◌, append-nil, subst}
-use Rattle.std.specs.Prelude.{slice_get, Result, Ok, Err}
+use Rattle.std.proofs.Common.{◌≡◌, ℕ, ◌<◌, Bool, true, List, [], ◌++◌, length, Some, sym, subst}
+use Rattle.std.specs.Prelude.{slice_get, Ok}
 use Rattle.std.specs.List.{list_all}
 use Rattle.ct_msg.specs.declared.config.Config.{Config}
 use Rattle.ct_frame.specs.Fields.{is_db, is_node}
 use Rattle.ct_frame.specs.declared.event.Event.TheVariants as event
 use Rattle.ct_frame.specs.declared.frame.Msg.{Msg}
 use Rattle.ct_call.specs.Rules.{Rules}
-use Rattle.ct_rules_node.specs.Turn.{Turn, begins}
+use Rattle.ct_rules_node.specs.Turn.{begins}
 use Rattle.ct_rules_node.specs.Admission.{record_in}
 use Rattle.ct_rules_node.specs.Steps.{happens, arrives}
 use Rattle.ct_cluster.specs.Cluster.{Cluster, Sent, everyone, is_up, node_at, pending}
 use Rattle.ct_cluster.specs.Labels.{Label}
-use Rattle.ct_cluster.specs.Steps.{Stepped, put, fed}
-use Rattle.ct_cluster.specs.declared.step.StepFault.{StepFault}
+use Rattle.ct_cluster.specs.Steps.{Stepped, fed}
 use Rattle.ct_law_record.specs.World as law
 use Rattle.ct_law_generation.specs.Shown.{labels_of, Schedules}
 use Rattle.ct_law_generation.proofs.Pending.{Callers}

@@ -1,19 +1,18 @@
 -- A message of a record comes to its receiver.
-use Rattle.std.proofs.Common.{◌≡◌, ◌≢◌, ℕ, zero, suc, ◌+◌, ◌<◌, ◌≤◌, Bool, true, false, cond, ◌&&◌, ◌||◌, List, [], ◌∷◌, ◌++◌, length, Option, Some, None, refl, sym, ap, ◌∙◌, append-nil, arith, subst, ⊎_elim}
-use Rattle.std.specs.Prelude.{nat_eq, nat_lt, slice_get, ◌⊎◌}
-use Rattle.std.specs.List.{list_all, AllByRecursion}
-use Rattle.std.proofs.lemmas.Bool.{cases_eq, cond_both, eqb-true, and_parts}
+use Rattle.std.proofs.Common.{◌≡◌, ℕ, zero, suc, ◌<◌, Bool, true, false, cond, ◌&&◌, ◌||◌, List, [], ◌∷◌, ◌++◌, length, Some, refl, sym, ap, ◌∙◌, append-nil, arith, subst}
+use Rattle.std.specs.Prelude.{nat_eq, slice_get}
+use Rattle.std.specs.List.{list_all}
+use Rattle.std.proofs.lemmas.Bool.{cond_both, eqb-true, and_parts}
 use Rattle.ct_msg.specs.declared.config.Config.{Config}
 use Rattle.ct_msg.specs.declared.config.DbDecl.{DbDecl}
 use Rattle.ct_frame.specs.Fields.{is_db, is_node}
 use Rattle.ct_frame.specs.declared.frame.Frame.{Frame}
-use Rattle.ct_frame.specs.declared.event.Out.{Out}
 use Rattle.ct_call.specs.Rules.{Rules}
 use Rattle.ct_rules.specs.Moves.{arrive}
 use Rattle.ct_rules.specs.Parts.{Moving}
 use Rattle.ct_rules.specs.declared.event.MoveEvent.TheVariants as event
 use Rattle.ct_rules.specs.declared.event.Place.{Place}
-use Rattle.ct_rules_node.specs.Node.{Node, state_at, has_records, kind_at, kind_in}
+use Rattle.ct_rules_node.specs.Node.{state_at, has_records, kind_at, kind_in}
 use Rattle.ct_rules_node.specs.Turn.{Turn, begins}
 use Rattle.ct_rules_node.specs.Records as node
 use Rattle.ct_rules_node.specs.Records.{acted, at_record, place_of}
@@ -23,15 +22,15 @@ use Rattle.ct_rules_node.specs.Laws.{left_by}
 use Rattle.ct_cluster.specs.Cluster.{Cluster, Sent, everyone, node_at, pending}
 use Rattle.ct_cluster.specs.Steps.{frames_of}
 use Rattle.ct_register.specs.Words.{is_in}
-use Rattle.ct_law_record.specs.World.{Scene, View, Mail, World, Event, Comes, waiting_call}
-use Rattle.ct_law_generation.specs.Shown.{scene, view, is_it, mail_of, mails, project, amid, Follows}
+use Rattle.ct_law_record.specs.World.{View, Mail, Comes, waiting_call}
+use Rattle.ct_law_generation.specs.Shown.{scene, view, mail_of, mails, project, amid}
 use Rattle.ct_law_generation.proofs.Weave.{it_is_itself}
-use Rattle.ct_law_generation.proofs.Wishing.{Wishful, arrive_wish}
-use Rattle.ct_law_generation.proofs.Pending.{Callers, Known, KnownAt, DatabaseKnown, NodeKnown}
-use Rattle.ct_law_generation.proofs.Forming.{Is_formed, Is_sound_mail, mail_comes}
+use Rattle.ct_law_generation.proofs.Wishing.{arrive_wish}
+use Rattle.ct_law_generation.proofs.Pending.{Callers, Known, KnownAt, NodeKnown}
+use Rattle.ct_law_generation.proofs.Forming.{Is_sound_mail, mail_comes}
 use Rattle.ct_law_generation.proofs.Staying.{NodeStays}
-use Rattle.ct_law_generation.proofs.Events.{arrives_at, arrives_not, comes_happen}
-use Rattle.ct_law_generation.proofs.Following.{Reached, Comes_to, Goes_on, follows, finds_waiting}
+use Rattle.ct_law_generation.proofs.Events.{arrives_at, comes_happen}
+use Rattle.ct_law_generation.proofs.Following.{Reached, Goes_on, follows, finds_waiting}
 
 -- ---- where the message is in the mail of its record
 
@@ -67,7 +66,7 @@ begun_node db key n w k = cond_both (nat_eq k n) _ _ (λ (v : View). view db key
 pub begun : (db : ℕ) (key : List ℕ) (n : ℕ) (w : Cluster) → project db key w ≡ amid db key n (project db key w) (begins (node_at n w))
 unfolding frames_of mails
 begun db key n w = (let mail : mails db key w.sent ≡ mails db key w.sent ++ [] = sym (append-nil (mails db key w.sent)) in
-    λ i. record { nodes = λ k. begun_node db key n w k i; mail = mail i })
+    λ i. record { nodes = λ k. begun_node db key n w k i; joined = λ _. true; mail = mail i })
 
 -- ---- the database of the record
 

@@ -1,7 +1,6 @@
 -- What happens at one record of a node is an event of that record's world.
-use Rattle.std.proofs.Common.{◌≡◌, ◌≢◌, ℕ, ◌<◌, Bool, true, false, cond, List, [], ◌∷◌, length, Option, Some, None, refl, sym, ap, ◌∙◌, arith, subst, ⊎_elim}
-use Rattle.std.specs.Prelude.{nat_eq, is_some, is_none, ◌&&◌, slice_get}
-use Rattle.std.proofs.lemmas.Bool.{cond_both}
+use Rattle.std.proofs.Common.{◌≡◌, ℕ, Bool, true, false, cond, List, [], ◌∷◌, Option, Some, refl, sym, ap, ◌∙◌, subst, ⊎_elim}
+use Rattle.std.specs.Prelude.{is_some, ◌&&◌, slice_get}
 use Rattle.ct_msg.specs.declared.client.ClientOp.{ClientOp}
 use Rattle.ct_msg.specs.declared.client.ClientOp.TheVariants as op
 use Rattle.ct_msg.specs.declared.config.Config.{Config}
@@ -9,12 +8,12 @@ use Rattle.ct_frame.specs.declared.frame.Frame.{Frame}
 use Rattle.ct_frame.specs.declared.frame.Msg.{Msg}
 use Rattle.ct_frame.specs.declared.frame.Msg.TheVariants as msg
 use Rattle.ct_call.specs.Rules.{Rules}
-use Rattle.ct_rules.specs.Moves.{arrive, move, store, unlock, vacuum}
+use Rattle.ct_rules.specs.Moves.{arrive, move, store, unlock}
 use Rattle.ct_rules.specs.Parts.{Moving, want}
 use Rattle.ct_rules.specs.declared.event.MoveEvent.{MoveEvent}
 use Rattle.ct_rules.specs.declared.event.MoveEvent.TheVariants as event
 use Rattle.ct_rules.specs.declared.event.Place.{Place}
-use Rattle.ct_rules_node.specs.Node.{Node, state_at, has_records, kind_at}
+use Rattle.ct_rules_node.specs.Node.{state_at, has_records, kind_at}
 use Rattle.ct_rules_node.specs.Turn.{Turn}
 use Rattle.ct_rules_node.specs.Records as node
 use Rattle.ct_rules_node.specs.Records.{at_record, place_of}
@@ -23,8 +22,8 @@ use Rattle.ct_rules_node.specs.Steps.{arrives, on_record_of}
 use Rattle.ct_rules_node.specs.Laws.{left_by}
 use Rattle.ct_cluster.specs.Cluster.{everyone}
 use Rattle.ct_cluster.specs.declared.step.PendingCall.{PendingCall}
-use Rattle.ct_law_record.specs.World.{Scene, View, Mail, World, Event, Wants, Stores, Unlocks, Comes, Vacuums, Rises, place, starts, may_want, own_call, waiting_call, put, comes, happens}
-use Rattle.ct_law_generation.specs.Shown.{scene, view, is_it, amid, Comes_by, Follows}
+use Rattle.ct_law_record.specs.World.{View, Mail, World, Event, Wants, Stores, Unlocks, Comes, place, starts, may_want, own_call, waiting_call, put, comes, happens}
+use Rattle.ct_law_generation.specs.Shown.{scene, view, is_it, amid, Follows}
 use Rattle.ct_law_generation.proofs.Weave.{it_is, true_or_false}
 use Rattle.ct_law_generation.proofs.Amid.{self, place_is, Fair, own_step, other_step}
 

@@ -1,6 +1,6 @@
 -- Where an event is given to a node and the step is taken, the cluster is what the node's step makes of it.
-use Rattle.std.proofs.Common.{◌≡◌, ℕ, Bool, true, false, cond, List, [], ◌∷◌, Option, Some, None, refl, sym, ap, ◌∙◌, subst}
-use Rattle.std.specs.Prelude.{Result, Ok, Err}
+use Rattle.std.proofs.Common.{◌≡◌, ℕ, Bool, true, false, cond, List, Some, None, refl, sym}
+use Rattle.std.specs.Prelude.{Ok, Err}
 use Rattle.ct_msg.specs.declared.config.Config.{Config}
 use Rattle.ct_frame.specs.declared.event.Event.{Event}
 use Rattle.ct_call.specs.Rules.{Rules}
@@ -9,7 +9,6 @@ use Rattle.ct_rules_node.specs.Steps.{happens}
 use Rattle.ct_cluster.specs.Cluster.{Cluster, node_at}
 use Rattle.ct_cluster.specs.Steps.{Stepped, put, is_counted, if_counted, fed_of, fed}
 use Rattle.ct_cluster.specs.declared.step.Line.{Line}
-use Rattle.ct_cluster.specs.declared.step.StepFault.{StepFault}
 use Rattle.ct_cluster.specs.declared.step.StepFault.TheVariants as fault
 
 -- the step was taken, and this came of it

@@ -1,9 +1,8 @@
 -- A step of a node at one record: what follows for the node, for every record's world, and for what is sent.
-use Rattle.std.proofs.Common.{◌≡◌, ◌≢◌, ℕ, ◌+◌, ◌<◌, ◌≤◌, ◌^◌, Bool, true, false, cond, List, [], ◌∷◌, ◌++◌, ◌||◌, map, length, Option, Some, None, refl, sym, ap, ◌∙◌, arith, subst, ⊎_elim}
-use Rattle.std.specs.Prelude.{nat_eq, ◌⊎◌}
+use Rattle.std.proofs.Common.{◌≡◌, ◌≢◌, ℕ, ◌<◌, Bool, true, false, List, [], ◌∷◌, ◌++◌, ◌||◌, map, length, Option, Some, None, refl, sym, ap, ◌∙◌, subst, ⊎_elim}
+use Rattle.std.specs.Prelude.{nat_eq}
 use Rattle.std.specs.List.{list_all, list_any, AllByRecursion}
 use Rattle.std.proofs.lemmas.Bool.{cases_eq, cond_both, eqb-true, ne_eqb, and_parts}
-use Rattle.ct_msg.specs.declared.client.Answer.{Answer}
 use Rattle.ct_msg.specs.declared.client.ClientOp.{ClientOp}
 use Rattle.ct_msg.specs.declared.config.Config.{Config}
 use Rattle.ct_frame.specs.Fields.{is_db, is_node}
@@ -17,28 +16,27 @@ use Rattle.ct_rules.specs.declared.event.MoveEvent.{MoveEvent}
 use Rattle.ct_rules.specs.declared.event.Place.{Place}
 use Rattle.ct_rules.specs.declared.state.Wish.{Wish}
 use Rattle.ct_rules.proofs.Growing.{move_grows}
-use Rattle.ct_rules_node.specs.Node.{Node, state_at}
+use Rattle.ct_rules_node.specs.Node.{state_at}
 use Rattle.ct_rules_node.specs.Turn.{Turn}
 use Rattle.ct_rules_node.specs.Records as node
 use Rattle.ct_rules_node.specs.Records.{out_of, acted, at_record, place_of}
 use Rattle.ct_rules_node.specs.Laws.{left_by}
 use Rattle.ct_cluster.specs.Steps.{frames_of}
 use Rattle.ct_cluster.specs.Cluster.{Cluster, Sent, everyone, node_at, pending}
-use Rattle.ct_cluster.specs.Labels.{Label, Answered}
-use Rattle.ct_cluster.specs.Traces.{answered}
+use Rattle.ct_cluster.specs.Labels.{Answered}
 use Rattle.ct_cluster.specs.declared.step.PendingCall.{PendingCall}
 use Rattle.ct_register.specs.Register.{newborn}
 use Rattle.ct_register.specs.Legal.{db_of, key_of}
 use Rattle.ct_register.specs.Words.{is_in}
 use Rattle.ct_law_record.specs.Labels as law
-use Rattle.ct_law_record.specs.World.{Scene, View, World, Event, opening, last, trace, happens, put, place, starts, view_of, told, sent, waiting_call, own_call, Stepped}
+use Rattle.ct_law_record.specs.World.{Scene, World, Event, opening, last, trace, happens, put, place, starts, view_of, told, sent, waiting_call, own_call, Stepped}
 use Rattle.ct_law_record.proofs.Law.{proved}
-use Rattle.ct_law_generation.specs.Shown.{scene, view, is_it, AllAsked, Finds, amid, Follows}
+use Rattle.ct_law_generation.specs.Shown.{scene, view, AllAsked, Finds, amid, Follows}
 use Rattle.ct_law_generation.proofs.Plain.{AllPlain, plain_more, plain_sends}
 use Rattle.ct_law_generation.proofs.Hearing.{frames_more, accepts_asked, asked_left, asked_right}
 use Rattle.ct_law_generation.proofs.Speaking.{Told, move_told}
 use Rattle.ct_law_generation.proofs.Wishing.{Wishful}
-use Rattle.ct_law_generation.proofs.Pending.{Callers, Fits, is_call, Known, KnownAt, NodeKnown, answered_as, pending_fits, pending_has}
+use Rattle.ct_law_generation.proofs.Pending.{Callers, is_call, Known, KnownAt, NodeKnown, answered_as, pending_fits, pending_has}
 use Rattle.ct_law_generation.proofs.Forming.{Is_formed, Is_sound_mail, formed_moves, formed_blank, sound_moves}
 use Rattle.ct_law_generation.proofs.Amid.{Fair, put_world, place_is}
 use Rattle.ct_law_generation.proofs.Staying.{NodeStays, Sure, stays_at}
@@ -117,7 +115,7 @@ fair c rules who calls n db key e t pend asks w ev real member h k =
       grows = move_grows (place_of c n db key t.node) rules e (node.view db key t.node);
       sends = move_told (place_of c n db key t.node) rules e (node.view db key t.node) tt;
       finds = k.finds;
-      asked = subst (λ (x : Stepped). AllAsked x.labels) (k.is_event ∙ put_world (scene c rules db key) (amid db key n w t) n asks o member k.whole) (asked_by_law (scene c rules db key) (amid db key n w t) ev real k.reached);
+      asked = subst (λ (x : Stepped). AllAsked x.labels) (k.is_event ∙ put_world (scene c rules db key) (amid db key n w t) n asks o member refl k.whole) (asked_by_law (scene c rules db key) (amid db key n w t) ev real k.reached);
     }
 
 -- what it sends keeps the rules of its fields

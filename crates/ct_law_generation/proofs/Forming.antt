@@ -1,26 +1,21 @@
 -- In the world of a record each node's state is in form, and each message keeps the rules of its fields; this stays so.
-use Rattle.std.proofs.Common.{◌≡◌, ◌≢◌, ℕ, ◌<◌, ◌≤◌, ◌^◌, Bool, true, false, cond, not, ◌&&◌, ◌||◌, List, [], ◌∷◌, ◌++◌, length, Option, Some, None, refl, sym, ap, ◌∙◌, arith, subst, ⊎_elim}
-use Rattle.std.specs.Prelude.{nat_eq, is_some, is_none, slice_get}
+use Rattle.std.proofs.Common.{◌≡◌, ℕ, ◌<◌, ◌≤◌, ◌^◌, Bool, true, false, cond, ◌||◌, List, [], ◌∷◌, Option, Some, None, refl, ap, arith}
+use Rattle.std.specs.Prelude.{is_none}
 use Rattle.std.specs.List.{list_all, AllByRecursion}
-use Rattle.std.proofs.lemmas.Bool.{cond_both, and_parts}
+use Rattle.std.proofs.lemmas.Bool.{and_parts}
 use Rattle.ct_frame.specs.Fields.{is_db, is_node, is_message}
 use Rattle.ct_frame.specs.declared.frame.Msg.{Msg}
-use Rattle.ct_frame.specs.declared.frame.Msg.TheVariants as msg
 use Rattle.ct_msg.specs.declared.client.ClientOp.{ClientOp}
-use Rattle.ct_call.specs.Rules.{Rules}
-use Rattle.ct_rules.specs.State.{nothing_kept, is_read_op}
-use Rattle.ct_rules.specs.Form.{IsInForm, MayCome, IsAfter, is_of_record, is_wanting}
+use Rattle.ct_rules.specs.Form.{IsInForm, MayCome, is_of_record}
 use Rattle.ct_rules.specs.Laws.{TracksAsHolder}
 use Rattle.ct_rules.specs.Sent.{is_sound, waits_for_nodes, is_from_node}
-use Rattle.ct_rules.specs.Moves.{move, moved, unless_spent, begins}
+use Rattle.ct_rules.specs.Moves.{move, unless_spent}
 use Rattle.ct_rules.specs.Parts.{Moving}
 use Rattle.ct_rules.specs.declared.event.Act.{Act}
 use Rattle.ct_rules.specs.declared.event.Act.TheVariants as act
 use Rattle.ct_rules.specs.declared.event.MoveEvent.{MoveEvent}
 use Rattle.ct_rules.specs.declared.event.MoveEvent.TheVariants as event
 use Rattle.ct_rules.specs.declared.event.Place.{Place}
-use Rattle.ct_rules.specs.declared.state.RecState.{RecState}
-use Rattle.ct_rules.specs.declared.state.Wish.{Wish}
 use Rattle.ct_rules.proofs.Events.{form_kept}
 use Rattle.ct_rules.proofs.Tracking.{holder_tracks}
 use Rattle.ct_rules.proofs.Sound.{what_is_sent}
@@ -28,7 +23,7 @@ use Rattle.ct_rules_node.specs.Admission.{record_in}
 use Rattle.ct_rules_node.specs.Laws.{unless_blank}
 use Rattle.ct_rules_node.specs.Node.{or_nothing}
 use Rattle.ct_rules_node.proofs.AtRecord.{formed_is_kept}
-use Rattle.ct_law_record.specs.World.{Scene, View, Mail, World, place, starts, view_of, sent, sends, may_want}
+use Rattle.ct_law_record.specs.World.{Scene, View, Mail, place, starts, view_of, sent, sends, may_want}
 use Rattle.ct_law_generation.proofs.Speaking.{About, Told, move_told}
 
 -- what holds of a node's state of the record

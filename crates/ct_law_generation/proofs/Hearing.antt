@@ -1,17 +1,13 @@
 -- What a step at one record tells of that record and of others.
-use Rattle.std.proofs.Common.{◌≡◌, ℕ, ◌+◌, Bool, true, false, List, [], ◌∷◌, ◌++◌, map, Option, Some, None, refl, sym, ap, ◌∙◌, append-nil, arith, subst}
-use Rattle.std.specs.Prelude.{◌≢◌, ◌&&◌}
+use Rattle.std.proofs.Common.{◌≡◌, ℕ, ◌+◌, Bool, true, false, List, [], ◌∷◌, ◌++◌, map, Some, refl, ap, ◌∙◌, subst}
 use Rattle.ct_msg.specs.declared.client.Answer.{Answer}
 use Rattle.ct_msg.specs.declared.client.Answer.TheVariants as answer
 use Rattle.ct_msg.specs.declared.client.ClientOp.{ClientOp}
 use Rattle.ct_msg.specs.declared.client.ClientOp.TheVariants as op
 use Rattle.ct_msg.specs.declared.client.Why.TheVariants as why
-use Rattle.ct_frame.specs.declared.event.Note.TheVariants as note
 use Rattle.ct_frame.specs.declared.event.Out.{Out}
 use Rattle.ct_frame.specs.declared.event.Out.TheVariants as out
 use Rattle.ct_frame.specs.declared.frame.Frame.{Frame}
-use Rattle.ct_frame.specs.declared.frame.Msg.{Msg}
-use Rattle.ct_frame.specs.declared.frame.Msg.TheVariants as msg
 use Rattle.ct_call.specs.Rules.{Rules}
 use Rattle.ct_rules.specs.declared.event.Act.{Act}
 use Rattle.ct_rules.specs.declared.event.Act.TheVariants as act
@@ -19,19 +15,17 @@ use Rattle.ct_rules.specs.declared.event.Place.{Place}
 use Rattle.ct_rules_node.specs.Records.{out_of}
 use Rattle.ct_rules_node.specs.Admission.{record_in}
 use Rattle.ct_cluster.specs.Cluster.{Sent, Waiting}
-use Rattle.ct_cluster.specs.Labels.{Label, Answered, Noted}
+use Rattle.ct_cluster.specs.Labels.{Label, Noted}
 use Rattle.ct_cluster.specs.Steps.{frames_of, lines_of}
 use Rattle.ct_cluster.specs.Traces.{answered, sent_label, label_of, line_labels}
-use Rattle.ct_cluster.specs.declared.step.Line.{Line}
 use Rattle.ct_cluster.specs.declared.step.PendingCall.{PendingCall}
 use Rattle.ct_cluster.specs.declared.step.Step.{Step}
 use Rattle.ct_register.specs.Register.{Register, Accepts}
-use Rattle.ct_register.specs.Legal.{db_of, key_of}
 use Rattle.ct_law_record.specs.Labels.{AcceptsAll, AcceptsLabel}
 use Rattle.ct_law_record.specs.Labels as law
-use Rattle.ct_law_record.specs.World.{Mail, told, answers, call_of, sent, sends}
-use Rattle.ct_law_generation.specs.Shown.{is_it, mail_of, mails, is_telling, told_of, told_by, told_by_all, heard, AllAsked, labels_of, Finds}
-use Rattle.ct_law_generation.proofs.Weave.{it_is, it_is_itself}
+use Rattle.ct_law_record.specs.World.{Mail, sent, sends}
+use Rattle.ct_law_generation.specs.Shown.{is_it, mail_of, mails, is_telling, told_of, told_by, told_by_all, heard, AllAsked, labels_of}
+use Rattle.ct_law_generation.proofs.Weave.{it_is_itself}
 use Rattle.ct_law_generation.proofs.Speaking.{About, Told}
 
 -- ---- what a register accepts
@@ -61,6 +55,9 @@ accepts_heard rules [] r t h = h
 accepts_heard rules (law.Told n asked a ∷ xs) r t h = heard_one rules n asked a (is_telling a) (heard xs) r h.0 t refl h.1 (accepts_heard rules xs h.0 t h.2)
 accepts_heard rules (law.Unasked n a ∷ xs) r t h = absurd (h.1)
 accepts_heard rules (law.Vacuumed n ∷ xs) r t h = (h.0, h.1, accepts_heard rules xs h.0 t h.2)
+accepts_heard rules (law.Ended n ∷ xs) r t h = (h.0, h.1, accepts_heard rules xs h.0 t h.2)
+accepts_heard rules (law.Left n ∷ xs) r t h = (h.0, h.1, accepts_heard rules xs h.0 t h.2)
+accepts_heard rules (law.Joined n ∷ xs) r t h = (h.0, h.1, accepts_heard rules xs h.0 t h.2)
 
 -- where all labels are accepted, all answers were asked for
 pub accepts_asked : (rules : Rules) (xs : List law.Label) (r t : Register) → AcceptsAll rules r xs t → AllAsked xs
@@ -69,6 +66,9 @@ accepts_asked rules [] r t h = tt
 accepts_asked rules (law.Told n asked a ∷ xs) r t h = accepts_asked rules xs h.0 t h.2
 accepts_asked rules (law.Unasked n a ∷ xs) r t h = absurd (h.1)
 accepts_asked rules (law.Vacuumed n ∷ xs) r t h = accepts_asked rules xs h.0 t h.2
+accepts_asked rules (law.Ended n ∷ xs) r t h = accepts_asked rules xs h.0 t h.2
+accepts_asked rules (law.Left n ∷ xs) r t h = accepts_asked rules xs h.0 t h.2
+accepts_asked rules (law.Joined n ∷ xs) r t h = accepts_asked rules xs h.0 t h.2
 
 -- ---- one list after another
 
@@ -83,6 +83,9 @@ heard_more [] ys = refl
 heard_more (law.Told n asked a ∷ xs) ys = ap (λ (l : List law.Label). told_of (is_telling a) (law.Told n asked a) ++ l) (heard_more xs ys) ∙ told_more (is_telling a) (law.Told n asked a) (heard xs) (heard ys)
 heard_more (law.Unasked n a ∷ xs) ys = ap (λ (l : List law.Label). law.Unasked n a ∷ l) (heard_more xs ys)
 heard_more (law.Vacuumed n ∷ xs) ys = ap (λ (l : List law.Label). law.Vacuumed n ∷ l) (heard_more xs ys)
+heard_more (law.Ended n ∷ xs) ys = ap (λ (l : List law.Label). law.Ended n ∷ l) (heard_more xs ys)
+heard_more (law.Left n ∷ xs) ys = ap (λ (l : List law.Label). law.Left n ∷ l) (heard_more xs ys)
+heard_more (law.Joined n ∷ xs) ys = ap (λ (l : List law.Label). law.Joined n ∷ l) (heard_more xs ys)
 
 pub asked_left : (xs ys : List law.Label) → AllAsked (xs ++ ys) → AllAsked xs
 unfolding AllAsked
@@ -90,6 +93,9 @@ asked_left [] ys h = tt
 asked_left (law.Told n asked a ∷ xs) ys h = asked_left xs ys h
 asked_left (law.Unasked n a ∷ xs) ys h = absurd h
 asked_left (law.Vacuumed n ∷ xs) ys h = asked_left xs ys h
+asked_left (law.Ended n ∷ xs) ys h = asked_left xs ys h
+asked_left (law.Left n ∷ xs) ys h = asked_left xs ys h
+asked_left (law.Joined n ∷ xs) ys h = asked_left xs ys h
 
 pub asked_right : (xs ys : List law.Label) → AllAsked (xs ++ ys) → AllAsked ys
 unfolding AllAsked
@@ -97,6 +103,9 @@ asked_right [] ys h = h
 asked_right (law.Told n asked a ∷ xs) ys h = asked_right xs ys h
 asked_right (law.Unasked n a ∷ xs) ys h = absurd h
 asked_right (law.Vacuumed n ∷ xs) ys h = asked_right xs ys h
+asked_right (law.Ended n ∷ xs) ys h = asked_right xs ys h
+asked_right (law.Left n ∷ xs) ys h = asked_right xs ys h
+asked_right (law.Joined n ∷ xs) ys h = asked_right xs ys h
 
 pub frames_more : (xs ys : List Out) → frames_of (xs ++ ys) ≡ frames_of xs ++ frames_of ys
 unfolding frames_of

@@ -1,5 +1,5 @@
 -- What a step at a record tells is of records of line 1, and nothing of it is left out.
-use Rattle.std.proofs.Common.{◌≡◌, ℕ, Bool, true, false, cond, not, List, [], ◌∷◌, ◌++◌, map, Option, Some, None, refl, sym, ap, ◌∙◌, subst}
+use Rattle.std.proofs.Common.{◌≡◌, ℕ, Bool, true, cond, not, List, [], ◌∷◌, ◌++◌, map, Option, Some, None, refl, sym, ap, ◌∙◌, subst}
 use Rattle.std.specs.List.{AllByRecursion, filter}
 use Rattle.ct_msg.specs.declared.client.Answer.{Answer}
 use Rattle.ct_msg.specs.declared.client.ClientOp.{ClientOp}
@@ -18,7 +18,7 @@ use Rattle.ct_cluster.specs.Labels.{Label, Answered, Noted}
 use Rattle.ct_cluster.specs.Traces.{answered, sent_label}
 use Rattle.ct_cluster.specs.declared.step.PendingCall.{PendingCall}
 use Rattle.ct_register.specs.Laws.{is_persistent}
-use Rattle.ct_register.specs.Legal.{db_of, key_of, kind_at, is_of_records}
+use Rattle.ct_register.specs.Legal.{db_of, kind_at, is_of_records}
 use Rattle.ct_promise.specs.Generation.{speaks_of_records, is_note_of_records, record_labels}
 use Rattle.ct_law_record.specs.Labels as law
 use Rattle.ct_law_record.specs.World.{told, answers, call_of}

@@ -1,8 +1,6 @@
 -- At the opening what holds of the cluster in its first generation holds, and no schedule is needed.
-use Rattle.std.proofs.Common.{◌≡◌, ◌≢◌, ℕ, zero, suc, ◌+◌, ◌<◌, ◌≤◌, ◌^◌, Bool, true, false, cond, List, [], ◌∷◌, ◌++◌, length, Option, Some, None, refl, sym, ap, ◌∙◌, arith, subst}
-use Rattle.std.specs.Prelude.{nat_eq, nat_lt, slice_get, replicate}
-use Rattle.std.specs.List.{AllByRecursion}
-use Rattle.ct_msg.specs.declared.client.ClientOp.TheVariants as op
+use Rattle.std.proofs.Common.{◌≡◌, ℕ, zero, suc, Bool, true, List, [], length, refl, sym, ap, arith, subst}
+use Rattle.std.specs.Prelude.{nat_lt, slice_get, replicate}
 use Rattle.ct_msg.specs.declared.config.Config.{Config}
 use Rattle.ct_frame.specs.declared.frame.Msg.{Msg}
 use Rattle.ct_call.specs.Rules.{Rules}
@@ -18,7 +16,7 @@ use Rattle.ct_law_record.specs.World as law
 use Rattle.ct_law_record.specs.World.{View}
 use Rattle.ct_register.proofs.Opened.{untouched_one}
 use Rattle.ct_law_generation.specs.Shown.{scene, view, mails, project, heard, told_by_all, Schedules}
-use Rattle.ct_law_generation.proofs.Pending.{Callers, KnownAt, CommitFits, DatabaseKnown, NodeKnown, none_known}
+use Rattle.ct_law_generation.proofs.Pending.{Callers, CommitFits, DatabaseKnown, none_known}
 use Rattle.ct_law_generation.proofs.Forming.{Is_formed}
 use Rattle.ct_law_generation.proofs.Staying.{NodeStays}
 use Rattle.ct_law_generation.proofs.Clusters.{ClusterStays}
@@ -64,7 +62,7 @@ unfolding cluster.opening node_at mails
 opened_world c db key =
     let each : (n : ℕ) → nothing ≡ view db key (or_absent (slice_get (replicate c.nodes (node.opening c (everyone c))) n))
     = λ n. sym (one_of_all (λ (x : Node). view db key x ≡ nothing) (node.opening c (everyone c)) (absent_view db key) (opened_view c db key) c.nodes n) in
-    λ i. record { nodes = λ n. each n i; mail = [] }
+    λ i. record { nodes = λ n. each n i; joined = λ _. true; mail = [] }
 
 pub opened_schedules : (c : Config) (rules : Rules) → Schedules c rules (cluster.opening c) [] (λ db key. [])
 unfolding heard told_by_all

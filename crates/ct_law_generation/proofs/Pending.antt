@@ -1,5 +1,5 @@
 -- An answer to a call that waits gets the label of what that call asked, at its node.
-use Rattle.std.proofs.Common.{◌≡◌, ◌≢◌, ℕ, zero, suc, ◌+◌, ◌<◌, ◌≤◌, Bool, true, false, cond, ◌&&◌, ◌||◌, List, [], ◌∷◌, ◌++◌, Option, Some, None, refl, sym, ◌∙◌, ap, subst, arith, ⊎_elim}
+use Rattle.std.proofs.Common.{◌≡◌, ℕ, zero, suc, ◌+◌, ◌≤◌, Bool, true, false, cond, ◌||◌, List, [], ◌∷◌, ◌++◌, Option, Some, None, refl, sym, ◌∙◌, ap, subst, arith}
 use Rattle.std.specs.Prelude.{slice_get, nat_eq, nat_lt}
 use Rattle.std.specs.Ordering.{is_eq}
 use Rattle.std.specs.List.{AllByRecursion, list_any}
@@ -13,7 +13,7 @@ use Rattle.ct_store.proofs.Maps.{one_key, equal}
 use Rattle.ct_rules.specs.declared.state.RecState.{RecState}
 use Rattle.ct_rules.specs.declared.state.Wish.{Wish}
 use Rattle.ct_rules_node.specs.Node.{Node, Database, Committing, untouched, or_untouched, or_nothing, db_at, state_at}
-use Rattle.ct_rules_node.specs.Laws.{AllAscend, NodeAscends}
+use Rattle.ct_rules_node.specs.Laws.{AllAscend}
 use Rattle.ct_rules_node.proofs.Keys.{below_unseen}
 use Rattle.ct_rules_node.proofs.Installed.{own_key}
 use Rattle.ct_cluster.specs.Cluster.{Cluster, node_at, or_absent, absent, wished, wished_in, committing, pending_in, ranked, by_number, pending_from, pending}

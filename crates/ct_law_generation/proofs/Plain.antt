@@ -1,5 +1,5 @@
 -- Every message that was sent is of a record and keeps the rules of its fields, or is of another kind that is allowed.
-use Rattle.std.proofs.Common.{◌≡◌, ℕ, zero, suc, Bool, true, false, List, [], ◌∷◌, ◌++◌, map, Option, Some, None, set, refl, sym, ap, ◌∙◌, arith, subst, inl, inr}
+use Rattle.std.proofs.Common.{◌≡◌, ℕ, zero, suc, Bool, true, List, [], ◌∷◌, ◌++◌, map, Some, set, subst, inl}
 use Rattle.std.specs.Prelude.{slice_get, ◌⊎◌}
 use Rattle.std.specs.List.{AllByRecursion}
 use Rattle.ct_frame.specs.declared.frame.Frame.{Frame}
@@ -11,7 +11,7 @@ use Rattle.ct_rules_node.specs.Records.{out_of}
 use Rattle.ct_rules_node.specs.Admission.{record_in}
 use Rattle.ct_cluster.specs.Cluster.{Sent, Fate}
 use Rattle.ct_cluster.specs.Steps.{frames_of}
-use Rattle.ct_law_record.specs.World.{Mail, sent, sends}
+use Rattle.ct_law_record.specs.World.{sent, sends}
 use Rattle.ct_law_generation.proofs.Speaking.{Told, About}
 use Rattle.ct_law_generation.proofs.Forming.{Is_sound_mail}
 

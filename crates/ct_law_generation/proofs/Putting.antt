@@ -1,11 +1,11 @@
 -- The step of a node becomes the cluster's: what the cluster shows of each record then, and the schedules that lead to it.
-use Rattle.std.proofs.Common.{◌≡◌, ◌≢◌, ℕ, zero, suc, ◌+◌, ◌<◌, ◌≤◌, Bool, true, false, cond, List, [], ◌∷◌, ◌++◌, length, Option, Some, None, get_or, set, get_or-set_same, get_or-set_other, refl, sym, ap, ◌∙◌, append-nil, arith, subst, ⊎_elim}
-use Rattle.std.specs.Prelude.{nat_eq, slice_get, slice_set}
-use Rattle.std.proofs.lemmas.Bool.{cases_eq, cond_both, eqb-true, eqb-false}
+use Rattle.std.proofs.Common.{◌≡◌, ◌≢◌, ℕ, zero, suc, ◌<◌, true, cond, List, [], ◌∷◌, ◌++◌, length, Some, get_or, set, get_or-set_same, get_or-set_other, refl, sym, ap, ◌∙◌, subst}
+use Rattle.std.specs.Prelude.{nat_eq, slice_get}
+use Rattle.std.proofs.lemmas.Bool.{cond_both, eqb-true, eqb-false}
 use Rattle.ct_msg.specs.declared.config.Config.{Config}
 use Rattle.ct_call.specs.Rules.{Rules}
 use Rattle.ct_rules_node.specs.Node.{Node}
-use Rattle.ct_rules_node.specs.Turn.{Turn, begins}
+use Rattle.ct_rules_node.specs.Turn.{Turn}
 use Rattle.ct_rules_node.specs.Admission.{record_in}
 use Rattle.ct_cluster.specs.Cluster.{Cluster, Sent, Fate, absent, or_absent, node_at, pending}
 use Rattle.ct_cluster.specs.Labels.{Label}
@@ -43,7 +43,7 @@ put_node db key n k x w l = cond_both (nat_eq k n) _ _ (λ (v : View). view db k
 pub put_shows : (db : ℕ) (key : List ℕ) (n : ℕ) (u : Turn) (own : List Line) (w : Cluster) → n < length w.nodes → project db key (put n u own w).cluster ≡ amid db key n (project db key w) u
 unfolding put with_node node_at
 put_shows db key n u own w l = (let mail = mails_more db key w.sent (frames_of u.outs) in
-    λ i. record { nodes = λ k. put_node db key n k u.node w l i; mail = mail i })
+    λ i. record { nodes = λ k. put_node db key n k u.node w l i; joined = λ _. true; mail = mail i })
 
 -- ---- what became of a message does not show
 
@@ -55,7 +55,7 @@ fates db key (x ∷ xs) (suc k) s f e = ap (λ (l : List Mail). mail_of db key x
 
 pub fate_hidden : (db : ℕ) (key : List ℕ) (k : ℕ) (s : Sent) (f : Fate) (w : Cluster) → slice_get w.sent k ≡ Some s → project db key (with_fate (suc k) s f w) ≡ project db key w
 unfolding with_fate node_at
-fate_hidden db key k s f w e = ap (λ (l : List Mail). record { nodes = λ n. view db key (node_at n w); mail = l }) (fates db key w.sent k s f e)
+fate_hidden db key k s f w e = ap (λ (l : List Mail). record { nodes = λ n. view db key (node_at n w); joined = λ _. true; mail = l }) (fates db key w.sent k s f e)
 
 -- nor does it change which calls wait
 pub fate_waits : (k : ℕ) (s : Sent) (f : Fate) (w : Cluster) → pending (with_fate (suc k) s f w) ≡ pending w

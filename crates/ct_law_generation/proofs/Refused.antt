@@ -1,6 +1,5 @@
 -- A call that is refused: the node stays as it was, and no record's world sees it.
-use Rattle.std.proofs.Common.{◌≡◌, ℕ, Bool, true, false, cond, ◌&&◌, List, [], ◌∷◌, ◌++◌, refl, sym, ap, ◌∙◌, subst}
-use Rattle.std.specs.Prelude.{nat_eq}
+use Rattle.std.proofs.Common.{◌≡◌, ℕ, Bool, true, false, cond, ◌&&◌, List, [], ◌∷◌, ◌++◌, refl, ap, ◌∙◌}
 use Rattle.std.proofs.lemmas.Bool.{eq-eqb}
 use Rattle.ct_msg.specs.declared.client.Answer.TheVariants as answer
 use Rattle.ct_msg.specs.declared.client.ClientOp.{ClientOp}
@@ -9,7 +8,7 @@ use Rattle.ct_msg.specs.declared.config.Config.{Config}
 use Rattle.ct_call.specs.Rules.{Rules}
 use Rattle.ct_rules_node.specs.Turn.{does, answers, makes, begins}
 use Rattle.ct_cluster.specs.Cluster.{Cluster, node_at, pending}
-use Rattle.ct_cluster.specs.Labels.{Label, Answered}
+use Rattle.ct_cluster.specs.Labels.{Answered}
 use Rattle.ct_cluster.specs.Steps.{frames_of}
 use Rattle.ct_cluster.specs.Traces.{answered}
 use Rattle.ct_register.specs.Legal.{db_of, key_of}
@@ -17,7 +16,7 @@ use Rattle.ct_law_record.specs.Labels as law
 use Rattle.ct_law_generation.specs.Shown.{is_it, mails, is_telling, told_of, told_by, told_by_all, heard, labels_of}
 use Rattle.ct_law_generation.proofs.Pending.{Callers}
 use Rattle.ct_law_generation.proofs.Staying.{NodeStays}
-use Rattle.ct_law_generation.proofs.Calling.{own_pending, Goes}
+use Rattle.ct_law_generation.proofs.Calling.{Goes}
 
 untold : (db : ℕ) (key : List ℕ) (n : ℕ) (asked : ClientOp) (w : Why) (b : Bool) → is_telling (answer.Refused w) ≡ b → b ≡ false → told_of (b && is_it db key (db_of asked) (key_of asked)) (law.Told n asked (answer.Refused w)) ++ [] ≡ []
 unfolding told_of

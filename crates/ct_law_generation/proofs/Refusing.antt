@@ -1,6 +1,5 @@
 -- Steps that are refused in the first generation, and one that changes no record.
-use Rattle.std.proofs.Common.{◌≡◌, ℕ, Bool, true, false, not, List, [], ◌∷◌, Option, Some, None, refl, sym, ap, ◌∙◌, subst}
-use Rattle.std.specs.Prelude.{slice_set}
+use Rattle.std.proofs.Common.{◌≡◌, ℕ, Bool, true, false, not, List, ◌∷◌, Option, Some, None, refl, ap}
 use Rattle.ct_msg.specs.declared.config.Config.{Config}
 use Rattle.ct_frame.specs.declared.frame.Msg.{Msg}
 use Rattle.ct_call.specs.Rules.{Rules}
@@ -12,7 +11,6 @@ use Rattle.ct_cluster.specs.declared.step.StepFault.{StepFault}
 use Rattle.ct_cluster.specs.declared.step.StepFault.TheVariants as fault
 use Rattle.ct_cluster.specs.declared.step.Step.TheVariants as step
 use Rattle.ct_law_generation.proofs.Pending.{Callers}
-use Rattle.ct_law_generation.proofs.Clusters.{ClusterStays}
 use Rattle.ct_law_generation.proofs.Coming.{Cluster_goes}
 
 rest_none : (x : Option StepFault) (xs : List (Option StepFault)) → first_of (x ∷ xs) ≡ None → first_of xs ≡ None

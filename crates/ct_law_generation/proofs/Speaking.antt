@@ -1,5 +1,5 @@
 -- What the rule of a record sends speaks of that record.
-use Rattle.std.proofs.Common.{◌≡◌, ℕ, ◌+◌, ◌==◌, Bool, true, false, cond, List, [], ◌∷◌, ◌++◌, Option, Some, None, refl, arith}
+use Rattle.std.proofs.Common.{◌≡◌, ℕ, ◌+◌, List, [], ◌∷◌, ◌++◌, Option, Some, refl, arith}
 use Rattle.std.specs.List.{AllByRecursion}
 use Rattle.ct_call.specs.Rules.{Rules}
 use Rattle.ct_frame.specs.declared.frame.CallKind.{CallKind}

@@ -1,18 +1,16 @@
 -- Where the world of each record stands for its register, the cluster stands for the registers of line 1.
-use Rattle.std.proofs.Common.{◌≡◌, ℕ, ◌<◌, Bool, true, false, List, [], ◌∷◌, Some, None, refl, sym, ap, ◌∙◌, ⊎_elim, arith, subst}
-use Rattle.std.specs.Prelude.{◌≢◌, ◌⊎◌, ◌↔◌, nat_lt, length, Option, slice_get, is_some}
-use Rattle.std.proofs.lemmas.Bool.{ltb-true}
-use Rattle.ct_msg.specs.declared.config.Config.{Config}
+use Rattle.std.proofs.Common.{◌≡◌, ℕ, true, List, sym, ap, ◌∙◌}
+use Rattle.std.specs.Prelude.{◌≢◌, is_some}
 use Rattle.ct_frame.specs.declared.header.RecCopy.{RecCopy}
 use Rattle.ct_rules.specs.declared.state.RecState.{RecState}
-use Rattle.ct_rules_node.specs.Node.{Node, state_at}
-use Rattle.ct_cluster.specs.Cluster.{Cluster, is_up, node_at, or_absent}
+use Rattle.ct_rules_node.specs.Node.{state_at}
+use Rattle.ct_cluster.specs.Cluster.{Cluster, is_up, node_at}
 use Rattle.ct_register.specs.Register.{Register, reading}
 use Rattle.ct_register.specs.Lines.{Lines}
 use Rattle.ct_register.specs.Stands.{RecordsStand, HasCopy}
 use Rattle.ct_law_record.specs.World.{World, View, Stands}
 use Rattle.ct_law_record.specs.World as law
-use Rattle.ct_law_generation.specs.Shown.{view, Shows}
+use Rattle.ct_law_generation.specs.Shown.{Shows}
 
 -- all nodes are in line 1, and there is nothing of what is no node
 pub record OneLine (w : Cluster) (line : ℕ → ℕ) : Type 0 where

@@ -1,10 +1,9 @@
 -- What holds of every node in the first generation stays so over a step at one record.
-use Rattle.std.proofs.Common.{◌≡◌, ◌≢◌, ℕ, ◌+◌, ◌<◌, ◌≤◌, ◌^◌, Bool, true, false, cond, List, [], ◌∷◌, length, Option, Some, None, refl, sym, ap, ◌∙◌, arith, subst, ⊎_elim}
-use Rattle.std.specs.Prelude.{nat_eq, bytes_eq, ◌⊎◌}
+use Rattle.std.proofs.Common.{◌≡◌, ◌≢◌, ℕ, ◌<◌, ◌^◌, Bool, true, false, List, length, Option, refl, sym, ◌∙◌, arith, subst, ⊎_elim}
+use Rattle.std.specs.Prelude.{bytes_eq}
 use Rattle.std.proofs.lemmas.Bool.{cases_eq}
 use Rattle.std.proofs.lemmas.List.{length-set}
 use Rattle.std.proofs.lemmas.Slice.Eq.{bytes_eq-Decides}
-use Rattle.ct_msg.specs.declared.client.ClientOp.{ClientOp}
 use Rattle.ct_msg.specs.declared.config.Config.{Config}
 use Rattle.ct_call.specs.Rules.{Rules}
 use Rattle.ct_store.specs.Map.{Ascends, look}
@@ -12,22 +11,21 @@ use Rattle.ct_rules.specs.Laws.{Grows}
 use Rattle.ct_rules.specs.Parts.{Moving}
 use Rattle.ct_rules.specs.declared.event.Place.{Place}
 use Rattle.ct_rules.specs.declared.state.RecState.{RecState}
-use Rattle.ct_rules.specs.declared.state.Wish.{Wish}
-use Rattle.ct_rules_node.specs.Node.{Node, Database, Serving, Nothing, db_at, with_db, state_at, or_nothing, or_untouched}
+use Rattle.ct_rules_node.specs.Node.{Node, Database, Serving, Nothing, db_at, with_db, or_nothing}
 use Rattle.ct_rules_node.specs.Turn.{Turn}
 use Rattle.ct_rules_node.specs.Records as node
 use Rattle.ct_rules_node.specs.Records.{kept, put_back, acted, at_record, place_of}
-use Rattle.ct_rules_node.specs.Laws.{unless_blank, NodeAscends, left_by}
+use Rattle.ct_rules_node.specs.Laws.{unless_blank, left_by}
 use Rattle.ct_rules_node.proofs.AtRecord.{moves_at, at_set, at_ascends}
 use Rattle.ct_rules_node.proofs.Keys.{kept_seen, kept_others}
 use Rattle.ct_cluster.specs.Cluster.{everyone}
-use Rattle.ct_law_record.specs.World.{Scene, View, view_of}
+use Rattle.ct_law_record.specs.World.{View, view_of}
 use Rattle.ct_law_generation.specs.Shown.{scene, view, is_it}
 use Rattle.ct_law_generation.proofs.Weave.{it_is, true_or_false}
 use Rattle.ct_law_generation.proofs.Wishing.{Wishful}
-use Rattle.ct_law_generation.proofs.Pending.{Callers, Known, KnownAt, CommitFits, DatabaseKnown, NodeKnown, none_known}
+use Rattle.ct_law_generation.proofs.Pending.{Callers, Known, KnownAt, DatabaseKnown, NodeKnown}
 use Rattle.ct_law_generation.proofs.Forming.{Is_formed, formed_rises, formed_blank}
-use Rattle.ct_law_generation.proofs.Amid.{seen_same, other_state, other_floor, floor_own, next_grows}
+use Rattle.ct_law_generation.proofs.Amid.{seen_same, other_state, floor_own, next_grows}
 
 -- what holds of a node while no generation follows the first one
 pub record NodeStays (c : Config) (rules : Rules) (who : Callers) (calls n : ℕ) (x : Node) : Type 0 where

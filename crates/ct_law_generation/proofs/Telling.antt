@@ -1,24 +1,23 @@
 -- What a step at one record tells of that record is what its world tells, and it tells nothing of another.
-use Rattle.std.proofs.Common.{◌≡◌, ℕ, ◌+◌, Bool, true, false, List, [], ◌∷◌, ◌++◌, map, Option, Some, None, refl, sym, ap, ◌∙◌, arith, subst}
+use Rattle.std.proofs.Common.{◌≡◌, ℕ, Bool, true, false, List, [], ◌∷◌, ◌++◌, map, Option, Some, None, refl, sym, ap, ◌∙◌, subst}
 use Rattle.std.specs.Prelude.{◌&&◌}
 use Rattle.ct_msg.specs.declared.client.Answer.{Answer}
 use Rattle.ct_msg.specs.declared.client.ClientOp.{ClientOp}
 use Rattle.ct_frame.specs.declared.event.Note.TheVariants as note
-use Rattle.ct_frame.specs.declared.event.Out.{Out}
 use Rattle.ct_frame.specs.declared.frame.Msg.{Msg}
 use Rattle.ct_frame.specs.declared.frame.Msg.TheVariants as msg
 use Rattle.ct_rules.specs.declared.event.Act.{Act}
 use Rattle.ct_rules.specs.declared.event.Act.TheVariants as act
 use Rattle.ct_rules_node.specs.Records.{out_of}
-use Rattle.ct_cluster.specs.Labels.{Label, Answered, Noted}
+use Rattle.ct_cluster.specs.Labels.{Label, Noted}
 use Rattle.ct_cluster.specs.Traces.{answered, sent_label}
 use Rattle.ct_cluster.specs.declared.step.PendingCall.{PendingCall}
 use Rattle.ct_register.specs.Legal.{db_of, key_of}
 use Rattle.ct_law_record.specs.Labels as law
 use Rattle.ct_law_record.specs.World.{told, answers, call_of}
 use Rattle.ct_law_generation.specs.Shown.{is_it, is_telling, told_of, told_by, told_by_all, heard, AllAsked, labels_of, Finds}
-use Rattle.ct_law_generation.proofs.Weave.{it_is, it_is_itself}
-use Rattle.ct_law_generation.proofs.Hearing.{heard_more, asked_right}
+use Rattle.ct_law_generation.proofs.Weave.{it_is_itself}
+use Rattle.ct_law_generation.proofs.Hearing.{asked_right}
 
 sent_quiet : (db : ℕ) (key : List ℕ) (n g : ℕ) (m : Msg) (rest : List Label) → told_by_all db key (sent_label n g m ++ rest) ≡ told_by_all db key rest
 unfolding sent_label told_by_all told_by

@@ -1,20 +1,18 @@
 -- Where the register of each record accepts what a trace tells of that record, the registers of line 1 accept the trace.
-use Rattle.std.proofs.Common.{◌≡◌, ℕ, Bool, true, false, List, [], ◌∷◌, ◌++◌, refl, sym, ap, ◌∙◌, ⊎_elim, inl, inr, arith, subst}
+use Rattle.std.proofs.Common.{◌≡◌, ℕ, Bool, true, false, List, [], ◌∷◌, ◌++◌, refl, sym, ap, ◌∙◌, ⊎_elim, inl, inr, subst}
 use Rattle.std.specs.Prelude.{◌≢◌, ◌⊎◌, nat_eq, bytes_eq, ◌&&◌}
 use Rattle.std.specs.List.{AllByRecursion}
-use Rattle.std.proofs.lemmas.Bool.{cases_eq, cond_both, eq-eqb, ne_eqb, eqb-true, and_parts}
+use Rattle.std.proofs.lemmas.Bool.{cases_eq, eq-eqb, eqb-true, and_parts}
 use Rattle.std.proofs.lemmas.Slice.Eq.{bytes_eq-Decides}
 use Rattle.ct_msg.specs.declared.client.Answer.{Answer}
 use Rattle.ct_msg.specs.declared.client.Answer.TheVariants as answer
 use Rattle.ct_msg.specs.declared.client.ClientOp.{ClientOp}
 use Rattle.ct_msg.specs.declared.client.ClientOp.TheVariants as op
-use Rattle.ct_msg.specs.declared.client.Why.{Why}
 use Rattle.ct_msg.specs.declared.client.Why.TheVariants as why
 use Rattle.ct_msg.specs.declared.config.Config.{Config}
 use Rattle.ct_frame.specs.declared.event.Note.TheVariants as note
 use Rattle.ct_call.specs.Rules.{Rules}
-use Rattle.ct_cluster.specs.Labels.{Label, Answered, Begun, Noted, Ticket, Yielded, Stopped, Started, Pushed, Takeover, Taken}
-use Rattle.ct_register.specs.Words.{at, at_key}
+use Rattle.ct_cluster.specs.Labels.{Label, Answered, Noted}
 use Rattle.ct_register.specs.Register
 use Rattle.ct_register.specs.Register.{Register, AcceptsVacuum}
 use Rattle.ct_register.specs.Lines.{Lines, with_record}

@@ -1,5 +1,5 @@
 -- What a cluster in its first generation shows of one record, and what its labels tell of that record.
-use Rattle.std.specs.Prelude.{◌≡◌, ◌≢◌, ℕ, nat_eq, bytes_eq, Bool, true, false, ◌&&◌, if◌then◌else◌, List, [], ◌∷◌, ◌++◌, Option, None, Some}
+use Rattle.std.specs.Prelude.{◌≡◌, ℕ, nat_eq, bytes_eq, Bool, true, false, ◌&&◌, if◌then◌else◌, List, [], ◌∷◌, ◌++◌, Option, None, Some}
 use Rattle.ct_msg.specs.declared.client.Answer.{Answer}
 use Rattle.ct_msg.specs.declared.client.Answer.TheVariants as answer
 use Rattle.ct_msg.specs.declared.client.ClientOp.{ClientOp}
@@ -105,7 +105,7 @@ pub record Finds (db : ℕ) (key : List ℕ) (n : ℕ) (calls : List PendingCall
 
 -- the world of the record while node n is amid a step: what it has and sent so far, over the world before the step
 abbrev pub amid : ℕ → List ℕ → ℕ → World → Turn → World
-amid db key n w t = record { nodes = λ k. if nat_eq k n then view db key t.node else w.nodes k; mail = w.mail ++ mails db key (frames_of t.outs) }
+amid db key n w t = record { nodes = λ k. if nat_eq k n then view db key t.node else w.nodes k; joined = λ _. true; mail = w.mail ++ mails db key (frames_of t.outs) }
 
 -- From one middle of a step to another the world of the record comes by these events, which tell what the step tells of the
 -- record.
@@ -119,7 +119,7 @@ Follows s n w calls t u = (es : List Event) × Comes_by s n w calls t u es
 
 -- the world of the record, as the cluster shows it
 abbrev pub project : ℕ → List ℕ → Cluster → World
-project db key c = record { nodes = λ n. view db key (node_at n c); mail = mails db key c.sent }
+project db key c = record { nodes = λ n. view db key (node_at n c); joined = λ _. true; mail = mails db key c.sent }
 
 -- schedules of the worlds of all records lead to what the cluster shows of them, and tell what these labels tell
 abbrev pub Schedules : Config → Rules → Cluster → List Label → (ℕ → List ℕ → List Event) → Type 0
