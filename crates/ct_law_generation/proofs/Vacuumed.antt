@@ -14,6 +14,7 @@ use Rattle.ct_deleg.specs.Tracked.{Ascends, AscendsFrom, others}
 use Rattle.ct_deleg.proofs.Nodes.{ascends_others}
 use Rattle.ct_store.specs.Map.{Pairs}
 use Rattle.ct_rules.specs.Moves.{move, vacuum}
+use Rattle.ct_rules.specs.Parts.{Moving}
 use Rattle.ct_rules.specs.declared.event.MoveEvent.TheVariants as event
 use Rattle.ct_rules.specs.declared.event.Place.{Place}
 use Rattle.ct_rules.specs.declared.state.RecState.{RecState}
@@ -27,12 +28,12 @@ use Rattle.ct_rules_node.specs.Steps.{vacuum_all, vacuums}
 use Rattle.ct_rules_node.proofs.AtRecord.{moves_at}
 use Rattle.ct_cluster.specs.Cluster.{Cluster, numbers, everyone, is_up, node_at, pending}
 use Rattle.ct_cluster.specs.Labels.{Label, Answered}
-use Rattle.ct_cluster.specs.Steps.{put}
+use Rattle.ct_cluster.specs.Steps as steps
 use Rattle.ct_cluster.specs.Traces.{answered}
 use Rattle.ct_cluster.specs.declared.step.PendingCall.{PendingCall}
 use Rattle.ct_register.specs.Legal.{db_of, key_of}
 use Rattle.ct_register.specs.Words.{is_in}
-use Rattle.ct_law_record.specs.World.{Scene, View, World, Vacuums, happens, last, trace, place, starts, own_call, waiting_call}
+use Rattle.ct_law_record.specs.World.{Scene, View, World, Vacuums, happens, put, last, trace, place, starts, own_call, waiting_call}
 use Rattle.ct_law_record.specs.World as law
 use Rattle.ct_law_generation.specs.Shown.{scene, view, is_it, heard, told_by_all, labels_of, project, amid, Finds, Follows, Schedules}
 use Rattle.ct_law_generation.proofs.Weave.{it_is, true_or_false}
@@ -92,3 +93,85 @@ not_there n ns h = (let p : not (nat_eq n n) ≡ true = All-contains (λ m. not 
 pub others_come : (c : Config) (n : ℕ) → Ascends (without n (everyone c)) × ¬ (Contains (without n (everyone c)) n)
 unfolding without everyone
 others_come c n = (ascends_others n 0 (numbers 0 c.nodes) (ascends_numbers 0 c.nodes), not_there n (numbers 0 c.nodes))
+
+-- ---- the calls that wait
+
+-- a call that waits at a record is found among these calls, and asks of the record
+abbrev pub Waited : ℕ → List ℕ → ℕ → List PendingCall → ℕ → ClientOp → Type 0
+Waited db key n calls call asked = ((a : Answer) → answered call a calls ≡ Answered n asked a ∷ []) × (db_of asked ≡ db) × (key_of asked ≡ key)
+
+waiting_is : (x : Wish) (call : ℕ) (asked : ClientOp) → waiting_call (Some x) call ≡ Some asked → (x.call ≡ call) × (x.op ≡ asked)
+unfolding waiting_call own_call
+waiting_is x call asked e = cond_both (nat_eq x.call call) (Some x.op) None (λ (r : Option ClientOp). r ≡ Some asked → (x.call ≡ call) × (x.op ≡ asked)) (λ t same. (eqb-true x.call call t, (cc))) (λ f same. absurd (cc)) e
+
+waiting_self : (x : Wish) → waiting_call (Some x) x.call ≡ Some x.op
+unfolding waiting_call own_call
+waiting_self x = ap (λ (b : Bool). cond b (Some x.op) None) (eq-eqb x.call x.call refl)
+
+none_waits : (call : ℕ) (asked : ClientOp) → ¬ (waiting_call None call ≡ Some asked)
+unfolding waiting_call
+none_waits call asked e = absurd (cc)
+
+pub waited_finds : (db : ℕ) (key : List ℕ) (n : ℕ) (calls : List PendingCall) (w : Option Wish) → Wishful (Waited db key n calls) w → Finds db key n calls (waiting_call w)
+unfolding Wishful
+waited_finds db key n calls None h = record { found = λ call asked e. absurd (none_waits call asked e); about = λ call asked e. absurd (none_waits call asked e) }
+waited_finds db key n calls (Some x) h = record {
+  found = λ call asked e a. (let p = waiting_is x call asked e in subst (λ (k : ℕ). answered k a calls ≡ Answered n asked a ∷ []) p.0 (subst (λ (o : ClientOp). answered x.call a calls ≡ Answered n o a ∷ []) p.1 (h.0 a)));
+  about = λ call asked e. (let p = waiting_is x call asked e in (ap (λ (o : ClientOp). db_of o) (sym p.1) ∙ h.1, ap (λ (o : ClientOp). key_of o) (sym p.1) ∙ h.2));
+}
+
+pub finds_waited : (db : ℕ) (key : List ℕ) (n : ℕ) (calls : List PendingCall) (w : Option Wish) → Finds db key n calls (waiting_call w) → Wishful (Waited db key n calls) w
+unfolding Wishful
+finds_waited db key n calls None h = tt
+finds_waited db key n calls (Some x) h = (let p = h.about x.call x.op (waiting_self x) in (h.found x.call x.op (waiting_self x), p.0, p.1))
+
+-- so it is of all records of a database of the node
+abbrev pub AllWaited : ℕ → ℕ → List PendingCall → Node → Type 0
+AllWaited db n calls x = (key : List ℕ) → Wishful (Waited db key n calls) (state_at db key x).wish
+
+kept_wish : (P : ℕ → ClientOp → Type 0) (s : RecState) → Wishful P s.wish → Wishful P (or_nothing (unless_blank s)).wish
+unfolding unless_blank or_nothing Wishful
+kept_wish P s h = grind (arith, h)
+
+-- ---- the step at one of the records
+
+-- vacuum of a record
+abbrev pub vacuumed : ℕ → Turn → Place → Moving → Moving
+vacuumed n t at o = vacuum at (without n t.node.members) o
+
+vacuums_happen : (c : Config) (rules : Rules) (n db : ℕ) (key : List ℕ) (t : Turn) (w : World) → t.node.members ≡ everyone c →
+    happens (scene c rules db key) (amid db key n w t) (Vacuums n) ≡ put (scene c rules db key) (amid db key n w t) n (waiting_call (state_at db key t.node).wish) (left_by c n db key (vacuumed n t) t)
+unfolding node.view without
+vacuums_happen c rules n db key t w h =
+    ap (λ (v : View). put (scene c rules db key) (amid db key n w t) n (waiting_call v.state.wish) (vacuum (place (scene c rules db key) n v) (others n (everyone c)) (starts v))) (self db key n w t)
+    ∙ ap (λ (p : Place). put (scene c rules db key) (amid db key n w t) n (waiting_call (state_at db key t.node).wish) (vacuum p (others n (everyone c)) (starts (view db key t.node)))) (sym (place_is c rules n db key t.node h))
+    ∙ ap (λ (ms : List ℕ). put (scene c rules db key) (amid db key n w t) n (waiting_call (state_at db key t.node).wish) (vacuum (place_of c n db key t.node) (others n ms) (starts (view db key t.node)))) (sym h)
+
+-- the calls that wait are found after the step
+waited_on : (c : Config) (rules : Rules) (who : Callers) (calls n db : ℕ) (key : List ℕ) (pend : List PendingCall) (t : Turn) → NodeStays c rules who calls n t.node → db < length t.node.dbs →
+    AllWaited db n pend t.node → AllWaited db n pend (at_record c n db key (vacuumed n t) t).node
+unfolding node.view
+waited_on c rules who calls n db key pend t h there all k = ⊎_elim
+    (λ (is : is_it db k db key ≡ true). (let p = it_is db db k key is in
+    subst (λ (j : List ℕ). Wishful (Waited db j n pend) (state_at db j (at_record c n db key (vacuumed n t) t).node).wish) p.1
+    (subst (λ (s : RecState). Wishful (Waited db key n pend) s.wish) (sym ((moves_at c n db key (vacuumed n t) t h.known.order).seen there))
+    (kept_wish (Waited db key n pend) (left_by c n db key (vacuumed n t) t).state (vacuum_wish (Waited db key n pend) (place_of c n db key t.node) (without n t.node.members) (node.view db key t.node) (all key))))))
+    (λ (unlike : is_it db k db key ≡ false). subst (λ (s : RecState). Wishful (Waited db k n pend) s.wish) (sym (other_state c n db db key k (vacuumed n t) t h.known.order unlike)) (all k))
+    (true_or_false (is_it db k db key))
+
+vacuum_goes : (c : Config) (rules : Rules) (who : Callers) (calls n db : ℕ) (key : List ℕ) (pend : List PendingCall) (ws : ℕ → List ℕ → World) (t : Turn) → list_all is_node (everyone c) ≡ true → is_in n (everyone c) ≡ true → is_db db ≡ true →
+    NodeStays c rules who calls n t.node → db < length t.node.dbs → AllWaited db n pend t.node → Reached (scene c rules db key) (amid db key n (ws db key) t) → (at_record c n db key (vacuumed n t) t).spent ≡ false →
+    Goes_on c rules who calls n pend ws t (at_record c n db key (vacuumed n t) t)
+unfolding KnownAt state_at node.view
+vacuum_goes c rules who calls n db key pend ws t real member small h there all reached spent =
+    follows c rules who calls n db key (event.Vacuum (without n t.node.members)) t pend (waiting_call (state_at db key t.node).wish) ws (Vacuums n) real member h (record {
+      has = small;
+      there = there;
+      may = subst (λ (ms : List ℕ). Ascends (without n ms) × ¬ (Contains (without n ms) n)) (sym h.members) (others_come c n);
+      from = refl;
+      whole = whole_part c n db key (vacuumed n t) t spent;
+      known = vacuum_wish (Known who calls n db key) (place_of c n db key t.node) (without n t.node.members) (node.view db key t.node) ((h.known.dbs db).records key);
+      finds = waited_finds db key n pend (state_at db key t.node).wish (all key);
+      reached = reached;
+      is_event = vacuums_happen c rules n db key t (ws db key) h.members;
+    })
