@@ -175,3 +175,67 @@ vacuum_goes c rules who calls n db key pend ws t real member small h there all r
       reached = reached;
       is_event = vacuums_happen c rules n db key t (ws db key) h.members;
     })
+
+-- ---- at every record of the database
+
+-- a step that was whole at its end was so before
+either_whole : (a b : Bool) → (a || b) ≡ false → a ≡ false
+either_whole true b e = absurd (cc)
+either_whole false b e = refl
+
+whole_before : (c : Config) (n db : ℕ) (m : Pairs RecState) (t : Turn) → (vacuum_all c n db m t).spent ≡ false → t.spent ≡ false
+unfolding vacuum_all at_record acted
+whole_before c n db [] t e = e
+whole_before c n db (x ∷ m) t e = either_whole t.spent (left_by c n db x.0 (vacuumed n t) t).spent (whole_before c n db m (at_record c n db x.0 (vacuumed n t) t) e)
+
+-- from a turn t0 on, from which the step came to t
+all_go : (c : Config) (rules : Rules) (who : Callers) (calls n db : ℕ) (m : Pairs RecState) (pend : List PendingCall) (ws : ℕ → List ℕ → World) (t0 t : Turn) → list_all is_node (everyone c) ≡ true → is_in n (everyone c) ≡ true → is_db db ≡ true →
+    db < length c.dbs → ((key : List ℕ) → Reached (scene c rules db key) (amid db key n (ws db key) t0)) → AllWaited db n pend t.node → Goes_on c rules who calls n pend ws t0 t → (vacuum_all c n db m t).spent ≡ false →
+    Goes_on c rules who calls n pend ws t0 (vacuum_all c n db m t)
+unfolding vacuum_all
+all_go c rules who calls n db [] pend ws t0 t real member small inside reached all g spent = g
+all_go c rules who calls n db (x ∷ m) pend ws t0 t real member small inside reached all g spent =
+    let there : db < length t.node.dbs = subst (λ (l : ℕ). db < l) (sym g.0.size) inside in
+    let u = at_record c n db x.0 (vacuumed n t) t in
+    let step = vacuum_goes c rules who calls n db x.0 pend ws t real member small g.0 there all
+        (reached_on (scene c rules db x.0) n (ws db x.0) pend t0 t (reached x.0) (g.1 db x.0)) (whole_before c n db m u spent) in
+    all_go c rules who calls n db m pend ws t0 u real member small inside reached (waited_on c rules who calls n db x.0 pend t g.0 there all) (goes_more c rules who calls n pend ws t0 t u g step) spent
+
+past_db : (ds : List Database) (db : ℕ) → nat_lt db (length ds) ≡ false → or_untouched (slice_get ds db) ≡ untouched
+unfolding or_untouched
+past_db [] db e = refl
+past_db (d ∷ ds) zero e = absurd (grind arith)
+past_db (d ∷ ds) (suc k) e = past_db ds k (grind arith)
+
+-- a database that is not declared has no records
+no_records : (c : Config) (n db : ℕ) (t : Turn) → nat_lt db (length t.node.dbs) ≡ false → vacuum_all c n db (db_at db t.node).records t ≡ t
+unfolding db_at vacuum_all untouched
+no_records c n db t e = ap (λ (d : Database). vacuum_all c n db d.records t) (past_db t.node.dbs db e)
+
+-- A vacuum of a database: the node stays as it was, and the world of every record follows.
+pub vacuums_follow : (c : Config) (rules : Rules) (who : Callers) (w : Cluster) (n db : ℕ) → list_all is_node (everyone c) ≡ true → ((d : ℕ) → d < length c.dbs → is_db d ≡ true) → is_in n (everyone c) ≡ true →
+    NodeStays c rules who w.calls n (node_at n w) → ((key : List ℕ) → Finds db key n (pending w) (waiting_call (state_at db key (node_at n w)).wish)) → ((key : List ℕ) → Reached (scene c rules db key) (project db key w)) →
+    (vacuums c n db (begins (node_at n w))).spent ≡ false →
+    Goes_on c rules who w.calls n (pending w) (λ db key. project db key w) (begins (node_at n w)) (vacuums c n db (begins (node_at n w)))
+unfolding vacuums
+vacuums_follow c rules who w n db real small member h finds reached spent =
+    let t = begins (node_at n w) in
+    let ws : ℕ → List ℕ → World = λ db key. project db key w in
+    let same = goes_nowhere c rules who w.calls n (pending w) ws t h in
+    cond_both (is_serving t.node.phase) (vacuum_all c n db (db_at db t.node).records t) t (λ (u : Turn). u.spent ≡ false → Goes_on c rules who w.calls n (pending w) ws t u)
+    (λ _ whole. ⊎_elim
+        (λ (is : nat_lt db (length t.node.dbs) ≡ true). (let inside : db < length c.dbs = subst (λ (l : ℕ). db < l) h.size (ltb-true db (length t.node.dbs) is) in
+        all_go c rules who w.calls n db (db_at db t.node).records (pending w) ws t t real member (small db inside) inside
+            (λ key. ((reached key).0, (reached key).1 ∙ begun db key n w)) (λ key. finds_waited db key n (pending w) (state_at db key t.node).wish (finds key)) same whole))
+        (λ (not_so : nat_lt db (length t.node.dbs) ≡ false). subst (λ (u : Turn). Goes_on c rules who w.calls n (pending w) ws t u) (sym (no_records c n db t not_so)) same)
+        (true_or_false (nat_lt db (length t.node.dbs))))
+    (λ _ whole. same) spent
+
+-- and the cluster goes on
+pub vacuums_goes : (c : Config) (rules : Rules) (p : Msg → Bool) (who : Callers) (w : Cluster) (n db : ℕ) (labels : List Label) (es : ℕ → List ℕ → List law.Event) → list_all is_node (everyone c) ≡ true → ((d : ℕ) → d < length c.dbs → is_db d ≡ true) →
+    ClusterStays c rules p who w → Schedules c rules w labels es → is_up n w ≡ true → (vacuums c n db (begins (node_at n w))).spent ≡ false →
+    Cluster_goes c rules p who (steps.put n (vacuums c n db (begins (node_at n w))) [] w).cluster (labels ++ labels_of n (pending w) (vacuums c n db (begins (node_at n w))).outs)
+vacuums_goes c rules p who w n db labels es real small h sched up spent =
+    let t = h.up n up in
+    put_goes c rules p who w n (vacuums c n db (begins (node_at n w))) labels es t h sched
+    (vacuums_follow c rules who w n db real small (is_member c n t) (h.nodes n t) (λ key. finds_waiting who w.calls n db key w (all_known c rules p who w h)) (λ key. (es db key, (sched db key).0)) spent)
