@@ -1,5 +1,5 @@
 -- Vacuum of a database, at every record of it in turn: the node stays as it was, and the world of every record follows.
-use Rattle.std.proofs.Common.{◌≡◌, ◌≢◌, ℕ, zero, suc, ◌+◌, ◌<◌, Bool, true, false, cond, ◌||◌, List, [], ◌∷◌, ◌++◌, length, Option, Some, None, refl, sym, ap, ◌∙◌, append-nil, arith, subst, ⊎_elim}
+use Rattle.std.proofs.Common.{◌≡◌, ℕ, zero, suc, ◌+◌, ◌<◌, Bool, true, false, cond, ◌||◌, List, [], ◌∷◌, ◌++◌, length, Option, Some, None, refl, sym, ap, ◌∙◌, append-nil, arith, subst, ⊎_elim}
 use Rattle.std.specs.Prelude.{Contains, nat_eq, nat_lt, not, slice_get}
 use Rattle.std.specs.List.{list_all}
 use Rattle.std.proofs.lemmas.Bool.{cond_both, eqb-true, eq-eqb, ltb-true}
@@ -13,7 +13,7 @@ use Rattle.ct_call.specs.Rules.{Rules}
 use Rattle.ct_deleg.specs.Tracked.{Ascends, AscendsFrom, others}
 use Rattle.ct_deleg.proofs.Nodes.{ascends_others}
 use Rattle.ct_store.specs.Map.{Pairs}
-use Rattle.ct_rules.specs.Moves.{move, vacuum}
+use Rattle.ct_rules.specs.Moves.{vacuum}
 use Rattle.ct_rules.specs.Parts.{Moving}
 use Rattle.ct_rules.specs.declared.event.MoveEvent.TheVariants as event
 use Rattle.ct_rules.specs.declared.event.Place.{Place}
