@@ -1,6 +1,6 @@
 -- Vacuum of a database, at every record of it in turn: the node stays as it was, and the world of every record follows.
 use Rattle.std.proofs.Common.{◌≡◌, ℕ, zero, suc, ◌+◌, ◌<◌, Bool, true, false, cond, ◌||◌, List, [], ◌∷◌, ◌++◌, length, Option, Some, None, refl, sym, ap, ◌∙◌, append-nil, arith, subst, ⊎_elim}
-use Rattle.std.specs.Prelude.{Contains, nat_eq, nat_lt, not, slice_get}
+use Rattle.std.specs.Prelude.{Contains, Ok, nat_eq, nat_lt, not, slice_get}
 use Rattle.std.specs.List.{list_all}
 use Rattle.std.proofs.lemmas.Bool.{cond_both, eqb-true, eq-eqb, ltb-true}
 use Rattle.std.proofs.lemmas.List.Elements.{All-contains, filter_passes}
@@ -8,6 +8,7 @@ use Rattle.ct_msg.specs.declared.client.Answer.{Answer}
 use Rattle.ct_msg.specs.declared.client.ClientOp.{ClientOp}
 use Rattle.ct_msg.specs.declared.config.Config.{Config}
 use Rattle.ct_frame.specs.Fields.{is_db, is_node}
+use Rattle.ct_frame.specs.declared.event.Event.TheVariants as node_event
 use Rattle.ct_frame.specs.declared.frame.Msg.{Msg}
 use Rattle.ct_call.specs.Rules.{Rules}
 use Rattle.ct_deleg.specs.Tracked.{Ascends, AscendsFrom, others}
@@ -24,6 +25,7 @@ use Rattle.ct_rules_node.specs.Turn.{Turn, begins}
 use Rattle.ct_rules_node.specs.Records as node
 use Rattle.ct_rules_node.specs.Records.{acted, at_record, place_of}
 use Rattle.ct_rules_node.specs.Laws.{unless_blank, left_by}
+use Rattle.ct_rules_node.specs.Steps as node_steps
 use Rattle.ct_rules_node.specs.Steps.{vacuum_all, vacuums}
 use Rattle.ct_rules_node.proofs.AtRecord.{moves_at}
 use Rattle.ct_cluster.specs.Cluster.{Cluster, numbers, everyone, is_up, node_at, pending}
@@ -45,6 +47,7 @@ use Rattle.ct_law_generation.proofs.Amid.{self, place_is, other_state}
 use Rattle.ct_law_generation.proofs.Delivering.{begun, whole_part}
 use Rattle.ct_law_generation.proofs.Following.{last_more, trace_more, Reached, Goes_on, follows, finds_waiting}
 use Rattle.ct_law_generation.proofs.Clusters.{ClusterStays, all_known}
+use Rattle.ct_law_generation.proofs.Fed.{fed_is}
 use Rattle.ct_law_generation.proofs.Coming.{is_member, Cluster_goes, put_goes}
 
 -- ---- one step after another
@@ -239,3 +242,13 @@ vacuums_goes c rules p who w n db labels es real small h sched up spent =
     let t = h.up n up in
     put_goes c rules p who w n (vacuums c n db (begins (node_at n w))) labels es t h sched
     (vacuums_follow c rules who w n db real small (is_member c n t) (h.nodes n t) (λ key. finds_waiting who w.calls n db key w (all_known c rules p who w h)) (λ key. (es db key, (sched db key).0)) spent)
+
+-- the vacuum is given to a node that runs, and the step is taken
+pub vacuum_fed : (c : Config) (rules : Rules) (p : Msg → Bool) (who : Callers) (w : Cluster) (n db : ℕ) (labels : List Label) (es : ℕ → List ℕ → List law.Event) (x : steps.Stepped) → list_all is_node (everyone c) ≡ true → ((d : ℕ) → d < length c.dbs → is_db d ≡ true) →
+    ClusterStays c rules p who w → Schedules c rules w labels es → is_up n w ≡ true → steps.fed c rules n (node_event.Vacuum db) [] w ≡ Ok x →
+    Cluster_goes c rules p who x.cluster (labels ++ labels_of n (pending w) (vacuums c n db (begins (node_at n w))).outs)
+unfolding node_steps.happens
+vacuum_fed c rules p who w n db labels es x real small h sched up ok =
+    let f = fed_is c rules n (node_event.Vacuum db) [] w x ok in
+    subst (λ (y : steps.Stepped). Cluster_goes c rules p who y.cluster (labels ++ labels_of n (pending w) (vacuums c n db (begins (node_at n w))).outs)) (sym f.1)
+    (vacuums_goes c rules p who w n db labels es real small h sched up f.0)
