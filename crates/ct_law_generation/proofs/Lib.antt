@@ -29,3 +29,5 @@ pub mod Fed
 pub mod Delivered
 pub mod Concluding
 pub mod Vacuumed
+pub mod Configured
+pub mod Locked
