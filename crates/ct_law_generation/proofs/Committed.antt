@@ -1,17 +1,31 @@
 -- A change of the persistent side of one database: no record sees it, and what holds of the node stays.
-use Rattle.std.proofs.Common.{◌≡◌, ◌≢◌, ℕ, ◌<◌, Bool, true, false, List, [], ◌∷◌, ◌++◌, length, set, refl, sym, ap, ◌∙◌, append-nil, subst, ⊎_elim}
+use Rattle.std.proofs.Common.{◌≡◌, ◌≢◌, ℕ, ◌<◌, ◌≤◌, Bool, true, false, cond, List, [], ◌∷◌, ◌++◌, length, set, Option, Some, None, refl, sym, ap, ◌∙◌, append-nil, subst, ⊎_elim, inr}
 use Rattle.std.specs.Prelude.{nat_lt}
+use Rattle.std.specs.List.{filter, AllByRecursion}
 use Rattle.std.proofs.lemmas.Bool.{cond_both, cases_eq, ltb-true, ltb-false}
 use Rattle.std.proofs.lemmas.List.{length-set}
+use Rattle.ct_msg.specs.declared.client.Answer.{Answer}
 use Rattle.ct_msg.specs.declared.config.Config.{Config}
+use Rattle.ct_frame.specs.declared.event.Out.{Out}
+use Rattle.ct_frame.specs.declared.event.Out.TheVariants as out
+use Rattle.ct_frame.specs.declared.frame.Msg.{Msg}
 use Rattle.ct_call.specs.Rules.{Rules}
 use Rattle.ct_store.specs.Map.{Ascends, look}
-use Rattle.ct_rules.specs.declared.state.RecState.{RecState}
 use Rattle.ct_rules_node.specs.Laws.{AllAscend}
 use Rattle.ct_rules_node.specs.Node.{Node, Database, db_at, with_db, state_at, or_nothing}
+use Rattle.ct_rules_node.specs.Turn.{Turn, does, with_node, makes, answers, posts, posts_all}
+use Rattle.ct_rules_node.specs.Admission.{record_in}
 use Rattle.ct_rules_node.proofs.AtRecord.{at_set, at_other, set_past, all_set, at_ascends}
-use Rattle.ct_law_record.specs.World.{View}
-use Rattle.ct_law_generation.specs.Shown.{scene, view}
+use Rattle.ct_cluster.specs.Cluster.{Sent}
+use Rattle.ct_cluster.specs.Labels.{Label}
+use Rattle.ct_cluster.specs.Steps.{frames_of}
+use Rattle.ct_cluster.specs.Traces.{answered, sent_label}
+use Rattle.ct_cluster.specs.declared.step.PendingCall.{PendingCall}
+use Rattle.ct_promise.specs.Generation.{speaks_of_records, record_labels}
+use Rattle.ct_law_record.specs.World.{View, Mail}
+use Rattle.ct_law_generation.specs.Shown.{scene, view, mail_of, mails, labels_of}
+use Rattle.ct_law_generation.proofs.Hearing.{frames_more, mails_more, labels_more}
+use Rattle.ct_law_generation.proofs.Plain.{IsPlain, AllPlain, plain_more}
 use Rattle.ct_law_generation.proofs.Pending.{Callers, KnownAt, CommitFits, DatabaseKnown, NodeKnown}
 use Rattle.ct_law_generation.proofs.Forming.{Is_formed}
 use Rattle.ct_law_generation.proofs.Staying.{NodeStays}
@@ -69,3 +83,93 @@ stays_with c rules who calls n db x node h s f = record {
   };
   formed = λ d key. subst (λ (v : View). Is_formed (scene c rules d key) n v) (sym (view_with db d key x node s)) (h.formed d key);
 }
+
+-- ---- the step
+
+pub filter_more : {X : Type 0} (f : X → Bool) (xs ys : List X) → filter f (xs ++ ys) ≡ filter f xs ++ filter f ys
+filter_more f [] ys = refl
+filter_more f (x ∷ xs) ys = first (f x) (filter_more f xs ys)
+  where
+    first : (b : Bool) → filter f (xs ++ ys) ≡ filter f xs ++ filter f ys → cond b (x ∷ filter f (xs ++ ys)) (filter f (xs ++ ys)) ≡ cond b (x ∷ filter f xs) (filter f xs) ++ filter f ys
+    first true e = ap (λ (l : List _). x ∷ l) e
+    first false e = e
+
+-- What follows of a step on the persistent side: the node stays as it was, no record sees it or gets mail, what is sent is
+-- plain, and nothing is told of records.
+pub record Goes_beside (c : Config) (rules : Rules) (who : Callers) (calls n : ℕ) (pend : List PendingCall) (p : Msg → Bool) (t u : Turn) : Type 0 where
+  pub stays : NodeStays c rules who calls n t.node → NodeStays c rules who calls n u.node
+  pub views : (db : ℕ) (key : List ℕ) → view db key u.node ≡ view db key t.node
+  pub mail : (db : ℕ) (key : List ℕ) → mails db key (frames_of u.outs) ≡ mails db key (frames_of t.outs)
+  pub plain : AllPlain p (frames_of t.outs) → AllPlain p (frames_of u.outs)
+  pub untold : record_labels c (labels_of n pend u.outs) ≡ record_labels c (labels_of n pend t.outs)
+
+-- nothing happens
+pub beside_none : (c : Config) (rules : Rules) (who : Callers) (calls n : ℕ) (pend : List PendingCall) (p : Msg → Bool) (t : Turn) → Goes_beside c rules who calls n pend p t t
+beside_none c rules who calls n pend p t = record { stays = λ h. h; views = λ db key. refl; mail = λ db key. refl; plain = λ h. h; untold = refl }
+
+-- one after the other
+pub beside_then : (c : Config) (rules : Rules) (who : Callers) (calls n : ℕ) (pend : List PendingCall) (p : Msg → Bool) (t u v : Turn) → Goes_beside c rules who calls n pend p t u → Goes_beside c rules who calls n pend p u v → Goes_beside c rules who calls n pend p t v
+beside_then c rules who calls n pend p t u v g h = record {
+  stays = λ k. h.stays (g.stays k);
+  views = λ db key. h.views db key ∙ g.views db key;
+  mail = λ db key. h.mail db key ∙ g.mail db key;
+  plain = λ k. h.plain (g.plain k);
+  untold = h.untold ∙ g.untold;
+}
+
+makes_beside : (c : Config) (rules : Rules) (who : Callers) (calls n : ℕ) (pend : List PendingCall) (p : Msg → Bool) (number : ℕ) (t : Turn) → Goes_beside c rules who calls n pend p t (makes number t)
+unfolding makes
+makes_beside c rules who calls n pend p number t = record { stays = λ h. h; views = λ db key. refl; mail = λ db key. refl; plain = λ h. h; untold = refl }
+
+-- another state of a database, with the records and the floor that it had
+db_beside : (c : Config) (rules : Rules) (who : Callers) (calls n : ℕ) (pend : List PendingCall) (p : Msg → Bool) (db : ℕ) (x : Database) (t : Turn) → Same_records x (db_at db t.node) →
+    (CommitFits who calls n db (db_at db t.node).commit → CommitFits who calls n db x.commit) → Goes_beside c rules who calls n pend p t (with_node (with_db db x t.node) t)
+unfolding with_node
+db_beside c rules who calls n pend p db x t s f = record {
+  stays = λ h. stays_with c rules who calls n db x t.node h s (f (h.known.dbs db).commit);
+  views = λ d key. view_with db d key x t.node s;
+  mail = λ db key. refl;
+  plain = λ h. h;
+  untold = refl;
+}
+
+-- one thing more that the node does
+does_beside : (c : Config) (rules : Rules) (who : Callers) (calls n : ℕ) (pend : List PendingCall) (p : Msg → Bool) (x : Out) (t : Turn) → ((db : ℕ) (key : List ℕ) → mails db key (frames_of (x ∷ [])) ≡ []) →
+    AllPlain p (frames_of (x ∷ [])) → record_labels c (labels_of n pend (x ∷ [])) ≡ [] → Goes_beside c rules who calls n pend p t (does x t)
+unfolding does
+does_beside c rules who calls n pend p x t quiet plain untold = record {
+  stays = λ h. h;
+  views = λ db key. refl;
+  mail = λ db key. ap (λ (l : List Sent). mails db key l) (frames_more t.outs (x ∷ [])) ∙ mails_more db key (frames_of t.outs) (frames_of (x ∷ []))
+      ∙ ap (λ (l : List Mail). mails db key (frames_of t.outs) ++ l) (quiet db key) ∙ append-nil _;
+  plain = λ h. subst (λ (l : List Sent). AllPlain p l) (sym (frames_more t.outs (x ∷ []))) (plain_more p (frames_of t.outs) (frames_of (x ∷ [])) h plain);
+  untold = ap (λ (l : List Label). record_labels c l) (labels_more n pend t.outs (x ∷ [])) ∙ filter_more (speaks_of_records c) (labels_of n pend t.outs) (labels_of n pend (x ∷ []))
+      ∙ ap (λ (l : List Label). record_labels c (labels_of n pend t.outs) ++ l) untold ∙ append-nil _;
+}
+
+-- no answer to this call speaks of records
+abbrev pub Untold : Config → List PendingCall → ℕ → Type 0
+Untold c pend call = (a : Answer) → record_labels c (answered call a pend) ≡ []
+
+answers_beside : (c : Config) (rules : Rules) (who : Callers) (calls n : ℕ) (pend : List PendingCall) (p : Msg → Bool) (call : ℕ) (a : Answer) (t : Turn) → Untold c pend call → Goes_beside c rules who calls n pend p t (answers call a t)
+unfolding answers frames_of mails labels_of
+answers_beside c rules who calls n pend p call a t h = does_beside c rules who calls n pend p (out.Answer call a) t (λ db key. refl) tt (ap (λ (l : List Label). record_labels c l) (append-nil _) ∙ h a)
+
+-- the message speaks of no record, and is one of commits
+record Is_beside (p : Msg → Bool) (n g : ℕ) (m : Msg) : Type 0 where
+  pub no_record : record_in m ≡ None
+  pub no_label : sent_label n g m ≡ []
+  pub allowed : p m ≡ true
+
+posts_beside : (c : Config) (rules : Rules) (who : Callers) (calls n : ℕ) (pend : List PendingCall) (p : Msg → Bool) (g receiver : ℕ) (m : Msg) (t : Turn) → Is_beside p n g m → Goes_beside c rules who calls n pend p t (posts g n receiver m t)
+unfolding posts frames_of mails mail_of labels_of IsPlain
+posts_beside c rules who calls n pend p g receiver m t h = does_beside c rules who calls n pend p (out.Send (record { generation = g; sender = n; receiver = receiver; msg = m })) t
+    (λ db key. ap (λ (r : Option (ℕ × List ℕ)). mail_of db key (record { generation = g; sender = n; receiver = receiver; msg = m }) r ++ []) h.no_record)
+    (inr h.allowed, tt)
+    (ap (λ (l : List Label). record_labels c (l ++ [])) h.no_label)
+
+posts_all_beside : (c : Config) (rules : Rules) (who : Callers) (calls n : ℕ) (pend : List PendingCall) (p : Msg → Bool) (g : ℕ) (ns : List ℕ) (m : Msg) (t : Turn) → Is_beside p n g m → Goes_beside c rules who calls n pend p t (posts_all g n ns m t)
+unfolding posts_all
+posts_all_beside c rules who calls n pend p g [] m t h = beside_none c rules who calls n pend p t
+posts_all_beside c rules who calls n pend p g (r ∷ ns) m t h =
+    beside_then c rules who calls n pend p t (posts g n r m t) (posts_all g n ns m (posts g n r m t)) (posts_beside c rules who calls n pend p g r m t h) (posts_all_beside c rules who calls n pend p g ns m (posts g n r m t) h)
