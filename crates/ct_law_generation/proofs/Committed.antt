@@ -1,20 +1,27 @@
 -- A change of the persistent side of one database: no record sees it, and what holds of the node stays.
-use Rattle.std.proofs.Common.{◌≡◌, ◌≢◌, ℕ, ◌<◌, ◌≤◌, Bool, true, false, cond, List, [], ◌∷◌, ◌++◌, length, set, Option, Some, None, refl, sym, ap, ◌∙◌, append-nil, subst, ⊎_elim, inr}
-use Rattle.std.specs.Prelude.{nat_lt}
-use Rattle.std.specs.List.{filter, AllByRecursion}
+use Rattle.std.proofs.Common.{◌≡◌, ◌≢◌, ℕ, ◌+◌, ◌≤◌, Bool, true, false, cond, List, [], ◌∷◌, ◌++◌, length, Option, Some, None, refl, sym, ap, ◌∙◌, append-nil, subst, ⊎_elim, inr}
+use Rattle.std.specs.Prelude.{nat_lt, nat_le}
+use Rattle.std.specs.List.{filter}
 use Rattle.std.proofs.lemmas.Bool.{cond_both, cases_eq, ltb-true, ltb-false}
 use Rattle.std.proofs.lemmas.List.{length-set}
 use Rattle.ct_msg.specs.declared.client.Answer.{Answer}
+use Rattle.ct_msg.specs.declared.client.Answer.TheVariants as answer
+use Rattle.ct_msg.specs.declared.client.ClientOp.TheVariants as op
+use Rattle.ct_msg.specs.declared.client.Pair.{Pair}
 use Rattle.ct_msg.specs.declared.config.Config.{Config}
 use Rattle.ct_frame.specs.declared.event.Out.{Out}
 use Rattle.ct_frame.specs.declared.event.Out.TheVariants as out
 use Rattle.ct_frame.specs.declared.frame.Msg.{Msg}
+use Rattle.ct_frame.specs.declared.frame.Msg.TheVariants as msg
 use Rattle.ct_call.specs.Rules.{Rules}
 use Rattle.ct_store.specs.Map.{Ascends, look}
+use Rattle.ct_persist.specs.Persisted.{updated}
+use Rattle.ct_persist.specs.Commits.{begun, is_last, acknowledged}
 use Rattle.ct_rules_node.specs.Laws.{AllAscend}
-use Rattle.ct_rules_node.specs.Node.{Node, Database, db_at, with_db, state_at, or_nothing}
+use Rattle.ct_rules_node.specs.Node.{Node, Database, Committing, without, db_at, with_db, state_at, or_nothing}
 use Rattle.ct_rules_node.specs.Turn.{Turn, does, with_node, makes, answers, posts, posts_all}
 use Rattle.ct_rules_node.specs.Admission.{record_in}
+use Rattle.ct_rules_node.specs.Databases.{updates, with_commit, awaits_others, commits_at, commit, acknowledges, on_pupdate, on_pack_of, on_pack, read_pair}
 use Rattle.ct_rules_node.proofs.AtRecord.{at_set, at_other, set_past, all_set, at_ascends}
 use Rattle.ct_cluster.specs.Cluster.{Sent}
 use Rattle.ct_cluster.specs.Labels.{Label}
@@ -173,3 +180,72 @@ unfolding posts_all
 posts_all_beside c rules who calls n pend p g [] m t h = beside_none c rules who calls n pend p t
 posts_all_beside c rules who calls n pend p g (r ∷ ns) m t h =
     beside_then c rules who calls n pend p t (posts g n r m t) (posts_all g n ns m (posts g n r m t)) (posts_beside c rules who calls n pend p g r m t h) (posts_all_beside c rules who calls n pend p g ns m (posts g n r m t) h)
+
+-- ---- what a persistent database does
+
+-- the messages of a commit are allowed
+pub record Allows_commits (p : Msg → Bool) : Type 0 where
+  pub update : (db seq : ℕ) (writes : List Pair) → p (msg.PUpdate db seq writes) ≡ true
+  pub ack : (db seq : ℕ) → p (msg.PAck db seq) ≡ true
+
+updates_beside : (c : Config) (rules : Rules) (who : Callers) (calls n : ℕ) (pend : List PendingCall) (p : Msg → Bool) (db seq : ℕ) (writes : List Pair) (t : Turn) → Goes_beside c rules who calls n pend p t (updates db seq writes t)
+unfolding updates
+updates_beside c rules who calls n pend p db seq writes t = db_beside c rules who calls n pend p db (record (db_at db t.node) { store = updated seq writes (db_at db t.node).store }) t (refl, refl) (λ f. f)
+
+with_commit_beside : (c : Config) (rules : Rules) (who : Callers) (calls n : ℕ) (pend : List PendingCall) (p : Msg → Bool) (db : ℕ) (x : Option Committing) (t : Turn) → CommitFits who calls n db x → Goes_beside c rules who calls n pend p t (with_commit db x t)
+unfolding with_commit
+with_commit_beside c rules who calls n pend p db x t f = db_beside c rules who calls n pend p db (record (db_at db t.node) { commit = x }) t (refl, refl) (λ _. f)
+
+awaits_beside : (c : Config) (rules : Rules) (who : Callers) (calls n : ℕ) (pend : List PendingCall) (p : Msg → Bool) (call db seq : ℕ) (writes : List Pair) (ns : List ℕ) (t : Turn) → Allows_commits p → Untold c pend call → who call ≡ (n, op.Commit db writes) → call ≤ calls →
+    Goes_beside c rules who calls n pend p t (awaits_others n call db seq writes ns t)
+unfolding awaits_others CommitFits record_in sent_label
+awaits_beside c rules who calls n pend p call db seq writes [] t ok untold own l = answers_beside c rules who calls n pend p call (answer.Committed seq) t untold
+awaits_beside c rules who calls n pend p call db seq writes (r ∷ ns) t ok untold own l =
+    let x : Committing = record { call = call; writes = writes; pending = begun seq (r ∷ ns) } in
+    let u = with_commit db (Some x) t in
+    beside_then c rules who calls n pend p t u (posts_all t.node.generation n (r ∷ ns) (msg.PUpdate db seq writes) u)
+    (with_commit_beside c rules who calls n pend p db (Some x) t (own, l))
+    (posts_all_beside c rules who calls n pend p t.node.generation (r ∷ ns) (msg.PUpdate db seq writes) u (record { no_record = refl; no_label = refl; allowed = ok.update db seq writes }))
+
+-- a commit
+pub commit_beside : (c : Config) (rules : Rules) (who : Callers) (calls n : ℕ) (pend : List PendingCall) (p : Msg → Bool) (call db : ℕ) (writes : List Pair) (t : Turn) → Allows_commits p → Untold c pend call → who call ≡ (n, op.Commit db writes) → call ≤ calls →
+    Goes_beside c rules who calls n pend p t (commit n call db writes t)
+unfolding commit commits_at
+commit_beside c rules who calls n pend p call db writes t ok untold own l =
+    let seq = (db_at db t.node).store.seq + 1 in
+    let u = makes seq t in
+    let v = updates db seq writes u in
+    beside_then c rules who calls n pend p t u (awaits_others n call db seq writes (without n t.node.members) v) (makes_beside c rules who calls n pend p seq t)
+    (beside_then c rules who calls n pend p u v (awaits_others n call db seq writes (without n t.node.members) v) (updates_beside c rules who calls n pend p db seq writes u)
+    (awaits_beside c rules who calls n pend p call db seq writes (without n t.node.members) v ok untold own l))
+
+-- a read of a pair
+pub read_pair_beside : (c : Config) (rules : Rules) (who : Callers) (calls n : ℕ) (pend : List PendingCall) (p : Msg → Bool) (call db : ℕ) (key : List ℕ) (t : Turn) → Untold c pend call → Goes_beside c rules who calls n pend p t (read_pair call db key t)
+unfolding read_pair
+read_pair_beside c rules who calls n pend p call db key t untold = answers_beside c rules who calls n pend p call _ t untold
+
+-- PUpdate
+pub pupdate_beside : (c : Config) (rules : Rules) (who : Callers) (calls n : ℕ) (pend : List PendingCall) (p : Msg → Bool) (sender db seq : ℕ) (writes : List Pair) (t : Turn) → Allows_commits p → Goes_beside c rules who calls n pend p t (on_pupdate n sender db seq writes t)
+unfolding on_pupdate acknowledges record_in sent_label
+pupdate_beside c rules who calls n pend p sender db seq writes t ok =
+    let u = updates db seq writes t in
+    beside_then c rules who calls n pend p t u (acknowledges n sender db seq u) (updates_beside c rules who calls n pend p db seq writes t)
+    (cond_both (nat_le seq (db_at db u.node).store.seq) (posts u.node.generation n sender (msg.PAck db seq) u) u (λ (v : Turn). Goes_beside c rules who calls n pend p u v)
+    (λ _. posts_beside c rules who calls n pend p u.node.generation sender (msg.PAck db seq) u (record { no_record = refl; no_label = refl; allowed = ok.ack db seq }))
+    (λ _. beside_none c rules who calls n pend p u))
+
+pack_of_beside : (c : Config) (rules : Rules) (who : Callers) (calls n : ℕ) (pend : List PendingCall) (p : Msg → Bool) (sender db seq : ℕ) (t : Turn) (x : Option Committing) → CommitFits who calls n db x →
+    ((call : ℕ) (writes : List Pair) → who call ≡ (n, op.Commit db writes) → Untold c pend call) → Goes_beside c rules who calls n pend p t (on_pack_of sender db seq t x)
+unfolding on_pack_of CommitFits
+pack_of_beside c rules who calls n pend p sender db seq t None f untold = beside_none c rules who calls n pend p t
+pack_of_beside c rules who calls n pend p sender db seq t (Some x) f untold =
+    cond_both (is_last sender seq x.pending) (answers x.call (answer.Committed seq) (with_commit db None t)) (with_commit db (Some (record x { pending = acknowledged sender seq x.pending })) t) (λ (v : Turn). Goes_beside c rules who calls n pend p t v)
+    (λ _. beside_then c rules who calls n pend p t (with_commit db None t) (answers x.call (answer.Committed seq) (with_commit db None t)) (with_commit_beside c rules who calls n pend p db None t tt)
+    (answers_beside c rules who calls n pend p x.call (answer.Committed seq) (with_commit db None t) (untold x.call x.writes f.0)))
+    (λ _. with_commit_beside c rules who calls n pend p db (Some (record x { pending = acknowledged sender seq x.pending })) t f)
+
+-- PAck: the commit that waits is answered, and whoever made it asked a commit of this database
+pub pack_beside : (c : Config) (rules : Rules) (who : Callers) (calls n : ℕ) (pend : List PendingCall) (p : Msg → Bool) (sender db seq : ℕ) (t : Turn) → NodeStays c rules who calls n t.node →
+    ((call : ℕ) (writes : List Pair) → who call ≡ (n, op.Commit db writes) → Untold c pend call) → Goes_beside c rules who calls n pend p t (on_pack sender db seq t)
+unfolding on_pack
+pack_beside c rules who calls n pend p sender db seq t h untold = pack_of_beside c rules who calls n pend p sender db seq t (db_at db t.node).commit (h.known.dbs db).commit untold
