@@ -1,14 +1,18 @@
 -- A change of the persistent side of one database: no record sees it, and what holds of the node stays.
-use Rattle.std.proofs.Common.{◌≡◌, ◌≢◌, ℕ, ◌+◌, ◌≤◌, Bool, true, false, cond, List, [], ◌∷◌, ◌++◌, length, Option, Some, None, refl, sym, ap, ◌∙◌, append-nil, subst, ⊎_elim, inr}
-use Rattle.std.specs.Prelude.{nat_lt, nat_le}
-use Rattle.std.specs.List.{filter}
-use Rattle.std.proofs.lemmas.Bool.{cond_both, cases_eq, ltb-true, ltb-false}
+use Rattle.std.proofs.Common.{◌≡◌, ◌≢◌, ℕ, ◌+◌, ◌<◌, ◌≤◌, Bool, true, false, cond, not, List, [], ◌∷◌, ◌++◌, length, Option, Some, None, refl, sym, ap, ◌∙◌, append-nil, subst, ⊎_elim, inr}
+use Rattle.std.specs.Prelude.{nat_eq, nat_lt, nat_le, slice_get, option_map}
+use Rattle.std.specs.List.{filter, AllByRecursion}
+use Rattle.std.proofs.lemmas.Bool.{cond_both, cases_eq, eqb-true, eq-eqb, ltb-true, ltb-false}
 use Rattle.std.proofs.lemmas.List.{length-set}
 use Rattle.ct_msg.specs.declared.client.Answer.{Answer}
 use Rattle.ct_msg.specs.declared.client.Answer.TheVariants as answer
+use Rattle.ct_msg.specs.declared.client.ClientOp.{ClientOp}
 use Rattle.ct_msg.specs.declared.client.ClientOp.TheVariants as op
 use Rattle.ct_msg.specs.declared.client.Pair.{Pair}
 use Rattle.ct_msg.specs.declared.config.Config.{Config}
+use Rattle.ct_msg.specs.declared.config.DbDecl.{DbDecl}
+use Rattle.ct_msg.specs.declared.config.DbKind.{DbKind}
+use Rattle.ct_msg.specs.declared.config.DbKind.TheVariants.{Volatile, ReadOnly, Persistent}
 use Rattle.ct_frame.specs.declared.event.Out.{Out}
 use Rattle.ct_frame.specs.declared.event.Out.TheVariants as out
 use Rattle.ct_frame.specs.declared.frame.Msg.{Msg}
@@ -19,23 +23,31 @@ use Rattle.ct_persist.specs.Persisted.{updated}
 use Rattle.ct_persist.specs.Commits.{begun, is_last, acknowledged}
 use Rattle.ct_rules_node.specs.Laws.{AllAscend}
 use Rattle.ct_rules_node.specs.Node.{Node, Database, Committing, without, db_at, with_db, state_at, or_nothing}
+use Rattle.ct_rules_node.specs.Node as node
 use Rattle.ct_rules_node.specs.Turn.{Turn, does, with_node, makes, answers, posts, posts_all}
 use Rattle.ct_rules_node.specs.Admission.{record_in}
 use Rattle.ct_rules_node.specs.Databases.{updates, with_commit, awaits_others, commits_at, commit, acknowledges, on_pupdate, on_pack_of, on_pack, read_pair}
 use Rattle.ct_rules_node.proofs.AtRecord.{at_set, at_other, set_past, all_set, at_ascends}
-use Rattle.ct_cluster.specs.Cluster.{Sent}
-use Rattle.ct_cluster.specs.Labels.{Label}
-use Rattle.ct_cluster.specs.Steps.{frames_of}
+use Rattle.ct_cluster.specs.Cluster.{Cluster, Sent}
+use Rattle.ct_cluster.specs.Labels.{Label, Answered}
+use Rattle.ct_cluster.specs.Steps.{frames_of, put}
 use Rattle.ct_cluster.specs.Traces.{answered, sent_label}
 use Rattle.ct_cluster.specs.declared.step.PendingCall.{PendingCall}
+use Rattle.ct_register.specs.Laws.{is_persistent}
+use Rattle.ct_register.specs.Legal.{db_of, kind_at}
 use Rattle.ct_promise.specs.Generation.{speaks_of_records, record_labels}
-use Rattle.ct_law_record.specs.World.{View, Mail}
-use Rattle.ct_law_generation.specs.Shown.{scene, view, mail_of, mails, labels_of}
+use Rattle.ct_law_record.specs.World as law
+use Rattle.ct_law_record.specs.World.{View, Mail, World}
+use Rattle.ct_law_generation.specs.Shown.{scene, view, mail_of, mails, labels_of, amid, project, Schedules}
 use Rattle.ct_law_generation.proofs.Hearing.{frames_more, mails_more, labels_more}
 use Rattle.ct_law_generation.proofs.Plain.{IsPlain, AllPlain, plain_more}
-use Rattle.ct_law_generation.proofs.Pending.{Callers, KnownAt, CommitFits, DatabaseKnown, NodeKnown}
+use Rattle.ct_law_generation.proofs.Pending.{Callers, Fits, KnownAt, CommitFits, DatabaseKnown, NodeKnown}
 use Rattle.ct_law_generation.proofs.Forming.{Is_formed}
 use Rattle.ct_law_generation.proofs.Staying.{NodeStays}
+use Rattle.ct_law_generation.proofs.Calling.{own_pending}
+use Rattle.ct_law_generation.proofs.Putting.{put_shows}
+use Rattle.ct_law_generation.proofs.Clusters.{ClusterStays, put_stays}
+use Rattle.ct_law_generation.proofs.Coming.{Cluster_goes}
 
 -- ---- the node
 
@@ -249,3 +261,57 @@ pub pack_beside : (c : Config) (rules : Rules) (who : Callers) (calls n : ℕ) (
     ((call : ℕ) (writes : List Pair) → who call ≡ (n, op.Commit db writes) → Untold c pend call) → Goes_beside c rules who calls n pend p t (on_pack sender db seq t)
 unfolding on_pack
 pack_beside c rules who calls n pend p sender db seq t h untold = pack_of_beside c rules who calls n pend p sender db seq t (db_at db t.node).commit (h.known.dbs db).commit untold
+
+-- ---- what is told of it is left out
+
+decl_persistent : (d : Option DbDecl) → node.is_persistent (node.kind_in d) ≡ true → not (is_persistent (option_map (λ x. x.kind) d)) ≡ false
+unfolding node.is_persistent node.kind_in
+decl_persistent None e = absurd (cc)
+decl_persistent (Some d) e = of_kind d.kind e
+  where
+    of_kind : (k : DbKind) → node.is_persistent (Some k) ≡ true → not (is_persistent (Some k)) ≡ false
+    of_kind Volatile e = absurd (cc)
+    of_kind ReadOnly e = absurd (cc)
+    of_kind Persistent e = refl
+
+-- an answer to a call on a persistent database speaks of no record
+silent : (c : Config) (n : ℕ) (asked : ClientOp) (a : Answer) → node.is_persistent (node.kind_at c (db_of asked)) ≡ true → speaks_of_records c (Answered n asked a) ≡ false
+unfolding speaks_of_records node.kind_at kind_at
+silent c n asked a e = decl_persistent (slice_get c.dbs (db_of asked)) e
+
+left_out : (c : Config) (n : ℕ) (asked : ClientOp) (a : Answer) → node.is_persistent (node.kind_at c (db_of asked)) ≡ true → record_labels c (Answered n asked a ∷ []) ≡ []
+left_out c n asked a e = ap (λ (b : Bool). cond b (Answered n asked a ∷ []) []) (silent c n asked a e)
+
+-- so it is of the call that comes
+pub own_untold : (c : Config) (n call : ℕ) (asked : ClientOp) (ps : List PendingCall) → node.is_persistent (node.kind_at c (db_of asked)) ≡ true → Untold c (own_pending n call asked ∷ ps) call
+unfolding answered
+own_untold c n call asked ps e a = ap (λ (b : Bool). record_labels c (cond b (Answered n asked a ∷ []) (answered call a ps))) (eq-eqb call call refl) ∙ left_out c n asked a e
+
+-- and of a call that waits
+pub waiting_untold : (c : Config) (who : Callers) (n call : ℕ) (asked : ClientOp) (ps : List PendingCall) → AllByRecursion (Fits who) ps → who call ≡ (n, asked) → node.is_persistent (node.kind_at c (db_of asked)) ≡ true → Untold c ps call
+unfolding answered Fits
+waiting_untold c who n call asked [] h own e a = refl
+waiting_untold c who n call asked (x ∷ xs) h own e a = cond_both (nat_eq x.call call) (Answered x.node x.op a ∷ []) (answered call a xs) (λ (l : List Label). record_labels c l ≡ [])
+    (λ t. (let same : (n, asked) ≡ (x.node, x.op) = sym own ∙ ap who (sym (eqb-true x.call call t)) ∙ h.0 in
+    left_out c x.node x.op a (subst (λ (q : ℕ × ClientOp). node.is_persistent (node.kind_at c (db_of q.1)) ≡ true) same e)))
+    (λ _. waiting_untold c who n call asked xs h.1 own e a)
+
+-- ---- the cluster
+
+amid_same : (db : ℕ) (key : List ℕ) (n : ℕ) (w : World) (t u : Turn) → view db key u.node ≡ view db key t.node → mails db key (frames_of u.outs) ≡ mails db key (frames_of t.outs) → amid db key n w u ≡ amid db key n w t
+amid_same db key n w t u v m = λ i. record { nodes = λ k. cond (nat_eq k n) (v i) (w.nodes k); joined = λ _. true; mail = w.mail ++ m i }
+
+-- Where a turn that has just begun goes on so, the cluster stays so, and the same schedules lead to it; what is told more is
+-- left out.
+pub beside_goes : (c : Config) (rules : Rules) (p : Msg → Bool) (who : Callers) (w : Cluster) (n : ℕ) (t u : Turn) (pend : List PendingCall) (labels : List Label) (es : ℕ → List ℕ → List law.Event) → nat_lt n c.nodes ≡ true → t.outs ≡ [] →
+    ((db : ℕ) (key : List ℕ) → project db key w ≡ amid db key n (project db key w) t) → NodeStays c rules who w.calls n t.node → ClusterStays c rules p who w → Schedules c rules w labels es →
+    Goes_beside c rules who w.calls n pend p t u → Cluster_goes c rules p who (put n u [] w).cluster (labels ++ record_labels c (labels_of n pend u.outs))
+unfolding frames_of labels_of
+beside_goes c rules p who w n t u pend labels es is empty starts mine h sched g =
+    let inside : n < length w.nodes = subst (λ (l : ℕ). n < l) (sym h.size) (ltb-true n c.nodes is) in
+    let none : record_labels c (labels_of n pend u.outs) ≡ [] = g.untold ∙ ap (λ xs. record_labels c (labels_of n pend xs)) empty in
+    subst (λ (l : List Label). Cluster_goes c rules p who (put n u [] w).cluster l) (sym (ap (λ (l : List Label). labels ++ l) none ∙ append-nil labels)) (
+      put_stays c rules p who w n u inside h (g.stays mine) (g.plain (subst (λ xs. AllPlain p (frames_of xs)) (sym empty) tt)),
+      es,
+      λ db key. ((sched db key).0 ∙ starts db key ∙ sym (amid_same db key n (project db key w) t u (g.views db key) (g.mail db key)) ∙ sym (put_shows db key n u [] w inside), (sched db key).1),
+    )
