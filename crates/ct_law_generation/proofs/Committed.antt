@@ -1,8 +1,8 @@
 -- A change of the persistent side of one database: no record sees it, and what holds of the node stays.
-use Rattle.std.proofs.Common.{◌≡◌, ◌≢◌, ℕ, ◌+◌, ◌<◌, ◌≤◌, Bool, true, false, cond, not, List, [], ◌∷◌, ◌++◌, length, Option, Some, None, refl, sym, ap, ◌∙◌, append-nil, subst, ⊎_elim, inr}
-use Rattle.std.specs.Prelude.{nat_eq, nat_lt, nat_le, slice_get, option_map}
+use Rattle.std.proofs.Common.{◌≡◌, ◌≢◌, ℕ, ◌+◌, ◌<◌, ◌≤◌, Bool, true, false, cond, not, List, [], ◌∷◌, ◌++◌, length, Option, Some, None, refl, sym, ap, ◌∙◌, append-nil, arith, subst, ⊎_elim, inr}
+use Rattle.std.specs.Prelude.{nat_eq, nat_lt, nat_le, slice_get, option_map, ◌&&◌}
 use Rattle.std.specs.List.{filter, AllByRecursion}
-use Rattle.std.proofs.lemmas.Bool.{cond_both, cases_eq, eqb-true, eq-eqb, ltb-true, ltb-false}
+use Rattle.std.proofs.lemmas.Bool.{cond_both, and_parts, cases_eq, eqb-true, eq-eqb, ltb-true, ltb-false}
 use Rattle.std.proofs.lemmas.List.{length-set}
 use Rattle.ct_msg.specs.declared.client.Answer.{Answer}
 use Rattle.ct_msg.specs.declared.client.Answer.TheVariants as answer
@@ -15,20 +15,25 @@ use Rattle.ct_msg.specs.declared.config.DbKind.{DbKind}
 use Rattle.ct_msg.specs.declared.config.DbKind.TheVariants.{Volatile, ReadOnly, Persistent}
 use Rattle.ct_frame.specs.declared.event.Out.{Out}
 use Rattle.ct_frame.specs.declared.event.Out.TheVariants as out
+use Rattle.ct_frame.specs.declared.frame.Frame.{Frame}
 use Rattle.ct_frame.specs.declared.frame.Msg.{Msg}
 use Rattle.ct_frame.specs.declared.frame.Msg.TheVariants as msg
 use Rattle.ct_call.specs.Rules.{Rules}
 use Rattle.ct_store.specs.Map.{Ascends, look}
 use Rattle.ct_persist.specs.Persisted.{updated}
 use Rattle.ct_persist.specs.Commits.{begun, is_last, acknowledged}
+use Rattle.ct_rules.specs.Parts.{want}
 use Rattle.ct_rules_node.specs.Laws.{AllAscend}
 use Rattle.ct_rules_node.specs.Node.{Node, Database, Committing, without, db_at, with_db, state_at, or_nothing}
 use Rattle.ct_rules_node.specs.Node as node
-use Rattle.ct_rules_node.specs.Turn.{Turn, does, with_node, makes, answers, posts, posts_all}
-use Rattle.ct_rules_node.specs.Admission.{record_in}
+use Rattle.ct_rules_node.specs.Turn.{Turn, begins, does, with_node, makes, answers, posts, posts_all}
+use Rattle.ct_rules_node.specs.Admission.{record_in, is_current}
+use Rattle.ct_rules_node.specs.Steps.{arrives, if_persistent}
+use Rattle.ct_rules_node.specs.Clients.{refusal, client, serves, reads}
+use Rattle.ct_rules_node.specs.Records.{at_record}
 use Rattle.ct_rules_node.specs.Databases.{updates, with_commit, awaits_others, commits_at, commit, acknowledges, on_pupdate, on_pack_of, on_pack, read_pair}
 use Rattle.ct_rules_node.proofs.AtRecord.{at_set, at_other, set_past, all_set, at_ascends}
-use Rattle.ct_cluster.specs.Cluster.{Cluster, Sent}
+use Rattle.ct_cluster.specs.Cluster.{Cluster, Sent, is_up, node_at, pending}
 use Rattle.ct_cluster.specs.Labels.{Label, Answered}
 use Rattle.ct_cluster.specs.Steps.{frames_of, put}
 use Rattle.ct_cluster.specs.Traces.{answered, sent_label}
@@ -41,13 +46,17 @@ use Rattle.ct_law_record.specs.World.{View, Mail, World}
 use Rattle.ct_law_generation.specs.Shown.{scene, view, mail_of, mails, labels_of, amid, project, Schedules}
 use Rattle.ct_law_generation.proofs.Hearing.{frames_more, mails_more, labels_more}
 use Rattle.ct_law_generation.proofs.Plain.{IsPlain, AllPlain, plain_more}
-use Rattle.ct_law_generation.proofs.Pending.{Callers, Fits, KnownAt, CommitFits, DatabaseKnown, NodeKnown}
+use Rattle.ct_law_generation.proofs.Pending.{Callers, Fits, KnownAt, CommitFits, DatabaseKnown, NodeKnown, pending_fits}
 use Rattle.ct_law_generation.proofs.Forming.{Is_formed}
 use Rattle.ct_law_generation.proofs.Staying.{NodeStays}
 use Rattle.ct_law_generation.proofs.Calling.{own_pending}
 use Rattle.ct_law_generation.proofs.Putting.{put_shows}
-use Rattle.ct_law_generation.proofs.Clusters.{ClusterStays, put_stays}
+use Rattle.ct_law_generation.proofs.Clusters.{ClusterStays, all_known, put_stays}
 use Rattle.ct_law_generation.proofs.Coming.{Cluster_goes}
+use Rattle.ct_law_generation.proofs.Counting.{own_caller, more_calls}
+use Rattle.ct_law_generation.proofs.Called.{counted, called_by, counted_schedules}
+use Rattle.ct_law_generation.proofs.Served.{client_serves}
+use Rattle.ct_law_generation.proofs.Delivering as delivering
 
 -- ---- the node
 
@@ -315,3 +324,70 @@ beside_goes c rules p who w n t u pend labels es is empty starts mine h sched g 
       es,
       λ db key. ((sched db key).0 ∙ starts db key ∙ sym (amid_same db key n (project db key w) t u (g.views db key) (g.mail db key)) ∙ sym (put_shows db key n u [] w inside), (sched db key).1),
     )
+
+-- ---- its calls and its messages
+
+-- a call that goes on so at a node that runs
+call_beside : (c : Config) (rules : Rules) (p : Msg → Bool) (who : Callers) (w : Cluster) (n : ℕ) (asked : ClientOp) (u : Turn) (labels : List Label) (es : ℕ → List ℕ → List law.Event) → ClusterStays c rules p who w → Schedules c rules w labels es → is_up n w ≡ true →
+    Goes_beside c rules (called_by n asked w who) (w.calls + 1) n (own_pending n (w.calls + 1) asked ∷ pending (counted w)) p (makes (w.calls + 1) (begins (node_at n (counted w)))) u →
+    Cluster_goes c rules p (called_by n asked w who) (put n u [] (counted w)).cluster (labels ++ record_labels c (labels_of n (own_pending n (w.calls + 1) asked ∷ pending (counted w)) u.outs))
+unfolding makes
+call_beside c rules p who w n asked u labels es h sched up g =
+    let more = more_calls c rules p who (n, asked) w h in
+    beside_goes c rules p (called_by n asked w who) (counted w) n (makes (w.calls + 1) (begins (node_at n (counted w)))) u (own_pending n (w.calls + 1) asked ∷ pending (counted w)) labels es (h.up n up) refl
+    (λ db key. delivering.begun db key n (counted w)) (more.nodes n (h.up n up)) more (counted_schedules c rules w labels es sched) g
+
+-- a commit of a persistent database that is not refused: the cluster goes on
+pub commit_goes : (c : Config) (rules : Rules) (p : Msg → Bool) (who : Callers) (w : Cluster) (n db : ℕ) (writes : List Pair) (labels : List Label) (es : ℕ → List ℕ → List law.Event) → Allows_commits p → ClusterStays c rules p who w → Schedules c rules w labels es → is_up n w ≡ true →
+    node.is_persistent (node.kind_at c db) ≡ true → refusal c rules (node_at n (counted w)) (op.Commit db writes) ≡ None →
+    Cluster_goes c rules p (called_by n (op.Commit db writes) w who) (put n (client c rules n (w.calls + 1) (op.Commit db writes) (begins (node_at n (counted w)))) [] (counted w)).cluster
+    (labels ++ record_labels c (labels_of n (own_pending n (w.calls + 1) (op.Commit db writes) ∷ pending (counted w)) (client c rules n (w.calls + 1) (op.Commit db writes) (begins (node_at n (counted w)))).outs))
+unfolding serves
+commit_goes c rules p who w n db writes labels es ok h sched up kind free =
+    let asked = op.Commit db writes in
+    call_beside c rules p who w n asked (client c rules n (w.calls + 1) asked (begins (node_at n (counted w)))) labels es h sched up
+    (subst (λ (u : Turn). Goes_beside c rules (called_by n asked w who) (w.calls + 1) n (own_pending n (w.calls + 1) asked ∷ pending (counted w)) p (makes (w.calls + 1) (begins (node_at n (counted w)))) u)
+    (sym (client_serves c rules n (w.calls + 1) asked (node_at n (counted w)) free))
+    (commit_beside c rules (called_by n asked w who) (w.calls + 1) n (own_pending n (w.calls + 1) asked ∷ pending (counted w)) p (w.calls + 1) db writes (makes (w.calls + 1) (begins (node_at n (counted w)))) ok
+    (own_untold c n (w.calls + 1) asked (pending (counted w)) kind) (own_caller (w.calls + 1) (n, asked) who) (omega arith)))
+
+-- and so it does at a read of a pair
+pub read_pair_goes : (c : Config) (rules : Rules) (p : Msg → Bool) (who : Callers) (w : Cluster) (n db : ℕ) (key : List ℕ) (labels : List Label) (es : ℕ → List ℕ → List law.Event) → ClusterStays c rules p who w → Schedules c rules w labels es → is_up n w ≡ true →
+    node.is_persistent (node.kind_at c db) ≡ true → refusal c rules (node_at n (counted w)) (op.Read db key) ≡ None →
+    Cluster_goes c rules p (called_by n (op.Read db key) w who) (put n (client c rules n (w.calls + 1) (op.Read db key) (begins (node_at n (counted w)))) [] (counted w)).cluster
+    (labels ++ record_labels c (labels_of n (own_pending n (w.calls + 1) (op.Read db key) ∷ pending (counted w)) (client c rules n (w.calls + 1) (op.Read db key) (begins (node_at n (counted w)))).outs))
+unfolding serves reads
+read_pair_goes c rules p who w n db key labels es h sched up kind free =
+    let asked = op.Read db key in
+    let t = makes (w.calls + 1) (begins (node_at n (counted w))) in
+    let is : client c rules n (w.calls + 1) asked (begins (node_at n (counted w))) ≡ read_pair (w.calls + 1) db key t
+    = client_serves c rules n (w.calls + 1) asked (node_at n (counted w)) free ∙ ap (λ (b : Bool). cond b (read_pair (w.calls + 1) db key t) (at_record c n db key (λ at o. want at rules (w.calls + 1) asked o) t)) kind in
+    call_beside c rules p who w n asked (client c rules n (w.calls + 1) asked (begins (node_at n (counted w)))) labels es h sched up
+    (subst (λ (u : Turn). Goes_beside c rules (called_by n asked w who) (w.calls + 1) n (own_pending n (w.calls + 1) asked ∷ pending (counted w)) p t u) (sym is)
+    (read_pair_beside c rules (called_by n asked w who) (w.calls + 1) n (own_pending n (w.calls + 1) asked ∷ pending (counted w)) p (w.calls + 1) db key t (own_untold c n (w.calls + 1) asked (pending (counted w)) kind)))
+
+-- a PUpdate that comes, followed or dropped
+pub pupdate_goes : (c : Config) (rules : Rules) (p : Msg → Bool) (who : Callers) (w : Cluster) (n : ℕ) (f : Frame) (db seq : ℕ) (writes : List Pair) (labels : List Label) (es : ℕ → List ℕ → List law.Event) → Allows_commits p → ClusterStays c rules p who w → Schedules c rules w labels es → is_up n w ≡ true →
+    Cluster_goes c rules p who (put n (arrives c rules n f (begins (node_at n w)) (msg.PUpdate db seq writes)) [] w).cluster (labels ++ record_labels c (labels_of n (pending w) (arrives c rules n f (begins (node_at n w)) (msg.PUpdate db seq writes)).outs))
+unfolding arrives if_persistent
+pupdate_goes c rules p who w n f db seq writes labels es ok h sched up =
+    let t = begins (node_at n w) in
+    let u = on_pupdate n f.sender db seq writes t in
+    beside_goes c rules p who w n t (arrives c rules n f t (msg.PUpdate db seq writes)) (pending w) labels es (h.up n up) refl (λ db key. delivering.begun db key n w) (h.nodes n (h.up n up)) h sched
+    (cond_both (is_current f (node_at n w) && node.is_persistent (node.kind_at c db)) u t (λ (v : Turn). Goes_beside c rules who w.calls n (pending w) p t v)
+    (λ _. pupdate_beside c rules who w.calls n (pending w) p f.sender db seq writes t ok)
+    (λ _. beside_none c rules who w.calls n (pending w) p t))
+
+-- a PAck that comes, followed or dropped
+pub pack_goes : (c : Config) (rules : Rules) (p : Msg → Bool) (who : Callers) (w : Cluster) (n : ℕ) (f : Frame) (db seq : ℕ) (labels : List Label) (es : ℕ → List ℕ → List law.Event) → ClusterStays c rules p who w → Schedules c rules w labels es → is_up n w ≡ true →
+    Cluster_goes c rules p who (put n (arrives c rules n f (begins (node_at n w)) (msg.PAck db seq)) [] w).cluster (labels ++ record_labels c (labels_of n (pending w) (arrives c rules n f (begins (node_at n w)) (msg.PAck db seq)).outs))
+unfolding arrives if_persistent
+pack_goes c rules p who w n f db seq labels es h sched up =
+    let t = begins (node_at n w) in
+    let u = on_pack f.sender db seq t in
+    let fits = pending_fits who w.calls w (all_known c rules p who w h) in
+    beside_goes c rules p who w n t (arrives c rules n f t (msg.PAck db seq)) (pending w) labels es (h.up n up) refl (λ db key. delivering.begun db key n w) (h.nodes n (h.up n up)) h sched
+    (cond_both (is_current f (node_at n w) && node.is_persistent (node.kind_at c db)) u t (λ (v : Turn). Goes_beside c rules who w.calls n (pending w) p t v)
+    (λ k. pack_beside c rules who w.calls n (pending w) p f.sender db seq t (h.nodes n (h.up n up))
+    (λ call writes own. waiting_untold c who n call (op.Commit db writes) (pending w) fits own (and_parts (is_current f (node_at n w)) (node.is_persistent (node.kind_at c db)) k).1))
+    (λ _. beside_none c rules who w.calls n (pending w) p t))
