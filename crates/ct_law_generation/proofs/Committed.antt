@@ -29,7 +29,8 @@ use Rattle.ct_rules_node.specs.Node as node
 use Rattle.ct_rules_node.specs.Turn.{Turn, begins, does, with_node, makes, answers, posts, posts_all}
 use Rattle.ct_rules_node.specs.Admission.{record_in, is_current}
 use Rattle.ct_rules_node.specs.Steps.{arrives, if_persistent}
-use Rattle.ct_rules_node.specs.Clients.{refusal, client, serves, reads}
+use Rattle.ct_rules_node.specs.Clients.{refusal, client, serves, reads, wrong_kind, refused_if, is_commit}
+use Rattle.ct_rules_node.specs.Clients as clients
 use Rattle.ct_rules_node.specs.Records.{at_record}
 use Rattle.ct_rules_node.specs.Databases.{updates, with_commit, awaits_others, commits_at, commit, acknowledges, on_pupdate, on_pack_of, on_pack, read_pair}
 use Rattle.ct_rules_node.proofs.AtRecord.{at_set, at_other, set_past, all_set, at_ascends}
@@ -55,6 +56,7 @@ use Rattle.ct_law_generation.proofs.Clusters.{ClusterStays, all_known, put_stays
 use Rattle.ct_law_generation.proofs.Coming.{Cluster_goes}
 use Rattle.ct_law_generation.proofs.Counting.{own_caller, more_calls}
 use Rattle.ct_law_generation.proofs.Called.{counted, called_by, counted_schedules}
+use Rattle.ct_law_generation.proofs.Admitted.{Admits}
 use Rattle.ct_law_generation.proofs.Served.{client_serves}
 use Rattle.ct_law_generation.proofs.Delivering as delivering
 
@@ -90,10 +92,8 @@ view_with db d key x n s = (let e = same_with db d x n s in
 
 database_with : (who : Callers) (calls n db d : ℕ) (x : Database) (node : Node) → NodeKnown who calls n node → Same_records x (db_at db node) → CommitFits who calls n db x.commit → DatabaseKnown who calls n d (db_at d (with_db db x node))
 database_with who calls n db d x node h s f = ⊎_elim
-    (λ (is : d ≡ db). subst (λ (e : ℕ). DatabaseKnown who calls n e (db_at e (with_db db x node))) (sym is) (at_with (λ (y : Database). DatabaseKnown who calls n db y) db x node (record {
-      records = λ key. subst (λ m. KnownAt who calls n db key (look key m)) (sym s.0) ((h.dbs db).records key);
-      commit = f;
-    }) (h.dbs db)))
+    (λ (is : d ≡ db). subst (λ (e : ℕ). DatabaseKnown who calls n e (db_at e (with_db db x node))) (sym is) (at_with (λ (y : Database). DatabaseKnown who calls n db y) db x node
+    (record { records = λ key. subst (λ m. KnownAt who calls n db key (look key m)) (sym s.0) ((h.dbs db).records key); commit = f }) (h.dbs db)))
     (λ (ne : d ≢ db). subst (λ (y : Database). DatabaseKnown who calls n d y) (sym (other_with db d x node ne)) (h.dbs d))
     (cases_eq d db)
 
@@ -336,6 +336,11 @@ call_beside c rules p who w n asked u labels es h sched up g =
     let more = more_calls c rules p who (n, asked) w h in
     beside_goes c rules p (called_by n asked w who) (counted w) n (makes (w.calls + 1) (begins (node_at n (counted w)))) u (own_pending n (w.calls + 1) asked ∷ pending (counted w)) labels es (h.up n up) refl
     (λ db key. delivering.begun db key n (counted w)) (more.nodes n (h.up n up)) more (counted_schedules c rules w labels es sched) g
+
+-- a commit that is not refused is of a persistent database
+pub commit_kind : (c : Config) (n : Node) (db : ℕ) (writes : List Pair) → Admits c n (op.Commit db writes) → node.is_persistent (node.kind_at c db) ≡ true
+unfolding wrong_kind refused_if is_commit clients.db_of
+commit_kind c n db writes h = (let a = h.kind in grind arith)
 
 -- a commit of a persistent database that is not refused: the cluster goes on
 pub commit_goes : (c : Config) (rules : Rules) (p : Msg → Bool) (who : Callers) (w : Cluster) (n db : ℕ) (writes : List Pair) (labels : List Label) (es : ℕ → List ℕ → List law.Event) → Allows_commits p → ClusterStays c rules p who w → Schedules c rules w labels es → is_up n w ≡ true →
