@@ -28,3 +28,4 @@ pub mod Refused
 pub mod Fed
 pub mod Delivered
 pub mod Concluding
+pub mod Retried
