@@ -1,6 +1,6 @@
 -- Retry: what was not answered is sent again. A part that only sends leaves what a node has of every record.
 use Rattle.std.proofs.Common.{◌≡◌, ◌≢◌, ℕ, ◌<◌, length, arith, subst, ⊎_elim, Bool, true, false, cond, List, [], ◌∷◌, ◌++◌, map, Option, Some, None, refl, sym, ap, ◌∙◌}
-use Rattle.std.specs.Prelude.{nat_eq}
+use Rattle.std.specs.Prelude.{nat_eq, ◌&&◌}
 use Rattle.ct_frame.specs.declared.frame.Msg.{Msg}
 use Rattle.ct_frame.specs.declared.frame.Msg.TheVariants as msg
 use Rattle.ct_msg.specs.declared.client.ClientOp.{ClientOp}
@@ -40,6 +40,20 @@ use Rattle.ct_law_generation.proofs.Hearing.{frames_more, mails_more, mails_same
 use Rattle.ct_law_generation.proofs.Telling.{hear_same, hear_other}
 use Rattle.ct_law_generation.proofs.Staying.{NodeStays, Sure, stays_at}
 use Rattle.ct_law_generation.proofs.Amid.{seen_same, other_state, floor_own}
+use Rattle.std.specs.List.{filter}
+use Rattle.std.specs.Ordering.{is_eq, nat_cmp}
+use Rattle.std.specs.FinMap.{nat_cmp-IsAntisymmetric}
+use Rattle.ct_frame.specs.Fields.{is_db, is_node}
+use Rattle.ct_store.specs.Map.{key_cmp}
+use Rattle.ct_store.proofs.Maps.{one_key, equal}
+use Rattle.ct_rules.specs.declared.event.MoveEvent.TheVariants as event
+use Rattle.ct_rules_node.specs.Rounds.{Called}
+use Rattle.ct_rules_node.specs.Laws.{is_called_at}
+use Rattle.ct_rules_node.proofs.Installed.{same_number, own_key}
+use Rattle.ct_law_record.specs.World.{View, place, starts}
+use Rattle.ct_law_generation.proofs.Speaking.{call_again_told, revoke_again_told}
+use Rattle.ct_law_generation.proofs.Forming.{sound_moves}
+use Rattle.ct_law_generation.proofs.Amid.{place_is}
 
 list_more : {X : Type 0} (xs ys zs : List X) → (xs ++ ys) ++ zs ≡ xs ++ (ys ++ zs)
 list_more [] ys zs = refl
@@ -249,3 +263,134 @@ pub other_mail : (c : Config) (n db0 db : ℕ) (key0 key : List ℕ) (part : Pla
     mails db key (frames_of (at_record c n db0 key0 part t).outs) ≡ mails db key (frames_of t.outs)
 unfolding place_of
 other_mail c n db0 db key0 key part t xs k unlike = mail_with c n db0 db key0 key part t xs k ∙ ap (λ (l : List Mail). mails db key (frames_of t.outs) ++ l) (mails_other (place_of c n db0 key0 t.node) db key t.node.generation n xs unlike k.about) ∙ no_more _
+
+-- ---- the Call and the Revokes of one record
+
+-- the Call of a record, and its Revokes, as its world has them
+abbrev pub calls_at : Config → Rules → ℕ → ℕ → List ℕ → View → List Act
+calls_at c rules n db key v = calls_sent (place (scene c rules db key) n v) v.state.wish
+
+abbrev pub revokes_at : Config → Rules → ℕ → ℕ → List ℕ → View → List Act
+revokes_at c rules n db key v = revokes_sent (place (scene c rules db key) n v) v.state.tracking.revoking
+
+parts_all : (P : Mail → Type 0) (xs ys : List Mail) → AllByRecursion P (xs ++ ys) → AllByRecursion P xs × AllByRecursion P ys
+parts_all P [] ys h = (tt, h)
+parts_all P (x ∷ xs) ys h = (let p = parts_all P xs ys h.1 in ((h.0, p.0), p.1))
+
+both_sound : (c : Config) (rules : Rules) (n db : ℕ) (key : List ℕ) (v : View) → is_db db ≡ true → is_node n ≡ true → Is_formed (scene c rules db key) n v →
+    AllByRecursion Is_sound_mail (sent n (calls_at c rules n db key v)) × AllByRecursion Is_sound_mail (sent n (revokes_at c rules n db key v))
+both_sound c rules n db key v has node h =
+    let is = resend_is (place (scene c rules db key) n v) (starts v) in
+    parts_all Is_sound_mail (sent n (calls_at c rules n db key v)) (sent n (revokes_at c rules n db key v))
+    (subst (λ (l : List Mail). AllByRecursion Is_sound_mail l) (sent_more n (calls_at c rules n db key v) (revokes_at c rules n db key v))
+    (subst (λ (o : Moving). AllByRecursion Is_sound_mail (sent n o.acts)) is (sound_moves (scene c rules db key) n v event.Resend has node h tt refl (ap (λ (o : Moving). o.spent) is))))
+
+-- what is known of the node
+pub record Retries_at (c : Config) (n : ℕ) : Type 0 where
+  pub real : is_node n ≡ true
+  pub small : (db : ℕ) → db < length c.dbs → is_db db ≡ true
+
+pub calls_just : (c : Config) (rules : Rules) (who : Callers) (calls n db : ℕ) (key : List ℕ) (t : Turn) → Retries_at c n → NodeStays c rules who calls n t.node → db < length c.dbs → Just_sends c n db key call_again t (calls_at c rules n db key (view db key t.node))
+unfolding node.view Told
+calls_just c rules who calls n db key t r h l =
+    let at = place_is c rules n db key t.node h.members in
+    let is : call_again (place_of c n db key t.node) (node.view db key t.node) ≡ more (calls_at c rules n db key (view db key t.node)) (node.view db key t.node) =
+    ap (λ (p : Place). call_again p (node.view db key t.node)) at ∙ call_again_is (place (scene c rules db key) n (view db key t.node)) (node.view db key t.node) in record {
+      there = subst (λ (k : ℕ). db < k) (sym h.size) l;
+      is = is;
+      about = subst (λ (o : Moving). Told (place_of c n db key t.node) o.acts) is (call_again_told (place_of c n db key t.node) (node.view db key t.node) tt);
+      untold = calls_untold n nothing_asked _ _;
+      sound = (both_sound c rules n db key (view db key t.node) (r.small db l) r.real (h.formed db key)).0;
+    }
+
+pub revokes_just : (c : Config) (rules : Rules) (who : Callers) (calls n db : ℕ) (key : List ℕ) (t : Turn) → Retries_at c n → NodeStays c rules who calls n t.node → db < length c.dbs → Just_sends c n db key revoke_again t (revokes_at c rules n db key (view db key t.node))
+unfolding node.view Told
+revokes_just c rules who calls n db key t r h l =
+    let at = place_is c rules n db key t.node h.members in
+    let is : revoke_again (place_of c n db key t.node) (node.view db key t.node) ≡ more (revokes_at c rules n db key (view db key t.node)) (node.view db key t.node) =
+    ap (λ (p : Place). revoke_again p (node.view db key t.node)) at ∙ revoke_again_is (place (scene c rules db key) n (view db key t.node)) (node.view db key t.node) in record {
+      there = subst (λ (k : ℕ). db < k) (sym h.size) l;
+      is = is;
+      about = subst (λ (o : Moving). Told (place_of c n db key t.node) o.acts) is (revoke_again_told (place_of c n db key t.node) (node.view db key t.node) tt);
+      untold = revokes_untold n nothing_asked _ _;
+      sound = (both_sound c rules n db key (view db key t.node) (r.small db l) r.real (h.formed db key)).1;
+    }
+
+-- ---- one record after the other
+
+pub passes_none : (c : Config) (rules : Rules) (who : Callers) (calls n : ℕ) (pend : List PendingCall) (t : Turn) → NodeStays c rules who calls n t.node → Passes c rules who calls n pend t t
+passes_none c rules who calls n pend t h = record { stays = h; same = λ db key. refl; untold = λ db key. refl; plain = λ p b. b }
+
+pub passes_more : (c : Config) (rules : Rules) (who : Callers) (calls n : ℕ) (pend : List PendingCall) (t u v : Turn) → Passes c rules who calls n pend t u → Passes c rules who calls n pend u v → Passes c rules who calls n pend t v
+passes_more c rules who calls n pend t u v a b = record {
+  stays = b.stays;
+  same = λ db key. b.same db key ∙ a.same db key;
+  untold = λ db key. b.untold db key ∙ a.untold db key;
+  plain = λ p before. b.plain p (a.plain p before);
+}
+
+-- a part at these records, in order
+unfoldable pub at_all : Config → ℕ → (Place → Moving → Moving) → List Called → Turn → Turn
+at_all c n part [] t = t
+at_all c n part (x ∷ xs) t = at_all c n part xs (at_record c n x.db x.key part t)
+
+-- as often as there are of these
+unfoldable pub times : List Called → List Mail → List Mail
+times [] m = []
+times (x ∷ xs) m = m ++ times xs m
+
+-- the part only sends this, at every record of the node
+abbrev pub Sends_each : Config → Rules → Callers → ℕ → ℕ → (Place → Moving → Moving) → (ℕ → List ℕ → View → List Act) → Type 0
+Sends_each c rules who calls n part what = (db : ℕ) (key : List ℕ) (t : Turn) → NodeStays c rules who calls n t.node → db < length c.dbs → Just_sends c n db key part t (what db key (view db key t.node))
+
+abbrev pub AllInside : Config → List Called → Type 0
+AllInside c xs = AllByRecursion (λ x. x.db < length c.dbs) xs
+
+pub all_passes : (c : Config) (rules : Rules) (who : Callers) (calls n : ℕ) (pend : List PendingCall) (part : Place → Moving → Moving) (what : ℕ → List ℕ → View → List Act) (xs : List Called) (t : Turn) → Sends_each c rules who calls n part what →
+    AllInside c xs → NodeStays c rules who calls n t.node → Passes c rules who calls n pend t (at_all c n part xs t)
+unfolding at_all
+all_passes c rules who calls n pend part what [] t s l h = passes_none c rules who calls n pend t h
+all_passes c rules who calls n pend part what (x ∷ xs) t s l h =
+    let one = just_passes c rules who calls n x.db x.key part t _ pend h (s x.db x.key t h l.0) in
+    passes_more c rules who calls n pend t (at_record c n x.db x.key part t) _ one (all_passes c rules who calls n pend part what xs (at_record c n x.db x.key part t) s l.1 one.stays)
+
+and_both : (a b : Bool) → (a && b) ≡ true → (a ≡ true) × (b ≡ true)
+and_both true b e = (refl, e)
+and_both false b e = absurd (cc)
+
+called_is : (db : ℕ) (key : List ℕ) (x : Called) → is_called_at db key x ≡ true → (x.db ≡ db) × (x.key ≡ key)
+unfolding is_called_at
+called_is db key x e = (let p = and_both _ _ e in (sym (nat_cmp-IsAntisymmetric db x.db (equal _ p.0)), sym (one_key key x.key (equal _ p.1))))
+
+called_not : (db : ℕ) (key : List ℕ) (x : Called) → is_called_at db key x ≡ false → is_it db key x.db x.key ≡ false
+unfolding is_called_at
+called_not db key x e = ⊎_elim
+    (λ (t : is_it db key x.db x.key ≡ true). (let p = it_is db x.db key x.key t in
+    let own : (is_eq (nat_cmp db x.db) && is_eq (key_cmp key x.key)) ≡ true = subst (λ (d : ℕ). (is_eq (nat_cmp db d) && is_eq (key_cmp key x.key)) ≡ true) (sym p.0) (subst (λ (k : List ℕ). (is_eq (nat_cmp db db) && is_eq (key_cmp key k)) ≡ true) (sym p.1) (λ i. same_number db i && own_key key i)) in absurd (cc)))
+    (λ (f : is_it db key x.db x.key ≡ false). f)
+    (true_or_false (is_it db key x.db x.key))
+
+pub all_mail : (c : Config) (rules : Rules) (who : Callers) (calls n : ℕ) (part : Place → Moving → Moving) (what : ℕ → List ℕ → View → List Act) (xs : List Called) (t : Turn) → Sends_each c rules who calls n part what →
+    AllInside c xs → NodeStays c rules who calls n t.node → (db : ℕ) (key : List ℕ) →
+    mails db key (frames_of (at_all c n part xs t).outs) ≡ mails db key (frames_of t.outs) ++ times (filter (is_called_at db key) xs) (sent n (what db key (view db key t.node)))
+unfolding at_all times
+all_mail c rules who calls n part what [] t s l h db key = sym (no_more _)
+all_mail c rules who calls n part what (x ∷ xs) t s l h db key =
+    let u = at_record c n x.db x.key part t in
+    let k = s x.db x.key t h l.0 in
+    let one = just_passes c rules who calls n x.db x.key part t _ [] h k in
+    let more' : List Mail = times (filter (is_called_at db key) xs) (sent n (what db key (view db key t.node))) in
+    all_mail c rules who calls n part what xs u s l.1 one.stays db key
+    ∙ ap (λ (v : View). mails db key (frames_of u.outs) ++ times (filter (is_called_at db key) xs) (sent n (what db key v))) (one.same db key)
+    ∙ decide (is_called_at db key x) refl
+  where
+    decide : (b : Bool) → is_called_at db key x ≡ b →
+        mails db key (frames_of (at_record c n x.db x.key part t).outs) ++ times (filter (is_called_at db key) xs) (sent n (what db key (view db key t.node)))
+        ≡ mails db key (frames_of t.outs) ++ times (cond b (x ∷ filter (is_called_at db key) xs) (filter (is_called_at db key) xs)) (sent n (what db key (view db key t.node)))
+    decide true e = (let p = called_is db key x e in
+        ap (λ (m : List Mail). m ++ times (filter (is_called_at db key) xs) (sent n (what db key (view db key t.node))))
+        (subst (λ (q : List ℕ). mails db q (frames_of (at_record c n x.db x.key part t).outs) ≡ mails db q (frames_of t.outs) ++ sent n (what db q (view db q t.node))) p.1
+        (subst (λ (d : ℕ). mails d x.key (frames_of (at_record c n x.db x.key part t).outs) ≡ mails d x.key (frames_of t.outs) ++ sent n (what d x.key (view d x.key t.node))) p.0
+        (own_mail c n x.db x.key part t _ (s x.db x.key t h l.0))))
+        ∙ list_more (mails db key (frames_of t.outs)) _ _)
+    decide false e = ap (λ (m : List Mail). m ++ times (filter (is_called_at db key) xs) (sent n (what db key (view db key t.node)))) (other_mail c n x.db db x.key key part t _ (s x.db x.key t h l.0) (called_not db key x e))
