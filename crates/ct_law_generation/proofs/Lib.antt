@@ -29,3 +29,4 @@ pub mod Fed
 pub mod Delivered
 pub mod Concluding
 pub mod Retried
+pub mod Resending
