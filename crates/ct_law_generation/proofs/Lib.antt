@@ -30,3 +30,4 @@ pub mod Delivered
 pub mod Concluding
 pub mod Retried
 pub mod Resending
+pub mod Retrying
