@@ -25,6 +25,20 @@ use Rattle.ct_law_generation.proofs.Hearing.{frames_more, mails_more, labels_mor
 use Rattle.ct_law_generation.proofs.Staying.{NodeStays}
 use Rattle.ct_law_generation.proofs.Retried.{Retries_at}
 use Rattle.ct_law_generation.proofs.Resending.{resends_of, resends_go}
+use Rattle.std.proofs.Common.{false, ◌≢◌, ◌<◌, ◌||◌, length, ⊎_elim}
+use Rattle.std.specs.List.{list_all}
+use Rattle.std.proofs.lemmas.Bool.{cases_eq, ne_eqb, and_parts, ltb-true}
+use Rattle.ct_frame.specs.Fields.{is_db, is_node}
+use Rattle.ct_rules_node.specs.Turn.{begins}
+use Rattle.ct_cluster.specs.Cluster.{Cluster, is_up, node_at, pending}
+use Rattle.ct_cluster.specs.Labels.{Label}
+use Rattle.ct_cluster.specs.Steps.{put}
+use Rattle.ct_law_generation.specs.Shown.{project, Schedules}
+use Rattle.ct_law_record.specs.World.{Event}
+use Rattle.ct_law_generation.proofs.Delivering.{begun}
+use Rattle.ct_law_generation.proofs.Putting.{extends}
+use Rattle.ct_law_generation.proofs.Clusters.{ClusterStays, put_stays}
+use Rattle.ct_law_generation.proofs.Coming.{is_member, Cluster_goes}
 
 -- the node is the same, and what it sends more is of no record, and allowed
 pub record Adds_none (p : Msg → Bool) (n : ℕ) (pend : List PendingCall) (t u : Turn) : Type 0 where
@@ -96,3 +110,30 @@ retry_goes c rules p who calls n pend ws t ok member r h =
     let leads : (retry_records c n t).node.lead ≡ Nothing = ap (λ x. (cond (is_present x) (update_in n 0 t.node.dbs u) t).node.lead) h.serving ∙ stays.leads in
     subst (λ (v : Turn). Goes_with c rules p who calls n pend ws t v) (sym (retry_is c n t h.serving leads))
     (stays, (λ db key. adds_follow (scene c rules db key) p n (ws db key) pend t u (update_in n 0 t.node.dbs u) a (g.1 db key)), λ b. a.plain (g.2 p b))
+
+node_of : (n : ℕ) (ns : List ℕ) → list_all is_node ns ≡ true → is_in n ns ≡ true → is_node n ≡ true
+unfolding is_in
+node_of n [] all e = absurd (cc)
+node_of n (m ∷ ms) all e = ⊎_elim
+    (λ (is : n ≡ m). subst (λ (x : ℕ). is_node x ≡ true) (sym is) (and_parts _ _ all).0)
+    (λ (ne : n ≢ m). node_of n ms (and_parts _ _ all).1 (rest (nat_eq n m) _ (ne_eqb n m ne) e))
+    (cases_eq n m)
+  where
+    rest : (a b : Bool) → a ≡ false → (a || b) ≡ true → b ≡ true
+    rest true b e k = absurd (cc)
+    rest false b e k = k
+
+-- so the cluster goes on
+pub retry_cluster : (c : Config) (rules : Rules) (p : Msg → Bool) (who : Callers) (w : Cluster) (n : ℕ) (labels : List Label) (es : ℕ → List ℕ → List Event) → Updates p → list_all is_node (everyone c) ≡ true → ((db : ℕ) → db < length c.dbs → is_db db ≡ true) →
+    is_up n w ≡ true → ClusterStays c rules p who w → Schedules c rules w labels es →
+    Cluster_goes c rules p who (put n (retry c n (begins (node_at n w))) [] w).cluster (labels ++ labels_of n (pending w) (retry c n (begins (node_at n w))).outs)
+unfolding frames_of
+retry_cluster c rules p who w n labels es ok real small up h sched =
+    let t = h.up n up in
+    let inside : n < length w.nodes = subst (λ (l : ℕ). n < l) (sym h.size) (ltb-true n c.nodes t) in
+    let member = is_member c n t in
+    let g = retry_goes c rules p who w.calls n (pending w) (λ db key. project db key w) (begins (node_at n w)) ok member (record { real = node_of n (everyone c) real member; small = small }) (h.nodes n t) in (
+      put_stays c rules p who w n (retry c n (begins (node_at n w))) inside h g.0 (g.2 tt),
+      (λ db key. es db key ++ (g.1 db key).0),
+      extends c rules n (begins (node_at n w)) (retry c n (begins (node_at n w))) [] w (pending w) labels es inside refl (λ db key. begun db key n w) sched g.1,
+    )
