@@ -227,9 +227,9 @@ resends_mail c rules who calls n db key t r h =
     let u = call_all c n (pending_calls t.node) t in
     let a = calls_passes c rules who calls n [] t r h in
     let first = ap (λ (x : Turn). mails db key (frames_of x.outs)) (call_all_is c n (pending_calls t.node) t)
-        ∙ all_mail c rules who calls n call_again (calls_at c rules n) (pending_calls t.node) t (λ db key t h l. calls_just c rules who calls n db key t r h l) (pending_inside c t.node h.size) h db key
-        ∙ ap (λ (l : List Called). mails db key (frames_of t.outs) ++ times l (sent n (calls_at c rules n db key v))) (calls_each t.node h.known.order db key)
-        ∙ ap (λ (m : List Mail). mails db key (frames_of t.outs) ++ m) (wish_times n db key (place (scene c rules db key) n v) v.state.wish) in
+    ∙ all_mail c rules who calls n call_again (calls_at c rules n) (pending_calls t.node) t (λ db key t h l. calls_just c rules who calls n db key t r h l) (pending_inside c t.node h.size) h db key
+    ∙ ap (λ (l : List Called). mails db key (frames_of t.outs) ++ times l (sent n (calls_at c rules n db key v))) (calls_each t.node h.known.order db key)
+    ∙ ap (λ (m : List Mail). mails db key (frames_of t.outs) ++ m) (wish_times n db key (place (scene c rules db key) n v) v.state.wish) in
     ap (λ (x : Turn). mails db key (frames_of x.outs)) (revoke_in_is c n 0 t.node.dbs u)
     ∙ all_mail c rules who calls n revoke_again (revokes_at c rules n) (places_in 0 t.node.dbs) u (λ db key t h l. revokes_just c rules who calls n db key t r h l) (all_inside c 0 t.node.dbs (let s = h.size in omega arith)) a.stays db key
     ∙ ap (λ (x : View). mails db key (frames_of u.outs) ++ times (At db key (places_in 0 t.node.dbs)) (sent n (revokes_at c rules n db key x))) (a.same db key)
@@ -272,7 +272,7 @@ resends_follow c rules who calls n pend db key w t member r h =
     let revokes' = revokes_at c rules n db key v in
     let mail : (w.mail ++ mails db key (frames_of t.outs)) ++ sent n (calls' ++ revokes') ≡ w.mail ++ mails db key (frames_of u.outs)
     = list_more w.mail (mails db key (frames_of t.outs)) _ ∙ ap (λ (m : List Mail). w.mail ++ m)
-        (ap (λ (m : List Mail). mails db key (frames_of t.outs) ++ m) (sent_more n calls' revokes') ∙ sym (list_more (mails db key (frames_of t.outs)) (sent n calls') (sent n revokes')) ∙ sym (resends_mail c rules who calls n db key t r h)) in
+    (ap (λ (m : List Mail). mails db key (frames_of t.outs) ++ m) (sent_more n calls' revokes') ∙ sym (list_more (mails db key (frames_of t.outs)) (sent n calls') (sent n revokes')) ∙ sym (resends_mail c rules who calls n db key t r h)) in
     let untold : told n asks (calls' ++ revokes') ≡ [] = told_more n asks calls' revokes' (calls_untold n asks _ _) (revokes_untold n asks _ _) in
     record {
       world = ap (λ (x : Stepped). x.world) all ∙ (λ i. record { nodes = λ j. nodes j i; joined = λ _. true; mail = mail i });

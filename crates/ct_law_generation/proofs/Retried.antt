@@ -92,9 +92,9 @@ call_of_is : (at : Place) (o : Moving) (w : Option Wish) → call_again_of at o 
 unfolding call_again_of calls_sent send acts
 call_of_is at o None = ap (λ (l : List Act). record o { acts = l }) (sym (no_more o.acts))
 call_of_is at o (Some w) = elim (nat_eq w.request 0) as (λ b. cond b o (send at.lmaster (msg.Call at.db at.key w.request (kind_of at.readonly w.op)) o) ≡ more (cond b [] (act.Send at.lmaster (msg.Call at.db at.key w.request (kind_of at.readonly w.op)) ∷ [])) o) [
-      | true ↦ ap (λ (l : List Act). record o { acts = l }) (sym (no_more o.acts))
-      | false ↦ refl
-    ]
+  | true ↦ ap (λ (l : List Act). record o { acts = l }) (sym (no_more o.acts))
+  | false ↦ refl
+]
 
 pub call_again_is : (at : Place) (o : Moving) → call_again at o ≡ more (calls_sent at o.state.wish) o
 unfolding call_again
@@ -147,9 +147,9 @@ pub calls_untold : (n : ℕ) (asks : ℕ → Option ClientOp) (at : Place) (w : 
 unfolding calls_sent told call_of
 calls_untold n asks at None = refl
 calls_untold n asks at (Some w) = elim (nat_eq w.request 0) as (λ b. told n asks (cond b [] (act.Send at.lmaster (msg.Call at.db at.key w.request (kind_of at.readonly w.op)) ∷ [])) ≡ []) [
-      | true ↦ refl
-      | false ↦ ap (λ (l : List law.Label). l ++ []) (send_untold n (asks 0) at.lmaster _)
-    ]
+  | true ↦ refl
+  | false ↦ ap (λ (l : List law.Label). l ++ []) (send_untold n (asks 0) at.lmaster _)
+]
 
 -- ---- a step at one record that only sends
 

@@ -91,7 +91,7 @@ retry_is c n t serving leads = ap (retry_lead n (retry_records c n t)) leads ∙
 pub adds_follow : (s : Scene) (p : Msg → Bool) (n : ℕ) (w : World) (pend : List PendingCall) (t u v : Turn) → Adds_none p n pend u v → Follows s n w pend t u → Follows s n w pend t v
 adds_follow s p n w pend t u v a f =
     let same : amid s.db s.key n w u ≡ amid s.db s.key n w v = (let mail = sym (a.mail s.db s.key) in let node = sym a.node in
-        λ i. record { nodes = λ k. cond (nat_eq k n) (view s.db s.key (node i)) (w.nodes k); joined = λ _. true; mail = w.mail ++ mail i }) in
+    λ i. record { nodes = λ k. cond (nat_eq k n) (view s.db s.key (node i)) (w.nodes k); joined = λ _. true; mail = w.mail ++ mail i }) in
     (f.0, record { world = f.1.world ∙ same; labels = a.untold s.db s.key ∙ f.1.labels })
 
 -- as a step goes on, where these messages are allowed
