@@ -63,11 +63,13 @@ follows_more s n w calls t u v f g =
     let b = amid s.db s.key n w u in
     let told = told_by_all s.db s.key (labels_of n calls t.outs) in
     let both : heard (trace s a (f.0 ++ g.0)) ≡ heard (trace s a f.0) ++ heard (trace s b g.0) =
-    ap heard (trace_more s a f.0 g.0) ∙ heard_more (trace s a f.0) (trace s (last s a f.0) g.0) ∙ ap (λ (x : World). heard (trace s a f.0) ++ heard (trace s x g.0)) f.1.world in
-    (f.0 ++ g.0, record {
-      world = last_more s a f.0 g.0 ∙ ap (λ (x : World). last s x g.0) f.1.world ∙ g.1.world;
-      labels = g.1.labels ∙ (λ i. f.1.labels i ++ heard (trace s b g.0)) ∙ sym (list_more told (heard (trace s a f.0)) (heard (trace s b g.0))) ∙ (λ i. told ++ sym both i);
-    })
+    ap heard (trace_more s a f.0 g.0) ∙ heard_more (trace s a f.0) (trace s (last s a f.0) g.0) ∙ ap (λ (x : World). heard (trace s a f.0) ++ heard (trace s x g.0)) f.1.world in (
+      f.0 ++ g.0,
+      record {
+        world = last_more s a f.0 g.0 ∙ ap (λ (x : World). last s x g.0) f.1.world ∙ g.1.world;
+        labels = g.1.labels ∙ (λ i. f.1.labels i ++ heard (trace s b g.0)) ∙ sym (list_more told (heard (trace s a f.0)) (heard (trace s b g.0))) ∙ (λ i. told ++ sym both i);
+      },
+    )
 
 pub goes_more : (c : Config) (rules : Rules) (who : Callers) (calls n : ℕ) (pend : List PendingCall) (ws : ℕ → List ℕ → World) (t u v : Turn) →
     Goes_on c rules who calls n pend ws t u → Goes_on c rules who calls n pend ws u v → Goes_on c rules who calls n pend ws t v
@@ -201,7 +203,7 @@ all_go c rules who calls n db (x ∷ m) pend ws t0 t real member small inside re
     let there : db < length t.node.dbs = subst (λ (l : ℕ). db < l) (sym g.0.size) inside in
     let u = at_record c n db x.0 (vacuumed n t) t in
     let step = vacuum_goes c rules who calls n db x.0 pend ws t real member small g.0 there all
-        (reached_on (scene c rules db x.0) n (ws db x.0) pend t0 t (reached x.0) (g.1 db x.0)) (whole_before c n db m u spent) in
+    (reached_on (scene c rules db x.0) n (ws db x.0) pend t0 t (reached x.0) (g.1 db x.0)) (whole_before c n db m u spent) in
     all_go c rules who calls n db m pend ws t0 u real member small inside reached (waited_on c rules who calls n db x.0 pend t g.0 there all) (goes_more c rules who calls n pend ws t0 t u g step) spent
 
 past_db : (ds : List Database) (db : ℕ) → nat_lt db (length ds) ≡ false → or_untouched (slice_get ds db) ≡ untouched
@@ -227,11 +229,11 @@ vacuums_follow c rules who w n db real small member h finds reached spent =
     let same = goes_nowhere c rules who w.calls n (pending w) ws t h in
     cond_both (is_serving t.node.phase) (vacuum_all c n db (db_at db t.node).records t) t (λ (u : Turn). u.spent ≡ false → Goes_on c rules who w.calls n (pending w) ws t u)
     (λ _ whole. ⊎_elim
-        (λ (is : nat_lt db (length t.node.dbs) ≡ true). (let inside : db < length c.dbs = subst (λ (l : ℕ). db < l) h.size (ltb-true db (length t.node.dbs) is) in
-        all_go c rules who w.calls n db (db_at db t.node).records (pending w) ws t t real member (small db inside) inside
-            (λ key. ((reached key).0, (reached key).1 ∙ begun db key n w)) (λ key. finds_waited db key n (pending w) (state_at db key t.node).wish (finds key)) same whole))
-        (λ (not_so : nat_lt db (length t.node.dbs) ≡ false). subst (λ (u : Turn). Goes_on c rules who w.calls n (pending w) ws t u) (sym (no_records c n db t not_so)) same)
-        (true_or_false (nat_lt db (length t.node.dbs))))
+    (λ (is : nat_lt db (length t.node.dbs) ≡ true). (let inside : db < length c.dbs = subst (λ (l : ℕ). db < l) h.size (ltb-true db (length t.node.dbs) is) in
+    all_go c rules who w.calls n db (db_at db t.node).records (pending w) ws t t real member (small db inside) inside
+    (λ key. ((reached key).0, (reached key).1 ∙ begun db key n w)) (λ key. finds_waited db key n (pending w) (state_at db key t.node).wish (finds key)) same whole))
+    (λ (not_so : nat_lt db (length t.node.dbs) ≡ false). subst (λ (u : Turn). Goes_on c rules who w.calls n (pending w) ws t u) (sym (no_records c n db t not_so)) same)
+    (true_or_false (nat_lt db (length t.node.dbs))))
     (λ _ whole. same) spent
 
 -- and the cluster goes on
