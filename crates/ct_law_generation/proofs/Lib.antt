@@ -31,3 +31,4 @@ pub mod Concluding
 pub mod Vacuumed
 pub mod Configured
 pub mod Locked
+pub mod Assembled
