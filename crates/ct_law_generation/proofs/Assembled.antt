@@ -1,18 +1,30 @@
 -- A run of one generation: where each step lets the cluster go on, so does the run, and the promise follows.
-use Rattle.std.proofs.Common.{◌≡◌, ℕ, Bool, true, false, cond, ◌&&◌, List, [], ◌∷◌, ◌++◌, refl, sym, ap, ◌∙◌, append-nil, subst}
+use Rattle.std.proofs.Common.{◌≡◌, ℕ, zero, suc, Bool, true, false, cond, ◌&&◌, List, [], ◌∷◌, ◌++◌, length, Some, None, refl, sym, ap, ◌∙◌, append-nil, arith, subst, ⊎_elim}
+use Rattle.std.specs.Prelude.{nat_lt, slice_get}
 use Rattle.std.specs.List.{list_all, filter, AllByRecursion}
+use Rattle.ct_msg.specs.declared.client.ClientOp.TheVariants as op
 use Rattle.ct_msg.specs.declared.config.Config.{Config}
 use Rattle.ct_frame.specs.declared.frame.Msg.{Msg}
 use Rattle.ct_call.specs.Rules.{Rules}
-use Rattle.ct_cluster.specs.Cluster.{Cluster}
+use Rattle.ct_frame.specs.declared.header.RecCopy.{RecCopy}
+use Rattle.ct_rules_node.specs.Node.{Node, state_at, db_at, or_untouched, untouched, or_nothing}
+use Rattle.ct_cluster.specs.Cluster.{Cluster, absent, or_absent, node_at, opening}
 use Rattle.ct_cluster.specs.Labels.{Label}
 use Rattle.ct_cluster.specs.Traces.{ran_one, ran, after, idle}
 use Rattle.ct_cluster.specs.declared.step.Step.{Step}
 use Rattle.ct_register.specs.Lines
-use Rattle.ct_promise.specs.Generation.{is_of_one_generation, speaks_of_records, record_labels}
+use Rattle.ct_register.specs.Stands.{HasCopy}
+use Rattle.ct_promise.specs.Promises.{IsConfig}
+use Rattle.ct_promise.specs.Generation.{is_of_one_generation, speaks_of_records, record_labels, KeepsRecords, PromiseOfOneGeneration}
 use Rattle.ct_law_generation.specs.Shown.{IsOfLineOne}
+use Rattle.ct_law_generation.proofs.Weave.{true_or_false}
+use Rattle.ct_law_generation.proofs.Standing.{OneLine}
 use Rattle.ct_law_generation.proofs.Pending.{Callers}
+use Rattle.ct_law_generation.proofs.Clusters.{ClusterStays}
 use Rattle.ct_law_generation.proofs.Coming.{Cluster_goes}
+use Rattle.ct_law_generation.proofs.Configured.{all_real, all_small}
+use Rattle.ct_law_generation.proofs.Opening.{opened_schedules, opened_stays}
+use Rattle.ct_law_generation.proofs.Concluding.{concluded}
 
 -- the cluster goes on, and tells these labels, all of line 1
 pub record Run_goes (c : Config) (rules : Rules) (p : Msg → Bool) (labels : List Label) (w : Cluster) : Type 0 where
@@ -52,3 +64,42 @@ runs_go c rules p (s ∷ steps) w labels each all h =
     let r = runs_go c rules p steps q.cluster (labels ++ record_labels c q.trace) each e.1 (each w labels s e.0 h) in
     subst (λ (l : List Label). Run_goes c rules p l (ran c rules q.cluster steps).cluster)
     (sym (list_more labels (record_labels c q.trace) (record_labels c (ran c rules q.cluster steps).trace)) ∙ ap (λ (l : List Label). labels ++ l) (sym (filter_more (speaks_of_records c) q.trace (ran c rules q.cluster steps).trace))) r
+
+-- ---- all nodes are in line 1
+
+in_line : (c : Config) (n : ℕ) → nat_lt n c.nodes ≡ true → (Lines.opening c).line n ≡ 1
+in_line c n e = ap (λ (b : Bool). cond b 1 0) e
+
+past_absent : (ns : List Node) (n : ℕ) → nat_lt n (length ns) ≡ false → or_absent (slice_get ns n) ≡ absent
+unfolding or_absent
+past_absent [] n e = refl
+past_absent (x ∷ xs) zero e = absurd (grind arith)
+past_absent (x ∷ xs) (suc n) e = past_absent xs n (grind arith)
+
+absent_copy : (db : ℕ) (key : List ℕ) → (state_at db key absent).copy ≡ None
+unfolding absent state_at db_at or_untouched untouched or_nothing
+absent_copy db key = refl
+
+no_copy : (w : Cluster) (n db : ℕ) (key : List ℕ) (x : RecCopy) → nat_lt n (length w.nodes) ≡ false → HasCopy w n db key x → ⊥
+unfolding node_at
+no_copy w n db key x e has = (let a = sym (absent_copy db key) ∙ ap (λ (m : Node). (state_at db key m).copy) (sym (past_absent w.nodes n e)) ∙ has in absurd (cc))
+
+one_line : (c : Config) (rules : Rules) (p : Msg → Bool) (who : Callers) (w : Cluster) → ClusterStays c rules p who w → OneLine w (Lines.opening c).line
+one_line c rules p who w h = record {
+  up = λ n e. in_line c n (h.up n e);
+  has = λ n db key x has. ⊎_elim
+      (λ (t : nat_lt n c.nodes ≡ true). in_line c n t)
+      (λ (f : nat_lt n c.nodes ≡ false). absurd (no_copy w n db key x (ap (λ (l : ℕ). nat_lt n l) h.size ∙ f) has))
+      (true_or_false (nat_lt n c.nodes));
+}
+
+-- ---- the promise
+
+opened_goes : (c : Config) (rules : Rules) (p : Msg → Bool) → Run_goes c rules p [] (opening c)
+opened_goes c rules p = record { who = λ k. (0, op.Unlock 0 []); goes = (opened_stays c rules p (λ k. (0, op.Unlock 0 [])), (λ db key. []), opened_schedules c rules); own = tt }
+
+-- where each step of one generation goes on so, the promise is kept
+pub promised : (p : Msg → Bool) → ((c : Config) (rules : Rules) → IsConfig c → Each_goes c rules p) → PromiseOfOneGeneration
+promised p each c rules steps is all =
+    let r = runs_go c rules p steps (opening c) [] (each c rules is) all (opened_goes c rules p) in
+    concluded c rules (ran c rules (opening c) steps) r.goes.1 (all_real c is) (one_line c rules p r.who _ r.goes.0) r.own r.goes.2
