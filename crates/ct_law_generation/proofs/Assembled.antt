@@ -1,6 +1,6 @@
 -- A run of one generation: where each step lets the cluster go on, so does the run, and the promise follows.
-use Rattle.std.proofs.Common.{◌≡◌, ℕ, zero, suc, Bool, true, false, cond, ◌&&◌, List, [], ◌∷◌, ◌++◌, length, Some, None, refl, sym, ap, ◌∙◌, append-nil, arith, subst, ⊎_elim}
-use Rattle.std.specs.Prelude.{nat_lt, slice_get}
+use Rattle.std.proofs.Common.{◌≡◌, ℕ, zero, suc, Bool, true, false, cond, ◌&&◌, List, [], ◌∷◌, ◌++◌, length, Option, Some, None, refl, sym, ap, ◌∙◌, append-nil, arith, subst, ⊎_elim}
+use Rattle.std.specs.Prelude.{nat_lt, slice_get, Result, Ok, Err}
 use Rattle.std.specs.List.{list_all, filter, AllByRecursion}
 use Rattle.ct_msg.specs.declared.client.ClientOp.TheVariants as op
 use Rattle.ct_msg.specs.declared.config.Config.{Config}
@@ -8,10 +8,15 @@ use Rattle.ct_frame.specs.declared.frame.Msg.{Msg}
 use Rattle.ct_call.specs.Rules.{Rules}
 use Rattle.ct_frame.specs.declared.header.RecCopy.{RecCopy}
 use Rattle.ct_rules_node.specs.Node.{Node, state_at, db_at, or_untouched, untouched, or_nothing}
-use Rattle.ct_cluster.specs.Cluster.{Cluster, absent, or_absent, node_at, opening}
+use Rattle.ct_cluster.specs.Cluster.{Cluster, Sent, Dropped, absent, or_absent, node_at, sent_at, opening}
 use Rattle.ct_cluster.specs.Labels.{Label}
-use Rattle.ct_cluster.specs.Traces.{ran_one, ran, after, idle}
+use Rattle.ct_cluster.specs.Faults.{is_allowed, fault_of, no_such_node, faulty_if}
+use Rattle.ct_cluster.specs.Steps.{Stepped, steps, steps_or, applied, done, drop, with_fate}
+use Rattle.ct_cluster.specs.Traces as traces
+use Rattle.ct_cluster.specs.Traces.{ran_one, ran, after, idle, taken, line_labels, own_labels}
 use Rattle.ct_cluster.specs.declared.step.Step.{Step}
+use Rattle.ct_cluster.specs.declared.step.Step.TheVariants as step
+use Rattle.ct_cluster.specs.declared.step.StepFault.{StepFault}
 use Rattle.ct_register.specs.Lines
 use Rattle.ct_register.specs.Stands.{HasCopy}
 use Rattle.ct_promise.specs.Promises.{IsConfig}
@@ -21,7 +26,8 @@ use Rattle.ct_law_generation.proofs.Weave.{true_or_false}
 use Rattle.ct_law_generation.proofs.Standing.{OneLine}
 use Rattle.ct_law_generation.proofs.Pending.{Callers}
 use Rattle.ct_law_generation.proofs.Clusters.{ClusterStays}
-use Rattle.ct_law_generation.proofs.Coming.{Cluster_goes}
+use Rattle.ct_law_generation.proofs.Coming.{Cluster_goes, fate_goes}
+use Rattle.ct_law_generation.proofs.Refusing.{yields_refused, takeovers_refused, able_goes}
 use Rattle.ct_law_generation.proofs.Configured.{all_real, all_small}
 use Rattle.ct_law_generation.proofs.Opening.{opened_schedules, opened_stays}
 use Rattle.ct_law_generation.proofs.Concluding.{concluded}
@@ -103,3 +109,34 @@ pub promised : (p : Msg → Bool) → ((c : Config) (rules : Rules) → IsConfig
 promised p each c rules steps is all =
     let r = runs_go c rules p steps (opening c) [] (each c rules is) all (opened_goes c rules p) in
     concluded c rules (ran c rules (opening c) steps) r.goes.1 (all_real c is) (one_line c rules p r.who _ r.goes.0) r.own r.goes.2
+
+-- ---- one step
+
+-- where the step is taken, the cluster goes on to this
+abbrev pub Taken_goes : Config → Rules → (Msg → Bool) → Cluster → List Label → Step → Type 0
+Taken_goes c rules p w ls s = (x : Stepped) → fault_of c w s ≡ None → steps c rules w s ≡ Ok x → Run_goes c rules p (ls ++ record_labels c (traces.labels w s x.lines)) x.cluster
+
+idle_goes : (c : Config) (rules : Rules) (p : Msg → Bool) (w : Cluster) (ls : List Label) → Run_goes c rules p ls w → Run_goes c rules p (ls ++ record_labels c (idle w).trace) (idle w).cluster
+unfolding idle
+idle_goes c rules p w ls h = subst (λ (l : List Label). Run_goes c rules p l w) (sym (append-nil ls)) h
+
+result_goes : (c : Config) (rules : Rules) (p : Msg → Bool) (w : Cluster) (ls : List Label) (s : Step) (r : Result Stepped StepFault) → Run_goes c rules p ls w →
+    ((x : Stepped) → r ≡ Ok x → Run_goes c rules p (ls ++ record_labels c (traces.labels w s x.lines)) x.cluster) → Run_goes c rules p (ls ++ record_labels c (taken w s r).trace) (taken w s r).cluster
+unfolding taken
+result_goes c rules p w ls s (Ok x) h f = f x refl
+result_goes c rules p w ls s (Err e) h f = idle_goes c rules p w ls h
+
+fault_goes : (c : Config) (rules : Rules) (p : Msg → Bool) (w : Cluster) (ls : List Label) (s : Step) (f : Option StepFault) → fault_of c w s ≡ f → Run_goes c rules p ls w → Taken_goes c rules p w ls s →
+    Run_goes c rules p (ls ++ record_labels c (taken w s (steps_or c rules w s f)).trace) (taken w s (steps_or c rules w s f)).cluster
+unfolding steps_or
+fault_goes c rules p w ls s (Some f) e h g = result_goes c rules p w ls s (Err f) h (λ x bad. absurd (cc))
+fault_goes c rules p w ls s None e h g = result_goes c rules p w ls s (steps c rules w s) h (λ x ok. g x e ok)
+
+pub step_goes : (c : Config) (rules : Rules) (p : Msg → Bool) (w : Cluster) (ls : List Label) (s : Step) → Run_goes c rules p ls w → Taken_goes c rules p w ls s →
+    Run_goes c rules p (ls ++ record_labels c (ran_one c rules w s).trace) (ran_one c rules w s).cluster
+unfolding ran_one applied
+step_goes c rules p w ls s h g = either (is_allowed s)
+  where
+    either : (b : Bool) → Run_goes c rules p (ls ++ record_labels c (cond b (taken w s (steps_or c rules w s (fault_of c w s))) (idle w)).trace) (cond b (taken w s (steps_or c rules w s (fault_of c w s))) (idle w)).cluster
+    either true = fault_goes c rules p w ls s (fault_of c w s) refl h g
+    either false = idle_goes c rules p w ls h
