@@ -1,6 +1,6 @@
 -- A run of one generation: where each step lets the cluster go on, so does the run, and the promise follows.
 use Rattle.std.proofs.Common.{◌≡◌, ℕ, zero, suc, Bool, true, false, cond, ◌&&◌, List, [], ◌∷◌, ◌++◌, length, Option, Some, None, refl, sym, ap, ◌∙◌, append-nil, arith, subst, ⊎_elim}
-use Rattle.std.specs.Prelude.{nat_lt, slice_get, Result, Ok, Err}
+use Rattle.std.specs.Prelude.{nat_lt, not, slice_get, Result, Ok, Err}
 use Rattle.std.specs.List.{list_all, filter, AllByRecursion}
 use Rattle.ct_msg.specs.declared.client.ClientOp.TheVariants as op
 use Rattle.ct_msg.specs.declared.config.Config.{Config}
@@ -8,9 +8,9 @@ use Rattle.ct_frame.specs.declared.frame.Msg.{Msg}
 use Rattle.ct_call.specs.Rules.{Rules}
 use Rattle.ct_frame.specs.declared.header.RecCopy.{RecCopy}
 use Rattle.ct_rules_node.specs.Node.{Node, state_at, db_at, or_untouched, untouched, or_nothing}
-use Rattle.ct_cluster.specs.Cluster.{Cluster, Sent, Dropped, absent, or_absent, node_at, sent_at, opening}
+use Rattle.ct_cluster.specs.Cluster.{Cluster, Sent, Dropped, is_up, absent, or_absent, node_at, sent_at, opening}
 use Rattle.ct_cluster.specs.Labels.{Label}
-use Rattle.ct_cluster.specs.Faults.{is_allowed, fault_of, no_such_node, faulty_if}
+use Rattle.ct_cluster.specs.Faults.{is_allowed, fault_of, no_such_node, node_down, faulty_if, first_of}
 use Rattle.ct_cluster.specs.Steps.{Stepped, steps, steps_or, applied, done, drop, with_fate}
 use Rattle.ct_cluster.specs.Traces as traces
 use Rattle.ct_cluster.specs.Traces.{ran_one, ran, after, idle, taken, line_labels, own_labels}
@@ -140,3 +140,51 @@ step_goes c rules p w ls s h g = either (is_allowed s)
     either : (b : Bool) → Run_goes c rules p (ls ++ record_labels c (cond b (taken w s (steps_or c rules w s (fault_of c w s))) (idle w)).trace) (cond b (taken w s (steps_or c rules w s (fault_of c w s))) (idle w)).cluster
     either true = fault_goes c rules p w ls s (fault_of c w s) refl h g
     either false = idle_goes c rules p w ls h
+
+-- ---- what a step needs that is taken
+
+first_none : (x : Option StepFault) (xs : List (Option StepFault)) → first_of (x ∷ xs) ≡ None → (x ≡ None) × (first_of xs ≡ None)
+unfolding first_of
+first_none None xs e = (refl, e)
+first_none (Some f) xs e = absurd (cc)
+
+not_faulty : (b : Bool) (f : StepFault) → faulty_if (not b) f ≡ None → b ≡ true
+unfolding faulty_if
+not_faulty true f e = refl
+not_faulty false f e = absurd (cc)
+
+-- the node runs
+runs : (c : Config) (w : Cluster) (n : ℕ) (xs : List (Option StepFault)) → first_of (no_such_node c n ∷ node_down w n ∷ xs) ≡ None → is_up n w ≡ true
+unfolding node_down
+runs c w n xs e = not_faulty (is_up n w) _ (first_none _ _ (first_none _ _ e).1).0
+
+-- ---- steps that tell nothing
+
+silent : (c : Config) (rules : Rules) (p : Msg → Bool) (ls : List Label) (w v : Cluster) (s : Step) (x : Stepped) → own_labels w s [] ≡ [] → ((who : Callers) → Cluster_goes c rules p who w ls → Cluster_goes c rules p who v ls) → Run_goes c rules p ls w → done [] v ≡ Ok x →
+    Run_goes c rules p (ls ++ record_labels c (traces.labels w s x.lines)) x.cluster
+unfolding done traces.labels line_labels
+silent c rules p ls w v s x none f h e =
+    let is : record { cluster = v; lines = [] } ≡ x = cc in
+    subst (λ (y : Stepped). Run_goes c rules p (ls ++ record_labels c (traces.labels w s y.lines)) y.cluster) is
+    (subst (λ (l : List Label). Run_goes c rules p (ls ++ record_labels c (l ++ [])) v) (sym none)
+    (subst (λ (l : List Label). Run_goes c rules p l v) (sym (append-nil ls)) (record { who = h.who; goes = f h.who h.goes; own = h.own })))
+
+able_taken : (c : Config) (rules : Rules) (p : Msg → Bool) (w : Cluster) (ls : List Label) (n : ℕ) (able : Bool) → Run_goes c rules p ls w → Taken_goes c rules p w ls (step.Able n able)
+unfolding steps own_labels
+able_taken c rules p w ls n able h x ok e = silent c rules p ls w _ (step.Able n able) x refl (λ who g. able_goes c rules p who w _ ls g) h e
+
+drop_taken : (c : Config) (rules : Rules) (p : Msg → Bool) (w : Cluster) (ls : List Label) (k : ℕ) → Run_goes c rules p ls w → Taken_goes c rules p w ls (step.Drop k)
+unfolding steps own_labels drop sent_at
+drop_taken c rules p w ls zero h x ok e = silent c rules p ls w w (step.Drop zero) x refl (λ who g. g) h e
+drop_taken c rules p w ls (suc k) h x ok e = either (slice_get w.sent k) refl e
+  where
+    either : (o : Option Sent) → slice_get w.sent k ≡ o → drop (suc k) w o ≡ Ok x → Run_goes c rules p (ls ++ record_labels c (traces.labels w (step.Drop (suc k)) x.lines)) x.cluster
+    either None at r = silent c rules p ls w w (step.Drop (suc k)) x refl (λ who g. g) h r
+    either (Some m) at r = silent c rules p ls w _ (step.Drop (suc k)) x refl (λ who g. fate_goes c rules p who w k m Dropped ls at g) h r
+
+yield_taken : (c : Config) (rules : Rules) (p : Msg → Bool) (w : Cluster) (ls : List Label) (n : ℕ) → Run_goes c rules p ls w → Taken_goes c rules p w ls (step.Yield n)
+yield_taken c rules p w ls n h x ok e = absurd (yields_refused c w n h.goes.0.free ok)
+
+takeover_taken : (c : Config) (rules : Rules) (p : Msg → Bool) (w : Cluster) (ls : List Label) (n : ℕ) → Run_goes c rules p ls w → Taken_goes c rules p w ls (step.Takeover n)
+unfolding fault_of
+takeover_taken c rules p w ls n h x ok e = absurd (takeovers_refused c w n (h.goes.0.nodes n (h.goes.0.up n (runs c w n _ ok))).leads ok)
