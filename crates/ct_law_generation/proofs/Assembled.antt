@@ -1,5 +1,5 @@
 -- A run of one generation: where each step lets the cluster go on, so does the run, and the promise follows.
-use Rattle.std.proofs.Common.{◌≡◌, ℕ, zero, suc, Bool, true, false, cond, ◌&&◌, List, [], ◌∷◌, ◌++◌, length, Option, Some, None, refl, sym, ap, ◌∙◌, append-nil, arith, subst, ⊎_elim}
+use Rattle.std.proofs.Common.{◌≡◌, ℕ, zero, suc, ◌+◌, Bool, true, false, cond, ◌&&◌, List, [], ◌∷◌, ◌++◌, length, Option, Some, None, refl, sym, ap, ◌∙◌, append-nil, arith, subst, ⊎_elim}
 use Rattle.std.specs.Prelude.{nat_lt, not, slice_get, Result, Ok, Err}
 use Rattle.std.specs.List.{list_all, filter, AllByRecursion}
 use Rattle.ct_msg.specs.declared.client.ClientOp.TheVariants as op
@@ -8,10 +8,17 @@ use Rattle.ct_frame.specs.declared.frame.Msg.{Msg}
 use Rattle.ct_call.specs.Rules.{Rules}
 use Rattle.ct_frame.specs.declared.header.RecCopy.{RecCopy}
 use Rattle.ct_rules_node.specs.Node.{Node, state_at, db_at, or_untouched, untouched, or_nothing}
-use Rattle.ct_cluster.specs.Cluster.{Cluster, Sent, Dropped, is_up, absent, or_absent, node_at, sent_at, opening}
-use Rattle.ct_cluster.specs.Labels.{Label}
+use Rattle.ct_cluster.specs.Cluster.{Cluster, Sent, Dropped, is_up, pending, absent, or_absent, node_at, sent_at, opening}
+use Rattle.ct_cluster.specs.Labels.{Label, Noted}
 use Rattle.ct_cluster.specs.Faults.{is_allowed, fault_of, no_such_node, node_down, faulty_if, first_of}
-use Rattle.ct_cluster.specs.Steps.{Stepped, steps, steps_or, applied, done, drop, with_fate}
+use Rattle.ct_frame.specs.declared.event.Out.{Out}
+use Rattle.ct_frame.specs.declared.event.Out.TheVariants as out
+use Rattle.ct_frame.specs.declared.event.Event.TheVariants as event
+use Rattle.ct_rules_node.specs.Turn.{Turn, begins}
+use Rattle.ct_rules_node.specs.Steps as node_steps
+use Rattle.ct_rules_node.specs.Steps.{vacuums}
+use Rattle.ct_cluster.specs.declared.step.PendingCall.{PendingCall}
+use Rattle.ct_cluster.specs.Steps.{Stepped, steps, steps_or, applied, done, drop, with_fate, put, lines_of}
 use Rattle.ct_cluster.specs.Traces as traces
 use Rattle.ct_cluster.specs.Traces.{ran_one, ran, after, idle, taken, line_labels, own_labels}
 use Rattle.ct_cluster.specs.declared.step.Step.{Step}
@@ -21,11 +28,14 @@ use Rattle.ct_register.specs.Lines
 use Rattle.ct_register.specs.Stands.{HasCopy}
 use Rattle.ct_promise.specs.Promises.{IsConfig}
 use Rattle.ct_promise.specs.Generation.{is_of_one_generation, speaks_of_records, record_labels, KeepsRecords, PromiseOfOneGeneration}
-use Rattle.ct_law_generation.specs.Shown.{IsOfLineOne}
+use Rattle.ct_law_generation.specs.Shown.{IsOfLineOne, labels_of}
 use Rattle.ct_law_generation.proofs.Weave.{true_or_false}
 use Rattle.ct_law_generation.proofs.Standing.{OneLine}
 use Rattle.ct_law_generation.proofs.Pending.{Callers}
 use Rattle.ct_law_generation.proofs.Clusters.{ClusterStays}
+use Rattle.ct_law_generation.proofs.Lining.{Is_kept, all_speak}
+use Rattle.ct_law_generation.proofs.Fed.{fed_is}
+use Rattle.ct_law_generation.proofs.Vacuumed.{vacuum_fed}
 use Rattle.ct_law_generation.proofs.Coming.{Cluster_goes, fate_goes}
 use Rattle.ct_law_generation.proofs.Refusing.{yields_refused, takeovers_refused, able_goes}
 use Rattle.ct_law_generation.proofs.Configured.{all_real, all_small}
@@ -188,3 +198,38 @@ yield_taken c rules p w ls n h x ok e = absurd (yields_refused c w n h.goes.0.fr
 takeover_taken : (c : Config) (rules : Rules) (p : Msg → Bool) (w : Cluster) (ls : List Label) (n : ℕ) → Run_goes c rules p ls w → Taken_goes c rules p w ls (step.Takeover n)
 unfolding fault_of
 takeover_taken c rules p w ls n h x ok e = absurd (takeovers_refused c w n (h.goes.0.nodes n (h.goes.0.up n (runs c w n _ ok))).leads ok)
+
+-- ---- a step of a node
+
+lines_tell : (s : Step) (calls : List PendingCall) (n k : ℕ) (xs : List Out) → line_labels s calls (lines_of n k xs) ≡ labels_of n calls xs
+unfolding line_labels traces.label_of lines_of labels_of
+lines_tell s calls n k [] = refl
+lines_tell s calls n k (out.Send f ∷ xs) = ap (λ (l : List Label). traces.sent_label f.sender f.generation f.msg ++ l) (lines_tell s calls n (k + 1) xs)
+lines_tell s calls n k (out.Answer call a ∷ xs) = ap (λ (l : List Label). traces.answered call a calls ++ l) (lines_tell s calls n k xs)
+lines_tell s calls n k (out.Note x ∷ xs) = ap (λ (l : List Label). Noted n x ∷ l) (lines_tell s calls n k xs)
+
+-- what the node tells is of records of line 1
+abbrev pub Tells_kept : Config → ℕ → List PendingCall → Turn → Type 0
+Tells_kept c n calls u = AllByRecursion (Is_kept c (Lines.opening c).line) (labels_of n calls u.outs)
+
+own_more : (c : Config) (line : ℕ → ℕ) (xs ys : List Label) → AllByRecursion (IsOfLineOne c line) xs → AllByRecursion (Is_kept c line) ys → AllByRecursion (IsOfLineOne c line) (xs ++ ys)
+own_more c line [] [] h k = tt
+own_more c line [] (y ∷ ys) h k = (k.0.own, own_more c line [] ys h k.1)
+own_more c line (x ∷ xs) ys h k = (h.0, own_more c line xs ys h.1 k)
+
+pub turn_tells : (c : Config) (rules : Rules) (p : Msg → Bool) (who : Callers) (ls : List Label) (w v : Cluster) (s : Step) (n : ℕ) (u : Turn) (x : Stepped) → AllByRecursion (IsOfLineOne c (Lines.opening c).line) ls →
+    Tells_kept c n (traces.calls_of w s) u → own_labels w s x.lines ≡ [] → x ≡ put n u [] v → Cluster_goes c rules p who x.cluster (ls ++ labels_of n (traces.calls_of w s) u.outs) →
+    Run_goes c rules p (ls ++ record_labels c (traces.labels w s x.lines)) x.cluster
+unfolding traces.labels put
+turn_tells c rules p who ls w v s n u x own kept none is goes =
+    let told : traces.labels w s x.lines ≡ labels_of n (traces.calls_of w s) u.outs =
+    ap (λ (l : List Label). l ++ line_labels s (traces.calls_of w s) x.lines) none ∙ ap (λ (y : Stepped). line_labels s (traces.calls_of w s) y.lines) is ∙ lines_tell s (traces.calls_of w s) n _ u.outs in
+    let all = ap (λ (l : List Label). record_labels c l) told ∙ all_speak c (Lines.opening c).line _ kept in
+    subst (λ (l : List Label). Run_goes c rules p (ls ++ l) x.cluster) (sym all) (record { who = who; goes = goes; own = own_more c (Lines.opening c).line ls _ own kept })
+
+-- a vacuum, where all that the node tells is of records
+pub vacuum_taken : (c : Config) (rules : Rules) (p : Msg → Bool) (w : Cluster) (ls : List Label) (n db : ℕ) → IsConfig c → Tells_kept c n (pending w) (vacuums c n db (begins (node_at n w))) → Run_goes c rules p ls w → Taken_goes c rules p w ls (step.Vacuum n db)
+unfolding fault_of steps own_labels traces.calls_of node_steps.happens
+vacuum_taken c rules p w ls n db is kept h x ok e =
+    turn_tells c rules p h.who ls w w (step.Vacuum n db) n (vacuums c n db (begins (node_at n w))) x h.own kept refl (fed_is c rules n (event.Vacuum db) [] w x e).1
+    (vacuum_fed c rules p h.who w n db ls h.goes.1 x (all_real c is) (all_small c is) h.goes.0 h.goes.2 (runs c w n _ ok) e)
