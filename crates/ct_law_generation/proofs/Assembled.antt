@@ -2,6 +2,7 @@
 use Rattle.std.proofs.Common.{◌≡◌, ℕ, zero, suc, ◌+◌, Bool, true, false, cond, ◌&&◌, List, [], ◌∷◌, ◌++◌, length, Option, Some, None, refl, sym, ap, ◌∙◌, append-nil, arith, subst, ⊎_elim}
 use Rattle.std.specs.Prelude.{nat_lt, not, slice_get, Result, Ok, Err}
 use Rattle.std.specs.List.{list_all, filter, AllByRecursion}
+use Rattle.ct_msg.specs.declared.client.ClientOp.{ClientOp}
 use Rattle.ct_msg.specs.declared.client.ClientOp.TheVariants as op
 use Rattle.ct_msg.specs.declared.config.Config.{Config}
 use Rattle.ct_frame.specs.declared.frame.Msg.{Msg}
@@ -233,3 +234,32 @@ unfolding fault_of steps own_labels traces.calls_of node_steps.happens
 vacuum_taken c rules p w ls n db is kept h x ok e =
     turn_tells c rules p h.who ls w w (step.Vacuum n db) n (vacuums c n db (begins (node_at n w))) x h.own kept refl (fed_is c rules n (event.Vacuum db) [] w x e).1
     (vacuum_fed c rules p h.who w n db ls h.goes.1 x (all_real c is) (all_small c is) h.goes.0 h.goes.2 (runs c w n _ ok) e)
+
+-- ---- all steps, from what is left to show of them
+
+-- what is left to show: these steps let the run go on, and what a vacuum tells is of records
+pub record Left_to_show (c : Config) (rules : Rules) (p : Msg → Bool) : Type 0 where
+  pub client : (w : Cluster) (ls : List Label) (n : ℕ) (o : ClientOp) → Run_goes c rules p ls w → Taken_goes c rules p w ls (step.Client n o)
+  pub retry : (w : Cluster) (ls : List Label) (n : ℕ) → Run_goes c rules p ls w → Taken_goes c rules p w ls (step.Retry n)
+  pub deliver : (w : Cluster) (ls : List Label) (k : ℕ) → Run_goes c rules p ls w → Taken_goes c rules p w ls (step.Deliver k)
+  pub repeat : (w : Cluster) (ls : List Label) (k : ℕ) → Run_goes c rules p ls w → Taken_goes c rules p w ls (step.Repeat k)
+  pub vacuum : (w : Cluster) (ls : List Label) (n db : ℕ) → Run_goes c rules p ls w → is_up n w ≡ true → Tells_kept c n (pending w) (vacuums c n db (begins (node_at n w)))
+
+pub each_goes : (c : Config) (rules : Rules) (p : Msg → Bool) → IsConfig c → Left_to_show c rules p → Each_goes c rules p
+unfolding is_of_one_generation fault_of
+each_goes c rules p is rest w ls (step.Client n o) e h = step_goes c rules p w ls (step.Client n o) h (rest.client w ls n o h)
+each_goes c rules p is rest w ls (step.Deliver k) e h = step_goes c rules p w ls (step.Deliver k) h (rest.deliver w ls k h)
+each_goes c rules p is rest w ls (step.Drop k) e h = step_goes c rules p w ls (step.Drop k) h (drop_taken c rules p w ls k h)
+each_goes c rules p is rest w ls (step.Repeat k) e h = step_goes c rules p w ls (step.Repeat k) h (rest.repeat w ls k h)
+each_goes c rules p is rest w ls (step.Retry n) e h = step_goes c rules p w ls (step.Retry n) h (rest.retry w ls n h)
+each_goes c rules p is rest w ls (step.Vacuum n db) e h = step_goes c rules p w ls (step.Vacuum n db) h (λ x ok. vacuum_taken c rules p w ls n db is (rest.vacuum w ls n db h (runs c w n _ ok)) h x ok)
+each_goes c rules p is rest w ls (step.Recover n members) e h = absurd (cc)
+each_goes c rules p is rest w ls (step.Yield n) e h = step_goes c rules p w ls (step.Yield n) h (yield_taken c rules p w ls n h)
+each_goes c rules p is rest w ls (step.Stop n) e h = absurd (cc)
+each_goes c rules p is rest w ls (step.Start n) e h = absurd (cc)
+each_goes c rules p is rest w ls (step.Takeover n) e h = step_goes c rules p w ls (step.Takeover n) h (takeover_taken c rules p w ls n h)
+each_goes c rules p is rest w ls (step.Able n able) e h = step_goes c rules p w ls (step.Able n able) h (able_taken c rules p w ls n able h)
+
+-- so the promise follows from what is left to show
+pub promise_follows : (p : Msg → Bool) → ((c : Config) (rules : Rules) → IsConfig c → Left_to_show c rules p) → PromiseOfOneGeneration
+promise_follows p rest = promised p (λ c rules is. each_goes c rules p is (rest c rules is))
