@@ -17,9 +17,12 @@ use Rattle.ct_frame.specs.declared.event.Out.TheVariants as out
 use Rattle.ct_frame.specs.declared.event.Event.TheVariants as event
 use Rattle.ct_rules_node.specs.Turn.{Turn, begins}
 use Rattle.ct_rules_node.specs.Steps as node_steps
-use Rattle.ct_rules_node.specs.Steps.{vacuums}
+use Rattle.ct_rules_node.specs.Steps.{vacuums, arrives}
 use Rattle.ct_cluster.specs.declared.step.PendingCall.{PendingCall}
-use Rattle.ct_cluster.specs.Steps.{Stepped, steps, steps_or, applied, done, drop, with_fate, put, lines_of}
+use Rattle.ct_cluster.specs.Steps.{Stepped, steps, steps_or, applied, done, drop, with_fate, put, lines_of, fed, repeat}
+use Rattle.ct_cluster.specs.declared.step.Line.TheVariants as line
+use Rattle.ct_rules_node.specs.Admission.{record_in}
+use Rattle.std.proofs.lemmas.Bool.{cond_both}
 use Rattle.ct_cluster.specs.Traces as traces
 use Rattle.ct_cluster.specs.Traces.{ran_one, ran, after, idle, taken, line_labels, own_labels}
 use Rattle.ct_cluster.specs.declared.step.Step.{Step}
@@ -36,6 +39,9 @@ use Rattle.ct_law_generation.proofs.Pending.{Callers}
 use Rattle.ct_law_generation.proofs.Clusters.{ClusterStays}
 use Rattle.ct_law_generation.proofs.Lining.{Is_kept, all_speak}
 use Rattle.ct_law_generation.proofs.Fed.{fed_is}
+use Rattle.ct_law_generation.proofs.Forming.{Is_sound_mail}
+use Rattle.ct_law_generation.proofs.Plain.{IsPlain, plain_at}
+use Rattle.ct_law_generation.proofs.Delivered.{fed_goes}
 use Rattle.ct_law_generation.proofs.Vacuumed.{vacuum_fed}
 use Rattle.ct_law_generation.proofs.Coming.{Cluster_goes, fate_goes}
 use Rattle.ct_law_generation.proofs.Refusing.{yields_refused, takeovers_refused, able_goes}
@@ -235,6 +241,50 @@ vacuum_taken c rules p w ls n db is kept h x ok e =
     turn_tells c rules p h.who ls w w (step.Vacuum n db) n (vacuums c n db (begins (node_at n w))) x h.own kept refl (fed_is c rules n (event.Vacuum db) [] w x e).1
     (vacuum_fed c rules p h.who w n db ls h.goes.1 x (all_real c is) (all_small c is) h.goes.0 h.goes.2 (runs c w n _ ok) e)
 
+-- ---- messages
+
+-- what is left to show of a message: what its receiver tells is of records, and a message of a commit lets the run go on
+pub record Left_of_messages (c : Config) (rules : Rules) (p : Msg → Bool) : Type 0 where
+  pub kept : (w : Cluster) (ls : List Label) (k : ℕ) (m : Sent) (r : ℕ × List ℕ) → Run_goes c rules p ls w → slice_get w.sent k ≡ Some m → is_up m.frame.receiver w ≡ true → record_in m.frame.msg ≡ Some r →
+      Tells_kept c m.frame.receiver (pending w) (arrives c rules m.frame.receiver m.frame (begins (node_at m.frame.receiver w)) m.frame.msg)
+  pub commit : (w v : Cluster) (ls : List Label) (k : ℕ) (m : Sent) (s : Step) (x : Stepped) → Run_goes c rules p ls v → slice_get v.sent k ≡ Some m → is_up m.frame.receiver v ≡ true → p m.frame.msg ≡ true → traces.calls_of w s ≡ pending v → own_labels w s x.lines ≡ [] →
+      fed c rules m.frame.receiver (event.Arrive m.frame) [] v ≡ Ok x → Run_goes c rules p (ls ++ record_labels c (traces.labels w s x.lines)) x.cluster
+
+-- a message comes to its receiver, which runs
+message_taken : (c : Config) (rules : Rules) (p : Msg → Bool) (w v : Cluster) (ls : List Label) (k : ℕ) (m : Sent) (s : Step) (x : Stepped) → IsConfig c → Left_of_messages c rules p → Run_goes c rules p ls v → slice_get v.sent k ≡ Some m → is_up m.frame.receiver v ≡ true →
+    traces.calls_of w s ≡ pending v → own_labels w s x.lines ≡ [] → fed c rules m.frame.receiver (event.Arrive m.frame) [] v ≡ Ok x → Run_goes c rules p (ls ++ record_labels c (traces.labels w s x.lines)) x.cluster
+unfolding IsPlain node_steps.happens
+message_taken c rules p w v ls k m s x is rest h at up calls none e = ⊎_elim
+    (λ (r : (r : ℕ × List ℕ) × (record_in m.frame.msg ≡ Some r) × Is_sound_mail (record { sender = m.frame.sender; receiver = m.frame.receiver; msg = m.frame.msg })).
+    turn_tells c rules p h.who ls w v s m.frame.receiver (arrives c rules m.frame.receiver m.frame (begins (node_at m.frame.receiver v)) m.frame.msg) x h.own
+    (subst (λ (l : List PendingCall). Tells_kept c m.frame.receiver l (arrives c rules m.frame.receiver m.frame (begins (node_at m.frame.receiver v)) m.frame.msg)) (sym calls) (rest.kept v ls k m r.0 h at up r.1))
+    none (fed_is c rules m.frame.receiver (event.Arrive m.frame) [] v x e).1
+    (subst (λ (l : List PendingCall). Cluster_goes c rules p h.who x.cluster (ls ++ labels_of m.frame.receiver l (arrives c rules m.frame.receiver m.frame (begins (node_at m.frame.receiver v)) m.frame.msg).outs)) (sym calls)
+    (fed_goes c rules p h.who v k m r.0 ls h.goes.1 x (all_real c is) (all_small c is) h.goes.0 h.goes.2 at up r.1 r.2 e)))
+    (λ (q : p m.frame.msg ≡ true). rest.commit w v ls k m s x h at up q calls none e)
+    (plain_at p v.sent k m at h.goes.0.sent)
+
+-- a message is lost
+lost : (c : Config) (rules : Rules) (p : Msg → Bool) (ls : List Label) (w v : Cluster) (k : ℕ) (s : Step) (x : Stepped) → own_labels w s (line.Lost k ∷ []) ≡ [] → Run_goes c rules p ls v → done (line.Lost k ∷ []) v ≡ Ok x →
+    Run_goes c rules p (ls ++ record_labels c (traces.labels w s x.lines)) x.cluster
+unfolding done traces.labels line_labels traces.label_of
+lost c rules p ls w v k s x none h e =
+    let is : record { cluster = v; lines = line.Lost k ∷ [] } ≡ x = cc in
+    subst (λ (y : Stepped). Run_goes c rules p (ls ++ record_labels c (traces.labels w s y.lines)) y.cluster) is
+    (subst (λ (l : List Label). Run_goes c rules p (ls ++ record_labels c (l ++ [])) v) (sym none)
+    (subst (λ (l : List Label). Run_goes c rules p l v) (sym (append-nil ls)) h))
+
+pub repeat_taken : (c : Config) (rules : Rules) (p : Msg → Bool) (w : Cluster) (ls : List Label) (k : ℕ) → IsConfig c → Left_of_messages c rules p → Run_goes c rules p ls w → Taken_goes c rules p w ls (step.Repeat k)
+unfolding steps own_labels repeat sent_at traces.calls_of
+repeat_taken c rules p w ls zero is rest h x ok e = silent c rules p ls w w (step.Repeat zero) x refl (λ who g. g) h e
+repeat_taken c rules p w ls (suc k) is rest h x ok e = either (slice_get w.sent k) refl e
+  where
+    either : (o : Option Sent) → slice_get w.sent k ≡ o → repeat c rules (suc k) w o ≡ Ok x → Run_goes c rules p (ls ++ record_labels c (traces.labels w (step.Repeat (suc k)) x.lines)) x.cluster
+    either None at r = silent c rules p ls w w (step.Repeat (suc k)) x refl (λ who g. g) h r
+    either (Some m) at r = cond_both (is_up m.frame.receiver w) (fed c rules m.frame.receiver (event.Arrive m.frame) [] w) (done (line.Lost (suc k) ∷ []) w) (λ (y : Result Stepped StepFault). y ≡ Ok x → Run_goes c rules p (ls ++ record_labels c (traces.labels w (step.Repeat (suc k)) x.lines)) x.cluster)
+        (λ up q. message_taken c rules p w w ls k m (step.Repeat (suc k)) x is rest h at up refl refl q)
+        (λ down q. lost c rules p ls w w (suc k) (step.Repeat (suc k)) x refl h q) r
+
 -- ---- all steps, from what is left to show of them
 
 -- what is left to show: these steps let the run go on, and what a vacuum tells is of records
@@ -242,7 +292,7 @@ pub record Left_to_show (c : Config) (rules : Rules) (p : Msg → Bool) : Type 0
   pub client : (w : Cluster) (ls : List Label) (n : ℕ) (o : ClientOp) → Run_goes c rules p ls w → Taken_goes c rules p w ls (step.Client n o)
   pub retry : (w : Cluster) (ls : List Label) (n : ℕ) → Run_goes c rules p ls w → Taken_goes c rules p w ls (step.Retry n)
   pub deliver : (w : Cluster) (ls : List Label) (k : ℕ) → Run_goes c rules p ls w → Taken_goes c rules p w ls (step.Deliver k)
-  pub repeat : (w : Cluster) (ls : List Label) (k : ℕ) → Run_goes c rules p ls w → Taken_goes c rules p w ls (step.Repeat k)
+  pub messages : Left_of_messages c rules p
   pub vacuum : (w : Cluster) (ls : List Label) (n db : ℕ) → Run_goes c rules p ls w → is_up n w ≡ true → Tells_kept c n (pending w) (vacuums c n db (begins (node_at n w)))
 
 pub each_goes : (c : Config) (rules : Rules) (p : Msg → Bool) → IsConfig c → Left_to_show c rules p → Each_goes c rules p
@@ -250,7 +300,7 @@ unfolding is_of_one_generation fault_of
 each_goes c rules p is rest w ls (step.Client n o) e h = step_goes c rules p w ls (step.Client n o) h (rest.client w ls n o h)
 each_goes c rules p is rest w ls (step.Deliver k) e h = step_goes c rules p w ls (step.Deliver k) h (rest.deliver w ls k h)
 each_goes c rules p is rest w ls (step.Drop k) e h = step_goes c rules p w ls (step.Drop k) h (drop_taken c rules p w ls k h)
-each_goes c rules p is rest w ls (step.Repeat k) e h = step_goes c rules p w ls (step.Repeat k) h (rest.repeat w ls k h)
+each_goes c rules p is rest w ls (step.Repeat k) e h = step_goes c rules p w ls (step.Repeat k) h (repeat_taken c rules p w ls k is rest.messages h)
 each_goes c rules p is rest w ls (step.Retry n) e h = step_goes c rules p w ls (step.Retry n) h (rest.retry w ls n h)
 each_goes c rules p is rest w ls (step.Vacuum n db) e h = step_goes c rules p w ls (step.Vacuum n db) h (λ x ok. vacuum_taken c rules p w ls n db is (rest.vacuum w ls n db h (runs c w n _ ok)) h x ok)
 each_goes c rules p is rest w ls (step.Recover n members) e h = absurd (cc)
