@@ -1,6 +1,6 @@
 -- A run of one generation: where each step lets the cluster go on, so does the run, and the promise follows.
 use Rattle.std.proofs.Common.{◌≡◌, ℕ, zero, suc, ◌+◌, Bool, true, false, cond, ◌&&◌, List, [], ◌∷◌, ◌++◌, length, Option, Some, None, refl, sym, ap, ◌∙◌, append-nil, arith, subst, ⊎_elim}
-use Rattle.std.specs.Prelude.{nat_lt, not, slice_get, Result, Ok, Err}
+use Rattle.std.specs.Prelude.{nat_lt, not, slice_get, slice_set, Result, Ok, Err}
 use Rattle.std.specs.List.{list_all, filter, AllByRecursion}
 use Rattle.ct_msg.specs.declared.client.ClientOp.{ClientOp}
 use Rattle.ct_msg.specs.declared.client.ClientOp.TheVariants as op
@@ -9,7 +9,7 @@ use Rattle.ct_frame.specs.declared.frame.Msg.{Msg}
 use Rattle.ct_call.specs.Rules.{Rules}
 use Rattle.ct_frame.specs.declared.header.RecCopy.{RecCopy}
 use Rattle.ct_rules_node.specs.Node.{Node, state_at, db_at, or_untouched, untouched, or_nothing}
-use Rattle.ct_cluster.specs.Cluster.{Cluster, Sent, Dropped, is_up, pending, absent, or_absent, node_at, sent_at, opening}
+use Rattle.ct_cluster.specs.Cluster.{Cluster, Sent, Fate, Delivered, Dropped, is_up, pending, absent, or_absent, node_at, sent_at, opening}
 use Rattle.ct_cluster.specs.Labels.{Label, Noted}
 use Rattle.ct_cluster.specs.Faults.{is_allowed, fault_of, no_such_node, node_down, faulty_if, first_of}
 use Rattle.ct_frame.specs.declared.event.Out.{Out}
@@ -19,7 +19,7 @@ use Rattle.ct_rules_node.specs.Turn.{Turn, begins}
 use Rattle.ct_rules_node.specs.Steps as node_steps
 use Rattle.ct_rules_node.specs.Steps.{vacuums, arrives}
 use Rattle.ct_cluster.specs.declared.step.PendingCall.{PendingCall}
-use Rattle.ct_cluster.specs.Steps.{Stepped, steps, steps_or, applied, done, drop, with_fate, put, lines_of, fed, repeat}
+use Rattle.ct_cluster.specs.Steps.{Stepped, steps, steps_or, applied, done, drop, with_fate, put, lines_of, fed, repeat, deliver}
 use Rattle.ct_cluster.specs.declared.step.Line.TheVariants as line
 use Rattle.ct_rules_node.specs.Admission.{record_in}
 use Rattle.std.proofs.lemmas.Bool.{cond_both}
@@ -285,20 +285,51 @@ repeat_taken c rules p w ls (suc k) is rest h x ok e = either (slice_get w.sent 
         (λ up q. message_taken c rules p w w ls k m (step.Repeat (suc k)) x is rest h at up refl refl q)
         (λ down q. lost c rules p ls w w (suc k) (step.Repeat (suc k)) x refl h q) r
 
+set_got : (ss : List Sent) (k : ℕ) (m y : Sent) → slice_get ss k ≡ Some m → slice_get (slice_set ss k y) k ≡ Some y
+set_got [] k m y e = absurd (cc)
+set_got (z ∷ zs) zero m y e = refl
+set_got (z ∷ zs) (suc k) m y e = set_got zs k m y e
+
+fate_pending : (k : ℕ) (m : Sent) (f : Fate) (w : Cluster) → pending w ≡ pending (with_fate (suc k) m f w)
+unfolding with_fate pending
+fate_pending k m f w = refl
+
+fate_up : (n k : ℕ) (m : Sent) (f : Fate) (w : Cluster) → is_up n w ≡ is_up n (with_fate (suc k) m f w)
+unfolding with_fate is_up
+fate_up n k m f w = refl
+
+fate_got : (k : ℕ) (m : Sent) (f : Fate) (w : Cluster) → slice_get w.sent k ≡ Some m → slice_get (with_fate (suc k) m f w).sent k ≡ Some (record m { fate = f })
+unfolding with_fate
+fate_got k m f w at = set_got w.sent k m (record m { fate = f }) at
+
+run_fate : (c : Config) (rules : Rules) (p : Msg → Bool) (w : Cluster) (ls : List Label) (k : ℕ) (m : Sent) (f : Fate) → slice_get w.sent k ≡ Some m → Run_goes c rules p ls w → Run_goes c rules p ls (with_fate (suc k) m f w)
+run_fate c rules p w ls k m f at h = record { who = h.who; goes = fate_goes c rules p h.who w k m f ls at h.goes; own = h.own }
+
+pub deliver_taken : (c : Config) (rules : Rules) (p : Msg → Bool) (w : Cluster) (ls : List Label) (k : ℕ) → IsConfig c → Left_of_messages c rules p → Run_goes c rules p ls w → Taken_goes c rules p w ls (step.Deliver k)
+unfolding steps own_labels deliver sent_at traces.calls_of
+deliver_taken c rules p w ls zero is rest h x ok e = silent c rules p ls w w (step.Deliver zero) x refl (λ who g. g) h e
+deliver_taken c rules p w ls (suc k) is rest h x ok e = either (slice_get w.sent k) refl e
+  where
+    either : (o : Option Sent) → slice_get w.sent k ≡ o → deliver c rules (suc k) w o ≡ Ok x → Run_goes c rules p (ls ++ record_labels c (traces.labels w (step.Deliver (suc k)) x.lines)) x.cluster
+    either None at r = silent c rules p ls w w (step.Deliver (suc k)) x refl (λ who g. g) h r
+    either (Some m) at r = cond_both (is_up m.frame.receiver w) (fed c rules m.frame.receiver (event.Arrive m.frame) [] (with_fate (suc k) m Delivered w)) (done (line.Lost (suc k) ∷ []) (with_fate (suc k) m Dropped w)) (λ (y : Result Stepped StepFault). y ≡ Ok x → Run_goes c rules p (ls ++ record_labels c (traces.labels w (step.Deliver (suc k)) x.lines)) x.cluster)
+        (λ up q. message_taken c rules p w (with_fate (suc k) m Delivered w) ls k (record m { fate = Delivered }) (step.Deliver (suc k)) x is rest (run_fate c rules p w ls k m Delivered at h) (fate_got k m Delivered w at)
+            (sym (fate_up m.frame.receiver k m Delivered w) ∙ up) (fate_pending k m Delivered w) refl q)
+        (λ down q. lost c rules p ls w (with_fate (suc k) m Dropped w) (suc k) (step.Deliver (suc k)) x refl (run_fate c rules p w ls k m Dropped at h) q) r
+
 -- ---- all steps, from what is left to show of them
 
 -- what is left to show: these steps let the run go on, and what a vacuum tells is of records
 pub record Left_to_show (c : Config) (rules : Rules) (p : Msg → Bool) : Type 0 where
   pub client : (w : Cluster) (ls : List Label) (n : ℕ) (o : ClientOp) → Run_goes c rules p ls w → Taken_goes c rules p w ls (step.Client n o)
   pub retry : (w : Cluster) (ls : List Label) (n : ℕ) → Run_goes c rules p ls w → Taken_goes c rules p w ls (step.Retry n)
-  pub deliver : (w : Cluster) (ls : List Label) (k : ℕ) → Run_goes c rules p ls w → Taken_goes c rules p w ls (step.Deliver k)
   pub messages : Left_of_messages c rules p
   pub vacuum : (w : Cluster) (ls : List Label) (n db : ℕ) → Run_goes c rules p ls w → is_up n w ≡ true → Tells_kept c n (pending w) (vacuums c n db (begins (node_at n w)))
 
 pub each_goes : (c : Config) (rules : Rules) (p : Msg → Bool) → IsConfig c → Left_to_show c rules p → Each_goes c rules p
 unfolding is_of_one_generation fault_of
 each_goes c rules p is rest w ls (step.Client n o) e h = step_goes c rules p w ls (step.Client n o) h (rest.client w ls n o h)
-each_goes c rules p is rest w ls (step.Deliver k) e h = step_goes c rules p w ls (step.Deliver k) h (rest.deliver w ls k h)
+each_goes c rules p is rest w ls (step.Deliver k) e h = step_goes c rules p w ls (step.Deliver k) h (deliver_taken c rules p w ls k is rest.messages h)
 each_goes c rules p is rest w ls (step.Drop k) e h = step_goes c rules p w ls (step.Drop k) h (drop_taken c rules p w ls k h)
 each_goes c rules p is rest w ls (step.Repeat k) e h = step_goes c rules p w ls (step.Repeat k) h (repeat_taken c rules p w ls k is rest.messages h)
 each_goes c rules p is rest w ls (step.Retry n) e h = step_goes c rules p w ls (step.Retry n) h (rest.retry w ls n h)
