@@ -32,3 +32,6 @@ pub mod Vacuumed
 pub mod Configured
 pub mod Locked
 pub mod Assembled
+pub mod Retried
+pub mod Resending
+pub mod Retrying
