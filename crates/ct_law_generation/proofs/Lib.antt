@@ -35,3 +35,4 @@ pub mod Assembled
 pub mod Retried
 pub mod Resending
 pub mod Retrying
+pub mod Committed
