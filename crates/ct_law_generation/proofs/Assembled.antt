@@ -11,6 +11,7 @@ use Rattle.ct_frame.specs.declared.header.RecCopy.{RecCopy}
 use Rattle.ct_rules_node.specs.Node.{Node, state_at, db_at, or_untouched, untouched, or_nothing}
 use Rattle.ct_cluster.specs.Cluster.{Cluster, Sent, Fate, Delivered, Dropped, is_up, pending, absent, or_absent, node_at, sent_at, opening}
 use Rattle.ct_cluster.specs.Labels.{Label, Noted}
+use Rattle.ct_rules_node.specs.Retries.{retry}
 use Rattle.ct_cluster.specs.Faults.{is_allowed, fault_of, no_such_node, node_down, faulty_if, first_of}
 use Rattle.ct_frame.specs.declared.event.Out.{Out}
 use Rattle.ct_frame.specs.declared.event.Out.TheVariants as out
@@ -38,6 +39,7 @@ use Rattle.ct_law_generation.proofs.Standing.{OneLine}
 use Rattle.ct_law_generation.proofs.Pending.{Callers}
 use Rattle.ct_law_generation.proofs.Clusters.{ClusterStays}
 use Rattle.ct_law_generation.proofs.Lining.{Is_kept, all_speak}
+use Rattle.ct_law_generation.proofs.Retrying.{Updates, retry_cluster}
 use Rattle.ct_law_generation.proofs.Fed.{fed_is}
 use Rattle.ct_law_generation.proofs.Forming.{Is_sound_mail}
 use Rattle.ct_law_generation.proofs.Plain.{IsPlain, plain_at}
@@ -317,12 +319,22 @@ deliver_taken c rules p w ls (suc k) is rest h x ok e = either (slice_get w.sent
             (sym (fate_up m.frame.receiver k m Delivered w) ∙ up) (fate_pending k m Delivered w) refl q)
         (λ down q. lost c rules p ls w (with_fate (suc k) m Dropped w) (suc k) (step.Deliver (suc k)) x refl (run_fate c rules p w ls k m Dropped at h) q) r
 
+-- a Retry, where all that the node tells is of records
+pub retry_taken : (c : Config) (rules : Rules) (p : Msg → Bool) (w : Cluster) (ls : List Label) (n : ℕ) → IsConfig c → Updates p → Tells_kept c n (pending w) (retry c n (begins (node_at n w))) → Run_goes c rules p ls w → Taken_goes c rules p w ls (step.Retry n)
+unfolding fault_of steps own_labels traces.calls_of node_steps.happens
+retry_taken c rules p w ls n is updates kept h x ok e =
+    let f = fed_is c rules n event.Retry [] w x e in
+    turn_tells c rules p h.who ls w w (step.Retry n) n (retry c n (begins (node_at n w))) x h.own kept refl f.1
+    (subst (λ (y : Stepped). Cluster_goes c rules p h.who y.cluster (ls ++ labels_of n (pending w) (retry c n (begins (node_at n w))).outs)) (sym f.1)
+    (retry_cluster c rules p h.who w n ls h.goes.1 updates (all_real c is) (all_small c is) (runs c w n _ ok) h.goes.0 h.goes.2))
+
 -- ---- all steps, from what is left to show of them
 
 -- what is left to show: these steps let the run go on, and what a vacuum tells is of records
 pub record Left_to_show (c : Config) (rules : Rules) (p : Msg → Bool) : Type 0 where
   pub client : (w : Cluster) (ls : List Label) (n : ℕ) (o : ClientOp) → Run_goes c rules p ls w → Taken_goes c rules p w ls (step.Client n o)
-  pub retry : (w : Cluster) (ls : List Label) (n : ℕ) → Run_goes c rules p ls w → Taken_goes c rules p w ls (step.Retry n)
+  pub updates : Updates p
+  pub retry : (w : Cluster) (ls : List Label) (n : ℕ) → Run_goes c rules p ls w → is_up n w ≡ true → Tells_kept c n (pending w) (retry c n (begins (node_at n w)))
   pub messages : Left_of_messages c rules p
   pub vacuum : (w : Cluster) (ls : List Label) (n db : ℕ) → Run_goes c rules p ls w → is_up n w ≡ true → Tells_kept c n (pending w) (vacuums c n db (begins (node_at n w)))
 
@@ -332,7 +344,7 @@ each_goes c rules p is rest w ls (step.Client n o) e h = step_goes c rules p w l
 each_goes c rules p is rest w ls (step.Deliver k) e h = step_goes c rules p w ls (step.Deliver k) h (deliver_taken c rules p w ls k is rest.messages h)
 each_goes c rules p is rest w ls (step.Drop k) e h = step_goes c rules p w ls (step.Drop k) h (drop_taken c rules p w ls k h)
 each_goes c rules p is rest w ls (step.Repeat k) e h = step_goes c rules p w ls (step.Repeat k) h (repeat_taken c rules p w ls k is rest.messages h)
-each_goes c rules p is rest w ls (step.Retry n) e h = step_goes c rules p w ls (step.Retry n) h (rest.retry w ls n h)
+each_goes c rules p is rest w ls (step.Retry n) e h = step_goes c rules p w ls (step.Retry n) h (λ x ok. retry_taken c rules p w ls n is rest.updates (rest.retry w ls n h (runs c w n _ ok)) h x ok)
 each_goes c rules p is rest w ls (step.Vacuum n db) e h = step_goes c rules p w ls (step.Vacuum n db) h (λ x ok. vacuum_taken c rules p w ls n db is (rest.vacuum w ls n db h (runs c w n _ ok)) h x ok)
 each_goes c rules p is rest w ls (step.Recover n members) e h = absurd (cc)
 each_goes c rules p is rest w ls (step.Yield n) e h = step_goes c rules p w ls (step.Yield n) h (yield_taken c rules p w ls n h)
