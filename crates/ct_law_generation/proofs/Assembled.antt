@@ -33,13 +33,18 @@ use Rattle.ct_register.specs.Lines
 use Rattle.ct_register.specs.Stands.{HasCopy}
 use Rattle.ct_promise.specs.Promises.{IsConfig}
 use Rattle.ct_promise.specs.Generation.{is_of_one_generation, speaks_of_records, record_labels, KeepsRecords, PromiseOfOneGeneration}
-use Rattle.ct_law_generation.specs.Shown.{IsOfLineOne, labels_of}
+use Rattle.ct_law_generation.specs.Shown.{IsOfLineOne, labels_of, Schedules}
 use Rattle.ct_law_generation.proofs.Weave.{true_or_false}
 use Rattle.ct_law_generation.proofs.Standing.{OneLine}
 use Rattle.ct_law_generation.proofs.Pending.{Callers}
 use Rattle.ct_law_generation.proofs.Clusters.{ClusterStays}
 use Rattle.ct_law_generation.proofs.Lining.{Is_kept, all_speak}
 use Rattle.ct_law_generation.proofs.Retrying.{Updates, retry_cluster}
+use Rattle.ct_cluster.specs.declared.step.Line.{Line}
+use Rattle.ct_rules_node.specs.Clients.{client}
+use Rattle.ct_law_record.specs.World as law
+use Rattle.ct_law_generation.proofs.Called.{counted, called_by}
+use Rattle.ct_law_generation.proofs.Calling.{own_pending}
 use Rattle.ct_law_generation.proofs.Fed.{fed_is}
 use Rattle.ct_law_generation.proofs.Forming.{Is_sound_mail}
 use Rattle.ct_law_generation.proofs.Plain.{IsPlain, plain_at}
@@ -327,6 +332,31 @@ retry_taken c rules p w ls n is updates kept h x ok e =
     turn_tells c rules p h.who ls w w (step.Retry n) n (retry c n (begins (node_at n w))) x h.own kept refl f.1
     (subst (λ (y : Stepped). Cluster_goes c rules p h.who y.cluster (ls ++ labels_of n (pending w) (retry c n (begins (node_at n w))).outs)) (sym f.1)
     (retry_cluster c rules p h.who w n ls h.goes.1 updates (all_real c is) (all_small c is) (runs c w n _ ok) h.goes.0 h.goes.2))
+
+-- ---- calls
+
+-- the turn of a client's call
+abbrev pub client_turn : Config → Rules → Cluster → ℕ → ClientOp → Turn
+client_turn c rules w n o = client c rules n (w.calls + 1) o (begins (node_at n (counted w)))
+
+counted_calls : (w : Cluster) (n : ℕ) (o : ClientOp) → own_pending n (w.calls + 1) o ∷ pending (counted w) ≡ traces.calls_of w (step.Client n o)
+unfolding traces.calls_of pending
+counted_calls w n o = refl
+
+-- a call by which the cluster goes on, where all that the node tells is of records and no commit begins
+pub client_taken : (c : Config) (rules : Rules) (p : Msg → Bool) (w : Cluster) (ls : List Label) (n : ℕ) (o : ClientOp) → Tells_kept c n (own_pending n (w.calls + 1) o ∷ pending (counted w)) (client_turn c rules w n o) → ((lines : List Line) → own_labels w (step.Client n o) lines ≡ []) →
+    ((who : Callers) (es : ℕ → List ℕ → List law.Event) → ClusterStays c rules p who w → Schedules c rules w ls es → is_up n w ≡ true → (client_turn c rules w n o).spent ≡ false →
+    Cluster_goes c rules p (called_by n o w who) (put n (client_turn c rules w n o) [] (counted w)).cluster (ls ++ labels_of n (own_pending n (w.calls + 1) o ∷ pending (counted w)) (client_turn c rules w n o).outs)) →
+    Run_goes c rules p ls w → Taken_goes c rules p w ls (step.Client n o)
+unfolding fault_of steps node_steps.happens
+client_taken c rules p w ls n o kept none goes h x ok e =
+    let f = fed_is c rules n (event.Client (w.calls + 1) o) [] (counted w) x e in
+    let u = client_turn c rules w n o in
+    turn_tells c rules p (called_by n o w h.who) ls w (counted w) (step.Client n o) n u x h.own
+    (subst (λ (l : List PendingCall). Tells_kept c n l u) (counted_calls w n o) kept) (none x.lines) f.1
+    (subst (λ (l : List PendingCall). Cluster_goes c rules p (called_by n o w h.who) x.cluster (ls ++ labels_of n l u.outs)) (counted_calls w n o)
+    (subst (λ (y : Stepped). Cluster_goes c rules p (called_by n o w h.who) y.cluster (ls ++ labels_of n (own_pending n (w.calls + 1) o ∷ pending (counted w)) u.outs)) (sym f.1)
+    (goes h.who h.goes.1 h.goes.0 h.goes.2 (runs c w n _ ok) f.0)))
 
 -- ---- all steps, from what is left to show of them
 
