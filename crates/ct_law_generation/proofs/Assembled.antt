@@ -16,7 +16,7 @@ use Rattle.ct_cluster.specs.Faults.{is_allowed, fault_of, no_such_node, node_dow
 use Rattle.ct_frame.specs.declared.event.Out.{Out}
 use Rattle.ct_frame.specs.declared.event.Out.TheVariants as out
 use Rattle.ct_frame.specs.declared.event.Event.TheVariants as event
-use Rattle.ct_rules_node.specs.Turn.{Turn, begins}
+use Rattle.ct_rules_node.specs.Turn.{Turn, begins, makes}
 use Rattle.ct_rules_node.specs.Steps as node_steps
 use Rattle.ct_rules_node.specs.Steps.{vacuums, arrives}
 use Rattle.ct_cluster.specs.declared.step.PendingCall.{PendingCall}
@@ -41,7 +41,12 @@ use Rattle.ct_law_generation.proofs.Clusters.{ClusterStays}
 use Rattle.ct_law_generation.proofs.Lining.{Is_kept, all_speak}
 use Rattle.ct_law_generation.proofs.Retrying.{Updates, retry_cluster}
 use Rattle.ct_cluster.specs.declared.step.Line.{Line}
-use Rattle.ct_rules_node.specs.Clients.{client}
+use Rattle.ct_rules_node.specs.Clients as clients
+use Rattle.ct_rules_node.specs.Clients.{client, refusal}
+use Rattle.ct_law_generation.proofs.Admitted.{admits, may_lock, may_write, may_apply}
+use Rattle.ct_law_generation.proofs.Served.{has_database, serves_lock, serves_write, serves_apply}
+use Rattle.ct_law_generation.proofs.Clients.{wants_go}
+use Rattle.ct_law_generation.proofs.Locked.{stores_go, unlocks_go}
 use Rattle.ct_law_record.specs.World as law
 use Rattle.ct_law_generation.proofs.Called.{counted, called_by}
 use Rattle.ct_law_generation.proofs.Calling.{own_pending}
@@ -357,6 +362,41 @@ client_taken c rules p w ls n o kept none goes h x ok e =
     (subst (λ (l : List PendingCall). Cluster_goes c rules p (called_by n o w h.who) x.cluster (ls ++ labels_of n l u.outs)) (counted_calls w n o)
     (subst (λ (y : Stepped). Cluster_goes c rules p (called_by n o w h.who) y.cluster (ls ++ labels_of n (own_pending n (w.calls + 1) o ∷ pending (counted w)) u.outs)) (sym f.1)
     (goes h.who h.goes.1 h.goes.0 h.goes.2 (runs c w n _ ok) f.0)))
+
+-- a store that is not refused
+pub store_taken : (c : Config) (rules : Rules) (p : Msg → Bool) (w : Cluster) (ls : List Label) (n db : ℕ) (key v : List ℕ) → IsConfig c → refusal c rules (node_at n (counted w)) (op.Store db key v) ≡ None →
+    Tells_kept c n (own_pending n (w.calls + 1) (op.Store db key v) ∷ pending (counted w)) (client_turn c rules w n (op.Store db key v)) → Run_goes c rules p ls w → Taken_goes c rules p w ls (step.Client n (op.Store db key v))
+unfolding own_labels traces.begun_by clients.db_of
+store_taken c rules p w ls n db key v is free kept h =
+    client_taken c rules p w ls n (op.Store db key v) kept (λ lines. refl) (λ who es stays sched up spent. stores_go c rules p who w n db key v ls es (all_real c is) (all_small c is) stays sched up free spent) h
+
+-- an unlock that is not refused
+pub unlock_taken : (c : Config) (rules : Rules) (p : Msg → Bool) (w : Cluster) (ls : List Label) (n db : ℕ) (key : List ℕ) → IsConfig c → refusal c rules (node_at n (counted w)) (op.Unlock db key) ≡ None →
+    Tells_kept c n (own_pending n (w.calls + 1) (op.Unlock db key) ∷ pending (counted w)) (client_turn c rules w n (op.Unlock db key)) → Run_goes c rules p ls w → Taken_goes c rules p w ls (step.Client n (op.Unlock db key))
+unfolding own_labels traces.begun_by clients.db_of
+unlock_taken c rules p w ls n db key is free kept h =
+    client_taken c rules p w ls n (op.Unlock db key) kept (λ lines. refl) (λ who es stays sched up spent. unlocks_go c rules p who w n db key ls es (all_real c is) (all_small c is) stays sched up free spent) h
+
+-- a lock that is not refused
+pub lock_taken : (c : Config) (rules : Rules) (p : Msg → Bool) (w : Cluster) (ls : List Label) (n db : ℕ) (key : List ℕ) → IsConfig c → refusal c rules (node_at n (counted w)) (op.Lock db key) ≡ None →
+    Tells_kept c n (own_pending n (w.calls + 1) (op.Lock db key) ∷ pending (counted w)) (client_turn c rules w n (op.Lock db key)) → Run_goes c rules p ls w → Taken_goes c rules p w ls (step.Client n (op.Lock db key))
+unfolding own_labels traces.begun_by clients.db_of
+lock_taken c rules p w ls n db key is free kept h =
+    client_taken c rules p w ls n (op.Lock db key) kept (λ lines. refl) (λ who es stays sched up spent. wants_go c rules p who w n db key (op.Lock db key) ls es (all_real c is) (all_small c is) stays sched up (has_database c (node_at n (counted w)) (op.Lock db key) (admits c rules (node_at n (counted w)) (op.Lock db key) free)) refl refl free (may_lock c (node_at n (counted w)) db key (admits c rules (node_at n (counted w)) (op.Lock db key) free)) (serves_lock c rules n (w.calls + 1) db key (makes (w.calls + 1) (begins (node_at n (counted w))))) spent) h
+
+-- a write that is not refused
+pub write_taken : (c : Config) (rules : Rules) (p : Msg → Bool) (w : Cluster) (ls : List Label) (n db : ℕ) (key v : List ℕ) → IsConfig c → refusal c rules (node_at n (counted w)) (op.Write db key v) ≡ None →
+    Tells_kept c n (own_pending n (w.calls + 1) (op.Write db key v) ∷ pending (counted w)) (client_turn c rules w n (op.Write db key v)) → Run_goes c rules p ls w → Taken_goes c rules p w ls (step.Client n (op.Write db key v))
+unfolding own_labels traces.begun_by clients.db_of
+write_taken c rules p w ls n db key v is free kept h =
+    client_taken c rules p w ls n (op.Write db key v) kept (λ lines. refl) (λ who es stays sched up spent. wants_go c rules p who w n db key (op.Write db key v) ls es (all_real c is) (all_small c is) stays sched up (has_database c (node_at n (counted w)) (op.Write db key v) (admits c rules (node_at n (counted w)) (op.Write db key v) free)) refl refl free (may_write c (node_at n (counted w)) db key v (admits c rules (node_at n (counted w)) (op.Write db key v) free)) (serves_write c rules n (w.calls + 1) db key v (makes (w.calls + 1) (begins (node_at n (counted w))))) spent) h
+
+-- a function that is not refused
+pub apply_taken : (c : Config) (rules : Rules) (p : Msg → Bool) (w : Cluster) (ls : List Label) (n db : ℕ) (f : ℕ) (key arg : List ℕ) → IsConfig c → refusal c rules (node_at n (counted w)) (op.Apply db key f arg) ≡ None →
+    Tells_kept c n (own_pending n (w.calls + 1) (op.Apply db key f arg) ∷ pending (counted w)) (client_turn c rules w n (op.Apply db key f arg)) → Run_goes c rules p ls w → Taken_goes c rules p w ls (step.Client n (op.Apply db key f arg))
+unfolding own_labels traces.begun_by clients.db_of
+apply_taken c rules p w ls n db f key arg is free kept h =
+    client_taken c rules p w ls n (op.Apply db key f arg) kept (λ lines. refl) (λ who es stays sched up spent. wants_go c rules p who w n db key (op.Apply db key f arg) ls es (all_real c is) (all_small c is) stays sched up (has_database c (node_at n (counted w)) (op.Apply db key f arg) (admits c rules (node_at n (counted w)) (op.Apply db key f arg) free)) refl refl free (may_apply c (node_at n (counted w)) db f key arg (admits c rules (node_at n (counted w)) (op.Apply db key f arg) free)) (serves_apply c rules n (w.calls + 1) db f key arg (makes (w.calls + 1) (begins (node_at n (counted w))))) spent) h
 
 -- ---- all steps, from what is left to show of them
 
