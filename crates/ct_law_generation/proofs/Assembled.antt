@@ -8,7 +8,7 @@ use Rattle.ct_msg.specs.declared.config.Config.{Config}
 use Rattle.ct_frame.specs.declared.frame.Msg.{Msg}
 use Rattle.ct_call.specs.Rules.{Rules}
 use Rattle.ct_frame.specs.declared.header.RecCopy.{RecCopy}
-use Rattle.ct_rules_node.specs.Node.{Node, state_at, db_at, or_untouched, untouched, or_nothing}
+use Rattle.ct_rules_node.specs.Node.{Node, state_at, db_at, or_untouched, untouched, or_nothing, is_persistent, kind_at}
 use Rattle.ct_cluster.specs.Cluster.{Cluster, Sent, Fate, Delivered, Dropped, is_up, pending, absent, or_absent, node_at, sent_at, opening}
 use Rattle.ct_cluster.specs.Labels.{Label, Noted}
 use Rattle.ct_rules_node.specs.Retries.{retry}
@@ -43,8 +43,8 @@ use Rattle.ct_law_generation.proofs.Retrying.{Updates, retry_cluster}
 use Rattle.ct_cluster.specs.declared.step.Line.{Line}
 use Rattle.ct_rules_node.specs.Clients as clients
 use Rattle.ct_rules_node.specs.Clients.{client, refusal}
-use Rattle.ct_law_generation.proofs.Admitted.{admits, may_lock, may_write, may_apply}
-use Rattle.ct_law_generation.proofs.Served.{has_database, serves_lock, serves_write, serves_apply}
+use Rattle.ct_law_generation.proofs.Admitted.{admits, may_lock, may_read, may_write, may_apply}
+use Rattle.ct_law_generation.proofs.Served.{has_database, serves_lock, serves_read, serves_write, serves_apply}
 use Rattle.ct_law_generation.proofs.Clients.{wants_go}
 use Rattle.ct_law_generation.proofs.Locked.{stores_go, unlocks_go}
 use Rattle.ct_law_record.specs.World as law
@@ -397,6 +397,15 @@ pub apply_taken : (c : Config) (rules : Rules) (p : Msg → Bool) (w : Cluster) 
 unfolding own_labels traces.begun_by clients.db_of
 apply_taken c rules p w ls n db f key arg is free kept h =
     client_taken c rules p w ls n (op.Apply db key f arg) kept (λ lines. refl) (λ who es stays sched up spent. wants_go c rules p who w n db key (op.Apply db key f arg) ls es (all_real c is) (all_small c is) stays sched up (has_database c (node_at n (counted w)) (op.Apply db key f arg) (admits c rules (node_at n (counted w)) (op.Apply db key f arg) free)) refl refl free (may_apply c (node_at n (counted w)) db f key arg (admits c rules (node_at n (counted w)) (op.Apply db key f arg) free)) (serves_apply c rules n (w.calls + 1) db f key arg (makes (w.calls + 1) (begins (node_at n (counted w))))) spent) h
+
+-- a read of a record that is not refused
+pub read_taken : (c : Config) (rules : Rules) (p : Msg → Bool) (w : Cluster) (ls : List Label) (n db : ℕ) (key : List ℕ) → IsConfig c → is_persistent (kind_at c db) ≡ false → refusal c rules (node_at n (counted w)) (op.Read db key) ≡ None →
+    Tells_kept c n (own_pending n (w.calls + 1) (op.Read db key) ∷ pending (counted w)) (client_turn c rules w n (op.Read db key)) → Run_goes c rules p ls w → Taken_goes c rules p w ls (step.Client n (op.Read db key))
+unfolding own_labels traces.begun_by clients.db_of
+read_taken c rules p w ls n db key is kind free kept h =
+    let admitted = admits c rules (node_at n (counted w)) (op.Read db key) free in
+    client_taken c rules p w ls n (op.Read db key) kept (λ lines. refl) (λ who es stays sched up spent. wants_go c rules p who w n db key (op.Read db key) ls es (all_real c is) (all_small c is) stays sched up (has_database c (node_at n (counted w)) (op.Read db key) admitted) refl refl free
+    (may_read c (node_at n (counted w)) db key admitted) (serves_read c rules n (w.calls + 1) db key (makes (w.calls + 1) (begins (node_at n (counted w)))) kind) spent) h
 
 -- ---- all steps, from what is left to show of them
 
