@@ -32,7 +32,7 @@ use Rattle.ct_cluster.specs.declared.step.StepFault.{StepFault}
 use Rattle.ct_register.specs.Lines
 use Rattle.ct_register.specs.Stands.{HasCopy}
 use Rattle.ct_promise.specs.Promises.{IsConfig}
-use Rattle.ct_promise.specs.Generation.{is_of_one_generation, speaks_of_records, record_labels, KeepsRecords, PromiseOfOneGeneration}
+use Rattle.ct_promise.specs.Generation.{is_of_one_generation, speaks_of_records, record_labels, PromiseOfOneGeneration}
 use Rattle.ct_law_generation.specs.Shown.{IsOfLineOne, labels_of, Schedules}
 use Rattle.ct_law_generation.proofs.Weave.{true_or_false}
 use Rattle.ct_law_generation.proofs.Standing.{OneLine}
