@@ -35,3 +35,8 @@ pub mod Committed
 pub mod Retried
 pub mod Resending
 pub mod Retrying
+pub mod Assembled
+pub mod Retried
+pub mod Resending
+pub mod Retrying
+pub mod Committed
