@@ -326,7 +326,7 @@ deliver_taken c rules p w ls (suc k) is rest h x ok e = either (slice_get w.sent
     either None at r = silent c rules p ls w w (step.Deliver (suc k)) x refl (λ who g. g) h r
     either (Some m) at r = cond_both (is_up m.frame.receiver w) (fed c rules m.frame.receiver (event.Arrive m.frame) [] (with_fate (suc k) m Delivered w)) (done (line.Lost (suc k) ∷ []) (with_fate (suc k) m Dropped w)) (λ (y : Result Stepped StepFault). y ≡ Ok x → Run_goes c rules p (ls ++ record_labels c (traces.labels w (step.Deliver (suc k)) x.lines)) x.cluster)
         (λ up q. message_taken c rules p w (with_fate (suc k) m Delivered w) ls k (record m { fate = Delivered }) (step.Deliver (suc k)) x is rest (run_fate c rules p w ls k m Delivered at h) (fate_got k m Delivered w at)
-            (sym (fate_up m.frame.receiver k m Delivered w) ∙ up) (fate_pending k m Delivered w) refl q)
+        (sym (fate_up m.frame.receiver k m Delivered w) ∙ up) (fate_pending k m Delivered w) refl q)
         (λ down q. lost c rules p ls w (with_fate (suc k) m Dropped w) (suc k) (step.Deliver (suc k)) x refl (run_fate c rules p w ls k m Dropped at h) q) r
 
 -- a Retry, where all that the node tells is of records
