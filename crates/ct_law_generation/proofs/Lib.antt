@@ -36,7 +36,3 @@ pub mod Retried
 pub mod Resending
 pub mod Retrying
 pub mod Assembled
-pub mod Retried
-pub mod Resending
-pub mod Retrying
-pub mod Committed
