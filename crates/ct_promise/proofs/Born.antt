@@ -29,7 +29,7 @@ use Rattle.ct_promise.specs.Born
 use Rattle.ct_promise.specs.Born.{IsBornNode, IsBornWith, BornRegisters}
 use Rattle.ct_promise.specs.Small
 use Rattle.ct_promise.proofs.Nodes
-use Rattle.ct_promise.specs.Small.{config, both, a, the_row, rows, registers}
+use Rattle.ct_promise.specs.Small.{config, both, a, the_row, begun_with, registers}
 
 -- one pair, or none
 look_one : (key : List ℕ) (s : RecState) → look key ((a, s) ∷ []) ≡ (if bytes_eq key a then Some s else None)
@@ -41,9 +41,9 @@ by_test P s key true e row_there none_there = subst (λ k. P (Some s) (Some the_
 by_test P s key false e row_there none_there = none_there
 
 -- what holds of the row's key, and of every other one, holds of all
-of_row : (P : Option RecState → Option TableRow → List ℕ → Type 0) (s : RecState) (key : List ℕ) → P (Some s) (Some the_row) a → P None None key → P (look key ((a, s) ∷ [])) (rows 1 key) key
-unfolding Small.rows
-of_row P s key row_there none_there = subst (λ o. P o (rows 1 key) key) (sym (look_one key s)) (by_test P s key (bytes_eq key a) refl row_there none_there)
+of_row : (P : Option RecState → Option TableRow → List ℕ → Type 0) (s : RecState) (key : List ℕ) → P (Some s) (Some the_row) a → P None None key → P (look key ((a, s) ∷ [])) (begun_with 1 key) key
+unfolding Small.begun_with
+of_row P s key row_there none_there = subst (λ o. P o (begun_with 1 key) key) (sym (look_one key s)) (by_test P s key (bytes_eq key a) refl row_there none_there)
 
 -- what is asked of the state of a key, beside the row of it
 Sound : ℕ → ℕ → ℕ → Option RecState → Option TableRow → List ℕ → Type 0
@@ -57,31 +57,31 @@ of_none n db next key = (refl, tt)
 one_drawn : 1 < 2
 one_drawn = omega arith
 
-at_zero : (key : List ℕ) → Sound 0 1 2 (look key (node.db_at 1 (Nodes.installed 0 (Nodes.frozen Nodes.waits 2))).records) (rows 1 key) key
+at_zero : (key : List ℕ) → Sound 0 1 2 (look key (node.db_at 1 (Nodes.installed 0 (Nodes.frozen Nodes.waits 2))).records) (begun_with 1 key) key
 unfolding Sound node.or_nothing Born.born_state Born.WishIsSound node.db_at node.or_untouched node.untouched node.opening node.master_of node.or_zero rounds.installed_node rounds.installed_dbs rounds.installed_db rounds.install_rows rounds.install_row rounds.changed rounds.bared rounds.installed_state rounds.copy_from rounds.entry_from rounds.row_master rounds.or_nobody Form.is_wanting
 at_zero key = of_row (Sound 0 1 2) _ key (refl, record { wanting = refl; of_db = refl; of_key = refl; drawn = one_drawn }) (of_none 0 1 2 key)
 
-at_one : (key : List ℕ) → Sound 1 1 1 (look key (node.db_at 1 (Nodes.installed 1 (Nodes.frozen [] 1))).records) (rows 1 key) key
+at_one : (key : List ℕ) → Sound 1 1 1 (look key (node.db_at 1 (Nodes.installed 1 (Nodes.frozen [] 1))).records) (begun_with 1 key) key
 unfolding Sound node.or_nothing Born.born_state Born.WishIsSound node.db_at node.or_untouched node.untouched node.opening node.master_of node.or_zero rounds.installed_node rounds.installed_dbs rounds.installed_db rounds.install_rows rounds.install_row rounds.changed rounds.bared rounds.installed_state rounds.copy_from rounds.entry_from rounds.row_master rounds.or_nobody
 at_one key = of_row (Sound 1 1 1) _ key (refl, tt) (of_none 1 1 1 key)
 
-records_of : (n db next : ℕ) (key : List ℕ) (o : Option RecState) → Sound n db next o (rows db key) key → node.or_nothing o ≡ Born.born_state n (node.master_of both key) (rows db key) (node.or_nothing o).wish
+records_of : (n db next : ℕ) (key : List ℕ) (o : Option RecState) → Sound n db next o (begun_with db key) key → node.or_nothing o ≡ Born.born_state n (node.master_of both key) (begun_with db key) (node.or_nothing o).wish
 unfolding Sound
 records_of n db next key o s = s.0
 
-wishes_of : (n db next : ℕ) (key : List ℕ) (o : Option RecState) → Sound n db next o (rows db key) key → Born.WishIsSound db key next (node.or_nothing o).wish
+wishes_of : (n db next : ℕ) (key : List ℕ) (o : Option RecState) → Sound n db next o (begun_with db key) key → Born.WishIsSound db key next (node.or_nothing o).wish
 unfolding Sound
 wishes_of n db next key o s = s.1
 
 -- the states of all keys in all databases, of node 0 and of node 1
-sound_zero : (db : ℕ) (key : List ℕ) → Sound 0 db 2 (look key (node.db_at db (Nodes.installed 0 (Nodes.frozen Nodes.waits 2))).records) (rows db key) key
-unfolding Small.rows node.db_at node.or_untouched node.untouched rounds.installed_node rounds.installed_dbs rounds.installed_db rounds.install_rows rounds.changed
+sound_zero : (db : ℕ) (key : List ℕ) → Sound 0 db 2 (look key (node.db_at db (Nodes.installed 0 (Nodes.frozen Nodes.waits 2))).records) (begun_with db key) key
+unfolding Small.begun_with node.db_at node.or_untouched node.untouched rounds.installed_node rounds.installed_dbs rounds.installed_db rounds.install_rows rounds.changed
 sound_zero zero key = of_none 0 0 2 key
 sound_zero (suc zero) key = at_zero key
 sound_zero (suc (suc db)) key = of_none 0 (suc (suc db)) 2 key
 
-sound_one : (db : ℕ) (key : List ℕ) → Sound 1 db 1 (look key (node.db_at db (Nodes.installed 1 (Nodes.frozen [] 1))).records) (rows db key) key
-unfolding Small.rows node.db_at node.or_untouched node.untouched rounds.installed_node rounds.installed_dbs rounds.installed_db rounds.install_rows rounds.changed
+sound_one : (db : ℕ) (key : List ℕ) → Sound 1 db 1 (look key (node.db_at db (Nodes.installed 1 (Nodes.frozen [] 1))).records) (begun_with db key) key
+unfolding Small.begun_with node.db_at node.or_untouched node.untouched rounds.installed_node rounds.installed_dbs rounds.installed_db rounds.install_rows rounds.changed
 sound_one zero key = of_none 1 0 1 key
 sound_one (suc zero) key = at_one key
 sound_one (suc (suc db)) key = of_none 1 (suc (suc db)) 1 key
@@ -109,7 +109,7 @@ one_key : (k : List ℕ) → IsStrictlySortedBy key_cmp (k ∷ [])
 unfolding IsStrictlySortedBy
 one_key k = (tt, tt)
 
-born_zero : IsBornNode config 2 both rows 0 Nodes.zeroth
+born_zero : IsBornNode config 2 both begun_with 0 Nodes.zeroth
 unfolding node.is_present_in node.is_present node.untouched node.opening node.db_at node.or_untouched node.state_at rounds.installed_node rounds.installed_dbs rounds.installed_db rounds.install_rows rounds.install_row rounds.changed rounds.bared rounds.installed_state Born.has_pushed
 born_zero = record {
   present = refl;
@@ -125,7 +125,7 @@ born_zero = record {
   others = others_of (λ db. (node.db_at db (Nodes.installed 0 (Nodes.frozen Nodes.waits 2))).records ≡ []) (λ db. refl);
 }
 
-born_one : IsBornNode config 2 both rows 1 Nodes.first
+born_one : IsBornNode config 2 both begun_with 1 Nodes.first
 unfolding node.is_present_in node.is_present node.untouched node.opening node.db_at node.or_untouched node.state_at rounds.installed_node rounds.installed_dbs rounds.installed_db rounds.install_rows rounds.install_row rounds.changed rounds.bared rounds.installed_state Born.has_pushed
 born_one = record {
   present = refl;
@@ -162,8 +162,8 @@ unfolding Born.IsBirthOf Small.versions_of Register.reading
 birth_of true = refl
 birth_of false = refl
 
-mastered : (db : ℕ) (key : List ℕ) → Born.IsMastered both (rows db key)
-unfolding Small.rows Born.IsMastered
+mastered : (db : ℕ) (key : List ℕ) → Born.IsMastered both (begun_with db key)
+unfolding Small.begun_with Born.IsMastered
 mastered zero key = tt
 mastered (suc zero) key = of_test (bytes_eq key a)
 mastered (suc (suc db)) key = tt
@@ -200,20 +200,20 @@ not_of_record : (s : Sent) → is_silent s ≡ true → s.frame.generation ≡ 2
 unfolding is_silent
 not_of_record s e g = of_none_there _ _ g (and_parts _ _ e).1
 
-births : (db : ℕ) (key : List ℕ) → Born.IsBirthOf (rows db key) (Small.versions_of (rows db key))
-unfolding Small.rows Born.IsBirthOf Small.versions_of Register.reading
+births : (db : ℕ) (key : List ℕ) → Born.IsBirthOf (begun_with db key) (Small.versions_of (begun_with db key))
+unfolding Small.begun_with Born.IsBirthOf Small.versions_of Register.reading
 births zero key = refl
 births (suc zero) key = birth_of (bytes_eq key a)
 births (suc (suc db)) key = refl
 
-pub is_born : (sent : List Sent) → list_all is_silent sent ≡ true → IsBornWith config 2 both rows (Nodes.with_sent sent)
+pub is_born : (sent : List Sent) → list_all is_silent sent ≡ true → IsBornWith config 2 both begun_with (Nodes.with_sent sent)
 unfolding cluster.is_up cluster.is_true cluster.node_at cluster.or_absent cluster.absent node.db_at node.or_untouched node.untouched Words.is_in cluster.pending cluster.pending_from cluster.pending_in cluster.wished_in cluster.wished cluster.committing cluster.by_number cluster.ranked node.opening rounds.installed_node rounds.installed_dbs rounds.installed_db rounds.install_rows rounds.install_row rounds.changed rounds.bared rounds.installed_state node.or_nothing
 is_born sent all = record {
   real = some_drawn 1;
   ascend = refl;
   there = of_two (λ n. nat_lt n 2 ≡ true) refl refl;
   up = of_two (λ n. cluster.is_up n (Nodes.with_sent sent) ≡ true) refl refl;
-  born = of_two (λ n. IsBornNode config 2 both rows n (cluster.node_at n (Nodes.with_sent sent))) born_zero born_one;
+  born = of_two (λ n. IsBornNode config 2 both begun_with n (cluster.node_at n (Nodes.with_sent sent))) born_zero born_one;
   mastered = mastered;
   down = far_off (λ n. cluster.is_up n (Nodes.with_sent sent) ≡ false) (λ n. refl);
   left = λ n db out. far_off (λ n. (node.db_at db (cluster.node_at n (Nodes.with_sent sent))).records ≡ []) (λ n. refl) n out;
@@ -223,7 +223,7 @@ is_born sent all = record {
   silent = λ k s e g. not_of_record s (silent_of sent k s all e) g;
 }
 
-pub have_registers : (sent : List Sent) → BornRegisters config (Nodes.with_sent sent) 2 both rows registers
+pub have_registers : (sent : List Sent) → BornRegisters config (Nodes.with_sent sent) 2 both begun_with registers
 unfolding Words.at Words.is_in
 have_registers sent = record {
   born = refl;

@@ -2,7 +2,7 @@
 use Rattle.std.proofs.Common.{◌≡◌, true, refl, sym, subst}
 use Rattle.std.specs.List.{list_all}
 use Rattle.ct_promise.specs.Born.{IsBornWith, BornRegisters}
-use Rattle.ct_promise.specs.Small.{config, both, rows, born, registers, RowsAreThere}
+use Rattle.ct_promise.specs.Small.{config, both, begun_with, born, registers, RowsAreThere}
 use Rattle.ct_promise.proofs.Nodes.{with_sent}
 use Rattle.ct_promise.proofs.Born.{is_silent, is_config, is_born, have_registers}
 use Rattle.ct_rules.specs.State.{rank, rsn_of, value_of, is_mastered, is_given, is_for_reading, with_value, with_flags, risen, raised, given, is_quiet, is_free, is_read_op, is_read_kind, same_kind, kind_of, is_wished}
@@ -41,6 +41,6 @@ silent = refl
 pub rows_are_there : RowsAreThere
 rows_are_there = (
   is_config,
-  subst (λ w. IsBornWith config 2 both rows w) (sym reached) (is_born born.sent silent),
-  subst (λ w. BornRegisters config w 2 both rows registers) (sym reached) (have_registers born.sent),
+  subst (λ w. IsBornWith config 2 both begun_with w) (sym reached) (is_born born.sent silent),
+  subst (λ w. BornRegisters config w 2 both begun_with registers) (sym reached) (have_registers born.sent),
 )

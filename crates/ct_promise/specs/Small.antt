@@ -60,10 +60,10 @@ abbrev pub the_row : TableRow
 the_row = record { db = 1; key = a; rsn = 0; value = x; master = Some 1 }
 
 -- and no other one
-unfoldable pub rows : Rows
-rows zero key = None
-rows (suc zero) key = if bytes_eq key a then Some the_row else None
-rows (suc (suc db)) key = None
+unfoldable pub begun_with : Rows
+begun_with zero key = None
+begun_with (suc zero) key = if bytes_eq key a then Some the_row else None
+begun_with (suc (suc db)) key = None
 
 -- the versions that a record begins with: the row's value, where there is one
 unfoldable pub versions_of : Option TableRow → List (List ℕ)
@@ -76,7 +76,7 @@ seen_by_all vs = record (Register.newborn vs) { seen = λ n. length vs }
 
 abbrev pub registers : Lines
 registers = record (Lines.opening config) {
-  records = at 2 (λ db key. seen_by_all (versions_of (rows db key))) (Lines.opening config).records;
+  records = at 2 (λ db key. seen_by_all (versions_of (begun_with db key))) (Lines.opening config).records;
   born = at 2 true (Lines.opening config).born;
   last = 2;
   members = at 2 both (Lines.opening config).members;
@@ -88,4 +88,4 @@ registers = record (Lines.opening config) {
 
 -- so there are clusters and registers of which the promise from rows speaks
 abbrev pub RowsAreThere : Type 0
-RowsAreThere = IsConfig config × IsBornWith config 2 both rows born × BornRegisters config born 2 both rows registers
+RowsAreThere = IsConfig config × IsBornWith config 2 both begun_with born × BornRegisters config born 2 both begun_with registers
