@@ -216,7 +216,7 @@ is_born sent all = record {
   born = of_two (λ n. IsBornNode config 2 both begun_with n (cluster.node_at n (Nodes.with_sent sent))) born_zero born_one;
   mastered = mastered;
   down = far_off (λ n. cluster.is_up n (Nodes.with_sent sent) ≡ false) (λ n. refl);
-  left = λ n db out. far_off (λ n. (node.db_at db (cluster.node_at n (Nodes.with_sent sent))).records ≡ []) (λ n. refl) n out;
+  left = far_off (λ n. Born.HasLeft (cluster.node_at n (Nodes.with_sent sent))) (λ n. record { records = λ db. refl; floors = λ db. refl; commits = λ db. refl; drawn = some_drawn 0 });
   numbered = refl;
   given = refl;
   newest = λ k s e. not_newer s (silent_of sent k s all e);
@@ -224,7 +224,7 @@ is_born sent all = record {
 }
 
 pub have_registers : (sent : List Sent) → BornRegisters config (Nodes.with_sent sent) 2 both begun_with registers
-unfolding Words.at Words.is_in
+unfolding Words.at Words.is_in Small.begun_with Small.versions_of
 have_registers sent = record {
   born = refl;
   named = refl;
@@ -233,7 +233,9 @@ have_registers sent = record {
   installed = of_two (λ n. registers.installed 2 n ≡ true) refl refl;
   holder = refl;
   births = λ db key of. births db key;
+  none = λ db key of. others_of (λ db. Small.versions_of (begun_with db key) ≡ []) (λ db. refl) db of;
   newborn = λ db key. refl;
   unowned = λ db key. refl;
-  seen = λ n db key among. refl;
+  seen = λ n db key among. ap (λ (b : Bool). if b then length (Small.versions_of (begun_with db key)) else 0) among;
+  unseen = λ n db key out. ap (λ (b : Bool). if b then length (Small.versions_of (begun_with db key)) else 0) out;
 }

@@ -28,3 +28,32 @@ run_keeps config rules (step ∷ steps) w r marks m stands =
 
 pub promise_follows : PromiseFollows
 promise_follows law config rules steps is = run_keeps config rules steps _ _ _ (law config rules steps is) (opening_stands config)
+
+-- ---- one generation
+
+filter_more : {X : Type 0} (f : X → Bool) (xs ys : List X) → filter f (xs ++ ys) ≡ filter f xs ++ filter f ys
+filter_more f [] ys = refl
+filter_more f (x ∷ xs) ys = first (f x) (filter_more f xs ys)
+  where
+    first : (b : Bool) → filter f (xs ++ ys) ≡ filter f xs ++ filter f ys → cond b (x ∷ filter f (xs ++ ys)) (filter f (xs ++ ys)) ≡ cond b (x ∷ filter f xs) (filter f xs) ++ filter f ys
+    first true e = ap (λ (l : List _). x ∷ l) e
+    first false e = e
+
+records_kept : (config : Config) (rules : Rules) (g : ℕ) (steps : List Step) (w : Cluster) (r : Lines) (marks : LineMarks) → RecordsRun config rules g w r marks steps → RecordsStand w r → KeepsRecords config rules r (ran config rules w steps)
+unfolding RecordsRun Traces.ran Traces.after Traces.idle
+records_kept config rules g [] w r marks m stands = (r, refl, stands)
+records_kept config rules g (step ∷ steps) w r marks m stands =
+    let q = ran_one config rules w step in
+    let rest = records_kept config rules g steps q.cluster m.0 m.1 m.5 m.3.stand in (
+      rest.0,
+      subst (λ (l : List Label). AcceptsLabels config rules r l rest.0) (sym (filter_more (speaks_of_records config) q.trace (ran config rules q.cluster steps).trace)) (both_accepted config rules _ _ r m.0 rest.0 m.2 rest.1),
+      rest.2,
+    )
+
+pub one_generation_follows : OneGenerationFollows
+one_generation_follows law config rules steps is all = (let h = law config rules steps is all in records_kept config rules 1 steps _ _ _ h.1 h.0.stand)
+
+pub rows_follow : RowsFollow
+rows_follow law config rules g members row w r steps is born registers all =
+    let h = law config rules g members row w r steps is born registers all in
+    records_kept config rules g steps w r h.0 h.2 h.1.stand

@@ -79,6 +79,13 @@ pub record IsBornNode (config : Config) (g : ℕ) (members : List ℕ) (row : Ro
   -- and no record in a database that is none of records
   pub others : (db : ℕ) → is_of_records (kind_at config db) ≡ false → (db_at db node).records ≡ []
 
+-- a node that is no member
+pub record HasLeft (node : Node) : Type 0 where
+  pub records : (db : ℕ) → (db_at db node).records ≡ []
+  pub floors : (db : ℕ) → (db_at db node).floor ≡ 0
+  pub commits : (db : ℕ) → (db_at db node).commit ≡ None
+  pub drawn : 1 ≤ node.next
+
 -- the cluster is in one generation, which all members have installed with these rows, and nothing was done since
 pub record IsBornWith (config : Config) (g : ℕ) (members : List ℕ) (row : Rows) (w : Cluster) : Type 0 where
   pub real : 1 ≤ g
@@ -89,9 +96,9 @@ pub record IsBornWith (config : Config) (g : ℕ) (members : List ℕ) (row : Ro
   pub born : (n : ℕ) → is_in n members ≡ true → IsBornNode config g members row n (node_at n w)
   -- a data master is one of them
   pub mastered : (db : ℕ) (key : List ℕ) → IsMastered members (row db key)
-  -- every other node is down and keeps nothing of any record, so that it is in no generation
+  -- every other node is down, and as a stop leaves it: it keeps nothing of any record, and its numbers begin anew
   pub down : (n : ℕ) → is_in n members ≡ false → is_up n w ≡ false
-  pub left : (n db : ℕ) → is_in n members ≡ false → (db_at db (node_at n w)).records ≡ []
+  pub left : (n : ℕ) → is_in n members ≡ false → HasLeft (node_at n w)
   -- calls that wait have different numbers, none of them above the last one that was given
   pub numbered : ascends nat_lt (map (λ x. x.call) (pending w)) ≡ true
   pub given : list_all (λ x. not (nat_lt w.calls x.call)) (pending w) ≡ true
@@ -106,7 +113,7 @@ unfoldable pub IsBirthOf : Option TableRow → List (List ℕ) → Type 0
 IsBirthOf None vs = vs ≡ []
 IsBirthOf (Some row) vs = reading vs ≡ row.value
 
--- line g was born with these members, who all have installed it; each record is newborn, and all of them have seen that
+-- line g was born with these members, who all have installed it; each record is newborn, and they alone have seen that
 pub record BornRegisters (config : Config) (w : Cluster) (g : ℕ) (members : List ℕ) (row : Rows) (r : Lines) : Type 0 where
   pub born : r.born g ≡ true
   pub named : r.members g ≡ members
@@ -116,9 +123,11 @@ pub record BornRegisters (config : Config) (w : Cluster) (g : ℕ) (members : Li
   -- the recovery lock is where the cluster has it
   pub holder : r.holder ≡ w.holder
   pub births : (db : ℕ) (key : List ℕ) → is_of_records (kind_at config db) ≡ true → IsBirthOf (row db key) (r.records g db key).birth
+  pub none : (db : ℕ) (key : List ℕ) → is_of_records (kind_at config db) ≡ false → (r.records g db key).birth ≡ []
   pub newborn : (db : ℕ) (key : List ℕ) → (r.records g db key).versions ≡ (r.records g db key).birth
   pub unowned : (db : ℕ) (key : List ℕ) → (r.records g db key).owner ≡ None
   pub seen : (n db : ℕ) (key : List ℕ) → is_in n members ≡ true → (r.records g db key).seen n ≡ length (r.records g db key).birth
+  pub unseen : (n db : ℕ) (key : List ℕ) → is_in n members ≡ false → (r.records g db key).seen n ≡ 0
 
 -- from every such cluster and registers on, records are kept through every list of steps of one generation
 abbrev pub PromiseFromRows : Type 0

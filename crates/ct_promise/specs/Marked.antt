@@ -19,28 +19,36 @@ use Rattle.ct_register.specs.Stands.{HasCopy, StandsFor}
 use Rattle.ct_register.specs.Marks.{Marks, AreMarks, IsCopyAt, IsEntryAt, MarksStep}
 use Rattle.ct_promise.specs.Promises.{IsConfig}
 
--- the marks of each line, database and key
+-- the marks of one line, by database and key
+abbrev pub LineMarks : Type 0
+LineMarks = ℕ → List ℕ → Marks
+
+-- the marks of each line
 abbrev pub AllMarks : Type 0
-AllMarks = ℕ → ℕ → List ℕ → Marks
+AllMarks = ℕ → LineMarks
 
 -- nothing is marked
-abbrev pub no_marks : AllMarks
-no_marks g db key = record { marks = []; low = 0 }
+abbrev pub no_marks : LineMarks
+no_marks db key = record { marks = []; low = 0 }
 
--- the node, present in line g, has this entry for a record
+-- the node has this entry for a record
 abbrev pub HasEntry : Cluster → ℕ → ℕ → List ℕ → Entry → Type 0
 HasEntry w n db key e = (state_at db key (node_at n w)).entry ≡ Some e
 
--- the marks hold of a cluster and its registers
-pub record MarksHold (w : Cluster) (r : Lines) (marks : AllMarks) : Type 0 where
-  -- of each line that was born
-  pub marked : (g db : ℕ) (key : List ℕ) → r.born g ≡ true → AreMarks (r.records g db key).versions (marks g db key)
-  -- a copy at a node that is present in a line has the value at the place of its RSN
-  pub copies : (g n db : ℕ) (key : List ℕ) (c : RecCopy) → is_present_in g (node_at n w) ≡ true → HasCopy w n db key c →
-      IsCopyAt (marks g db key).marks (r.records g db key).versions c.header.rsn c.value
+-- the marks of line g hold of a cluster and its registers
+pub record MarksHoldIn (g : ℕ) (w : Cluster) (r : Lines) (marks : LineMarks) : Type 0 where
+  -- where the line was born
+  pub marked : (db : ℕ) (key : List ℕ) → r.born g ≡ true → AreMarks (r.records g db key).versions (marks db key)
+  -- a copy at a node that is present in the line has the value at the place of its RSN
+  pub copies : (n db : ℕ) (key : List ℕ) (c : RecCopy) → is_present_in g (node_at n w) ≡ true → HasCopy w n db key c →
+      IsCopyAt (marks db key).marks (r.records g db key).versions c.header.rsn c.value
   -- and an entry there a value from the place before its least RSN to the place of that
-  pub entries : (g n db : ℕ) (key : List ℕ) (e : Entry) → is_present_in g (node_at n w) ≡ true → HasEntry w n db key e →
-      IsEntryAt (marks g db key).marks (r.records g db key).versions e.least e.value
+  pub entries : (n db : ℕ) (key : List ℕ) (e : Entry) → is_present_in g (node_at n w) ≡ true → HasEntry w n db key e →
+      IsEntryAt (marks db key).marks (r.records g db key).versions e.least e.value
+
+-- the marks of all lines do
+abbrev pub MarksHold : Cluster → Lines → AllMarks → Type 0
+MarksHold w r marks = (g : ℕ) → MarksHoldIn g w r (marks g)
 
 -- does the note say that this record was removed?
 unfoldable pub removes : ℕ → List ℕ → Note → Bool
@@ -56,9 +64,13 @@ is_removal r g db key label = false
 abbrev pub is_removed : Lines → ℕ → ℕ → List ℕ → List Label → Bool
 is_removed r g db key labels = list_any (is_removal r g db key) labels
 
--- the marks of each line that was born before go on through a step that tells these labels
+-- the marks of line g go on through a step that tells these labels
+abbrev pub MarksGoOnIn : ℕ → Lines → List Label → LineMarks → LineMarks → Type 0
+MarksGoOnIn g r labels marks after = (db : ℕ) (key : List ℕ) → MarksStep (is_removed r g db key labels) (marks db key) (after db key)
+
+-- the marks of each line that was born before do
 abbrev pub MarksGoOn : Lines → List Label → AllMarks → AllMarks → Type 0
-MarksGoOn r labels marks after = (g db : ℕ) (key : List ℕ) → r.born g ≡ true → MarksStep (is_removed r g db key labels) (marks g db key) (after g db key)
+MarksGoOn r labels marks after = (g : ℕ) → r.born g ≡ true → MarksGoOnIn g r labels (marks g) (after g)
 
 -- Step by step there are registers that accept what the step tells and that its cluster stands for, and marks that hold of
 -- them and go on.
@@ -70,4 +82,4 @@ MarksRun config rules w r marks (s ∷ steps) = let run = ran_one config rules w
 
 -- so it is of every list of steps from the opening on, where nothing is marked
 abbrev pub LawOfMarks : Type 0
-LawOfMarks = (config : Config) (rules : Rules) (steps : List Step) → IsConfig config → MarksRun config rules (opening config) (Lines.opening config) no_marks steps
+LawOfMarks = (config : Config) (rules : Rules) (steps : List Step) → IsConfig config → MarksRun config rules (opening config) (Lines.opening config) (λ g. no_marks) steps

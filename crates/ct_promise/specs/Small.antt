@@ -70,13 +70,13 @@ unfoldable pub versions_of : Option TableRow → List (List ℕ)
 versions_of None = []
 versions_of (Some row) = row.value ∷ []
 
--- a record with these versions, which every node has seen
-abbrev pub seen_by_all : List (List ℕ) → Register
-seen_by_all vs = record (Register.newborn vs) { seen = λ n. length vs }
+-- a record with these versions, which both nodes have seen
+abbrev pub seen_by_both : List (List ℕ) → Register
+seen_by_both vs = record (Register.newborn vs) { seen = λ n. if is_in n both then length vs else 0 }
 
 abbrev pub registers : Lines
 registers = record (Lines.opening config) {
-  records = at 2 (λ db key. seen_by_all (versions_of (begun_with db key))) (Lines.opening config).records;
+  records = at 2 (λ db key. seen_by_both (versions_of (begun_with db key))) (Lines.opening config).records;
   born = at 2 true (Lines.opening config).born;
   last = 2;
   members = at 2 both (Lines.opening config).members;

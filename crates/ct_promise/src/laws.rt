@@ -1,5 +1,5 @@
 //! What is shown of the statements. The promises themselves are not shown here.
-ghost use Rattle.ct_promise.specs.Laws.{OpeningIsMarked, PromiseFollows};
+ghost use Rattle.ct_promise.specs.Laws.{OpeningIsMarked, PromiseFollows, OneGenerationFollows, RowsFollow};
 ghost use Rattle.ct_promise.specs.Small.{RowsAreThere};
 
 /// At the opening nothing is marked, and that holds.
@@ -19,4 +19,16 @@ pub fn rows_are_there()
 #[tactic(auto, using(crate::proofs::Follows::promise_follows))]
 pub fn promise_follows()
     ensures { PromiseFollows }
+{}
+
+/// What is promised of records in the first generation follows from its law step by step, which is not shown here.
+#[tactic(auto, using(crate::proofs::Follows::one_generation_follows))]
+pub fn one_generation_follows()
+    ensures { OneGenerationFollows }
+{}
+
+/// So it does in a generation that began with rows.
+#[tactic(auto, using(crate::proofs::Follows::rows_follow))]
+pub fn rows_follow()
+    ensures { RowsFollow }
 {}
