@@ -1,4 +1,4 @@
--- What a cluster in its first generation shows of one record, and what its labels tell of that record.
+-- What a cluster in one generation shows of one record, and what its labels tell of that record.
 use Rattle.std.specs.Prelude.{◌≡◌, ℕ, nat_eq, bytes_eq, Bool, true, false, ◌&&◌, if◌then◌else◌, List, [], ◌∷◌, ◌++◌, Option, None, Some}
 use Rattle.ct_msg.specs.declared.client.Answer.{Answer}
 use Rattle.ct_msg.specs.declared.client.Answer.TheVariants as answer
@@ -12,20 +12,28 @@ use Rattle.ct_frame.specs.declared.frame.Frame.{Frame}
 use Rattle.ct_call.specs.Rules.{Rules}
 use Rattle.ct_rules_node.specs.Node.{Node, db_at, state_at, master_of, kind_at, is_readonly}
 use Rattle.ct_rules_node.specs.Admission.{record_in}
-use Rattle.ct_cluster.specs.Cluster.{Cluster, Sent, everyone, node_at}
+use Rattle.ct_cluster.specs.Cluster.{Cluster, Sent, node_at}
 use Rattle.ct_cluster.specs.Labels.{Label, Answered, Noted}
 use Rattle.ct_cluster.specs.Traces.{answered, sent_label}
 use Rattle.ct_cluster.specs.declared.step.PendingCall.{PendingCall}
 use Rattle.ct_register.specs.Legal.{db_of, key_of}
 use Rattle.ct_register.specs.Legal as legal
+use Rattle.ct_register.specs.Lines.{Lines}
+use Rattle.ct_register.specs.Words.{is_in}
 use Rattle.ct_law_record.specs.Labels as law
 use Rattle.ct_rules_node.specs.Turn.{Turn}
 use Rattle.ct_cluster.specs.Steps.{frames_of}
-use Rattle.ct_law_record.specs.World.{Scene, View, Mail, World, Event, opening, last, trace}
+use Rattle.ct_law_record.specs.World.{Scene, View, Mail, World, Event, last, trace}
 
--- the record in the first generation, of which all nodes are members
-abbrev pub scene : Config → Rules → ℕ → List ℕ → Scene
-scene c rules db key = record { db = db; key = key; lmaster = master_of (everyone c) key; readonly = is_readonly (kind_at c db); members = everyone c; rules = rules }
+-- a generation: its number, its members, and the world of each record from which on it is followed
+pub record Era : Type 0 where
+  pub number : ℕ
+  pub members : List ℕ
+  pub start : ℕ → List ℕ → World
+
+-- the record in the generation
+abbrev pub scene : Config → Era → Rules → ℕ → List ℕ → Scene
+scene c era rules db key = record { db = db; key = key; lmaster = master_of era.members key; readonly = is_readonly (kind_at c db); members = era.members; rules = rules }
 
 -- what a node has of the record
 abbrev pub view : ℕ → List ℕ → Node → View
@@ -35,20 +43,20 @@ view db key n = record { state = state_at db key n; next = n.next; floor = (db_a
 unfoldable pub is_it : ℕ → List ℕ → ℕ → List ℕ → Bool
 is_it db key d k = nat_eq d db && bytes_eq k key
 
--- the message, where it speaks of the record
-unfoldable pub mail_of : ℕ → List ℕ → Frame → Option (ℕ × List ℕ) → List Mail
-mail_of db key f None = []
-mail_of db key f (Some r) = if is_it db key r.0 r.1 then record { sender = f.sender; receiver = f.receiver; msg = f.msg } ∷ [] else []
+-- the message, where it is of generation g and speaks of the record
+unfoldable pub mail_of : ℕ → ℕ → List ℕ → Frame → Option (ℕ × List ℕ) → List Mail
+mail_of g db key f None = []
+mail_of g db key f (Some r) = if nat_eq f.generation g && is_it db key r.0 r.1 then record { sender = f.sender; receiver = f.receiver; msg = f.msg } ∷ [] else []
 
--- those of the messages that speak of the record, in their order
-unfoldable pub mails : ℕ → List ℕ → List Sent → List Mail
-mails db key [] = []
-mails db key (s ∷ ss) = mail_of db key s.frame (record_in s.frame.msg) ++ mails db key ss
+-- those of the messages that do, in their order
+unfoldable pub mails : ℕ → ℕ → List ℕ → List Sent → List Mail
+mails g db key [] = []
+mails g db key (s ∷ ss) = mail_of g db key s.frame (record_in s.frame.msg) ++ mails g db key ss
 
--- the world of the record shows all that the cluster has of it
-pub record Shows (db : ℕ) (key : List ℕ) (c : Cluster) (w : World) : Type 0 where
+-- the world of the record shows all that the cluster has of it in generation g
+pub record Shows (g db : ℕ) (key : List ℕ) (c : Cluster) (w : World) : Type 0 where
   pub nodes : (n : ℕ) → w.nodes n ≡ view db key (node_at n c)
-  pub mail : w.mail ≡ mails db key c.sent
+  pub mail : w.mail ≡ mails g db key c.sent
 
 -- does the answer tell anything of a record? A refusal does not, but for that of a value which is too long
 unfoldable pub is_telling : Answer → Bool
@@ -72,12 +80,17 @@ unfoldable pub told_by_all : ℕ → List ℕ → List Label → List law.Label
 told_by_all db key [] = []
 told_by_all db key (x ∷ xs) = told_by db key x ++ told_by_all db key xs
 
--- The label is of records of nodes in line 1: it is an answer or ends a vacuum. An answer that tells nothing may be of any
--- database.
-unfoldable pub IsOfLineOne : Config → (ℕ → ℕ) → Label → Type 0
-IsOfLineOne config line (Answered n asked a) = is_telling a ≡ true → (line n ≡ 1) × (legal.is_of_records (legal.kind_at config (db_of asked)) ≡ true)
-IsOfLineOne config line (Noted n (note.Vacuumed db key)) = (line n ≡ 1) × (legal.is_of_records (legal.kind_at config db) ≡ true)
-IsOfLineOne config line _ = ⊥
+-- every member has installed line g
+abbrev pub AllInstalled : ℕ → Lines → Type 0
+AllInstalled g r = (m : ℕ) → is_in m (r.members g) ≡ true → r.installed g m ≡ true
+
+-- The label is of records of nodes in line g: it is an answer or ends a vacuum. An answer that tells nothing may be of any
+-- database. Or a node serves in the line, which all have installed.
+unfoldable pub IsOfLine : Config → ℕ → Lines → Label → Type 0
+IsOfLine config g r (Answered n asked a) = is_telling a ≡ true → (r.line n ≡ g) × (legal.is_of_records (legal.kind_at config (db_of asked)) ≡ true)
+IsOfLine config g r (Noted n (note.Vacuumed db key)) = (r.line n ≡ g) × (legal.is_of_records (legal.kind_at config db) ≡ true)
+IsOfLine config g r (Noted n (note.Thawed h)) = (h ≡ g) × (r.line n ≡ g) × AllInstalled g r
+IsOfLine config g r _ = ⊥
 
 -- what a world's labels tell: all but the answers that tell nothing
 unfoldable pub heard : List law.Label → List law.Label
@@ -104,24 +117,26 @@ pub record Finds (db : ℕ) (key : List ℕ) (n : ℕ) (calls : List PendingCall
   pub about : (call : ℕ) (asked : ClientOp) → asks call ≡ Some asked → (db_of asked ≡ db) × (key_of asked ≡ key)
 
 -- the world of the record while node n is amid a step: what it has and sent so far, over the world before the step
-abbrev pub amid : ℕ → List ℕ → ℕ → World → Turn → World
-amid db key n w t = record { nodes = λ k. if nat_eq k n then view db key t.node else w.nodes k; joined = λ _. true; mail = w.mail ++ mails db key (frames_of t.outs) }
+abbrev pub amid : ℕ → ℕ → List ℕ → ℕ → World → Turn → World
+amid g db key n w t = record { nodes = λ k. if nat_eq k n then view db key t.node else w.nodes k; joined = λ _. true; mail = w.mail ++ mails g db key (frames_of t.outs) }
 
 -- From one middle of a step to another the world of the record comes by these events, which tell what the step tells of the
 -- record.
-pub record Comes_by (s : Scene) (n : ℕ) (w : World) (calls : List PendingCall) (t u : Turn) (es : List Event) : Type 0 where
-  pub world : last s (amid s.db s.key n w t) es ≡ amid s.db s.key n w u
-  pub labels : told_by_all s.db s.key (labels_of n calls u.outs) ≡ told_by_all s.db s.key (labels_of n calls t.outs) ++ heard (trace s (amid s.db s.key n w t) es)
+pub record Comes_by (g : ℕ) (s : Scene) (n : ℕ) (w : World) (calls : List PendingCall) (t u : Turn) (es : List Event) : Type 0 where
+  pub world : last s (amid g s.db s.key n w t) es ≡ amid g s.db s.key n w u
+  pub labels : told_by_all s.db s.key (labels_of n calls u.outs) ≡ told_by_all s.db s.key (labels_of n calls t.outs) ++ heard (trace s (amid g s.db s.key n w t) es)
 
 -- by some events
-abbrev pub Follows : Scene → ℕ → World → List PendingCall → Turn → Turn → Type 0
-Follows s n w calls t u = (es : List Event) × Comes_by s n w calls t u es
+abbrev pub Follows : ℕ → Scene → ℕ → World → List PendingCall → Turn → Turn → Type 0
+Follows g s n w calls t u = (es : List Event) × Comes_by g s n w calls t u es
 
--- the world of the record, as the cluster shows it
-abbrev pub project : ℕ → List ℕ → Cluster → World
-project db key c = record { nodes = λ n. view db key (node_at n c); joined = λ _. true; mail = mails db key c.sent }
+-- the world of the record, as the cluster shows it in generation g
+abbrev pub project : ℕ → ℕ → List ℕ → Cluster → World
+project g db key c = record { nodes = λ n. view db key (node_at n c); joined = λ _. true; mail = mails g db key c.sent }
 
--- schedules of the worlds of all records lead to what the cluster shows of them, and tell what these labels tell
-abbrev pub Schedules : Config → Rules → Cluster → List Label → (ℕ → List ℕ → List Event) → Type 0
-Schedules config rules c labels es = (db : ℕ) (key : List ℕ) →
-    (last (scene config rules db key) opening (es db key) ≡ project db key c) × (heard (trace (scene config rules db key) opening (es db key)) ≡ told_by_all db key labels)
+-- schedules of the worlds of all records lead from where these begin to what the cluster shows of them, and tell what these
+-- labels tell
+abbrev pub Schedules : Config → Era → Rules → Cluster → List Label → (ℕ → List ℕ → List Event) → Type 0
+Schedules config era rules c labels es = (db : ℕ) (key : List ℕ) →
+    (last (scene config era rules db key) (era.start db key) (es db key) ≡ project era.number db key c) ×
+    (heard (trace (scene config era rules db key) (era.start db key) (es db key)) ≡ told_by_all db key labels)
