@@ -2,6 +2,7 @@ pub mod Rule
 pub mod Invariant
 pub mod Nodes
 pub mod Copies
+pub mod Markings
 pub mod Holder
 pub mod Parts
 pub mod Small
