@@ -22,4 +22,6 @@ pub mod Leaving
 pub mod Worlds
 pub mod Law
 pub mod Births
+pub mod MarkLists
+pub mod MarkedRun
 pub mod Runs

@@ -93,7 +93,7 @@ sent_at zero (x ∷ xs) m e = inl (let j : x ≡ m = cc in ap frame_of j)
 sent_at (suc k) (x ∷ xs) m e = inr (sent_at k xs m e)
 
 -- what a step leads to
-abbrev Leads : Scene → Register → Ghost → Stepped → Type 0
+abbrev pub Leads : Scene → Register → Ghost → Stepped → Type 0
 Leads s r g x = (t : Register) × (g' : Ghost) × AcceptsAll s.rules r x.labels t × WorldInv s x.world t g' × Goes (is_removed x.labels) (span_of g) (span_of g')
 
 abbrev pub started : Register → Ghost → Start
