@@ -40,7 +40,7 @@ unread : (s : Scene) (w : World) (r : Register) (g : Ghost) (j : ℕ) → WorldI
 unfolding readers_of
 unread s w r g j h own = (let l = (h.nodes j).locked ((h.nodes j).owner own) in ((h.nodes j).mirror l.0).0 ∙ ap (readers_of (nodes_at s w j).tracked) l.3 ∙ l.2)
 
-stands : (s : Scene) (w : World) (r : Register) (g : Ghost) → WorldInv s w r g → Stands w r
+pub stands : (s : Scene) (w : World) (r : Register) (g : Ghost) → WorldInv s w r g → Stands w r
 stands s w r g h = subst (λ (x : Register). Stands w x) h.register (record {
   locks = λ n. ((λ a. ((h.nodes n).locked a).1), (λ a. (h.nodes n).owner a));
   newest = λ n c has is. (let k = (h.nodes n).here (here_at s w r g n c h has is) in sym (value_at s w n c has) ∙ ((h.nodes n).holds k.0 k.1).1);
@@ -56,12 +56,12 @@ unfolding Rule.rank Rule.value_of copy_of
 stands_for ps m g n None all v s = s
 stands_for ps m g n (Some c) all v s = (v, s, all.rises 0 (c.header.rsn + 1) (omega arith))
 
-kept_all : (s : Scene) (w : World) (r : Register) (g : Ghost) → WorldInv s w r g → NothingIsLost w r
+pub kept_all : (s : Scene) (w : World) (r : Register) (g : Ghost) → WorldInv s w r g → NothingIsLost w r
 unfolding Emptied
 kept_all s w r g h = subst (λ (x : Register). NothingIsLost w x) h.register
     (g.place 0, (λ a. g.place (a + 1)), h.all.absent, (λ a b le. h.all.rises (a + 1) (b + 1) (omega arith)), (λ a. h.all.within (a + 1)), λ n. stands_for (peers s s.lmaster) s.lmaster g n (w.nodes n).state.copy h.all (h.nodes n).value (h.nodes n).seen)
 
-parent : (w : World) (r : Register) → NothingIsLost w r → Parent w r
+pub parent : (w : World) (r : Register) → NothingIsLost w r → Parent w r
 parent w r h who = ((λ n c is most. (h.1 c.header.rsn, (own n c is).0, λ k t. each k (h.1 c.header.rsn) (own n c is).2 (λ d e. h.3 d.header.rsn c.header.rsn (most k d t e)))), λ none. (h.0, h.2, λ k t. absent k (none k t)))
   where
     own : (n : ℕ) (c : RecCopy) → (w.nodes n).state.copy ≡ Some c → StandsFor r h.0 h.1 n (Some c)

@@ -12,6 +12,7 @@ pub mod Frames
 pub mod Receive
 pub mod Finish
 pub mod Floor
+pub mod Phases
 pub mod Vacuuming
 pub mod Likeness
 pub mod Alike
@@ -24,4 +25,5 @@ pub mod Law
 pub mod Births
 pub mod MarkLists
 pub mod MarkedRun
+pub mod MarkedLaw
 pub mod Runs

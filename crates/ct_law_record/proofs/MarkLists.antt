@@ -1,8 +1,8 @@
 -- The marks of a span: one for each RSN from its base to below its top.
-use Rattle.std.proofs.Common.{length, ◌≡◌, ◌≢◌, ◌⊎◌, ℕ, zero, suc, ◌+◌, ◌-◌, ◌<◌, ◌≤◌, Bool, true, false, Some, List, [], ◌∷◌, refl, sym, ap, ◌∙◌, ⊎_elim, arith, subst, nat_eq, nat_lt, cond}
+use Rattle.std.proofs.Common.{◌≡◌, ◌≢◌, ℕ, zero, suc, ◌+◌, ◌-◌, ◌<◌, ◌≤◌, Bool, true, false, Some, List, [], ◌∷◌, refl, sym, ap, ◌∙◌, ⊎_elim, arith, subst, nat_lt, cond}
 use Rattle.std.proofs.lemmas.Bool.{cases_eq, eq-eqb, ne_eqb, cond_both, ltb-true, lt-ltb}
-use Rattle.ct_register.specs.Marks.{Mark, Marks, Rises, RisesAfter, EndsAt, AreBelow, AreFrom, GoOn, place_of, place_below_from, MarksStep, AreMarks}
-use Rattle.ct_law_record.proofs.Invariant.{Span, Grows, Empties, Goes}
+use Rattle.ct_register.specs.Marks.{Mark, Marks, Rises, RisesAfter, EndsAt, AreBelow, AreFrom, GoOn, place_of, place_below_from, MarksStep}
+use Rattle.ct_law_record.proofs.Invariant.{Span, Grows, Goes}
 use Rattle.ct_law_record.proofs.Copies.{lt_cases}
 
 -- so many marks from an RSN on

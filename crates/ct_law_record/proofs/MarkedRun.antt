@@ -1,5 +1,5 @@
 -- Every schedule of one record keeps its marks, or removes it and goes on from above all that were.
-use Rattle.std.proofs.Common.{length, ◌≡◌, ◌≢◌, ◌⊎◌, ℕ, zero, suc, ◌+◌, ◌-◌, ◌<◌, ◌≤◌, Bool, true, false, Option, Some, None, List, [], ◌∷◌, refl, sym, ap, ◌∙◌, ⊎_elim, arith, subst, take}
+use Rattle.std.proofs.Common.{length, ◌≡◌, ℕ, zero, suc, ◌+◌, ◌-◌, ◌≤◌, Bool, true, false, Option, Some, None, List, [], refl, sym, ap, ◌∙◌, ⊎_elim, arith, subst, take}
 use Rattle.std.specs.List.{list_all}
 use Rattle.ct_frame.specs.Fields.{is_node}
 use Rattle.ct_frame.specs.declared.header.RecCopy.{RecCopy}
@@ -12,7 +12,7 @@ use Rattle.ct_law_record.specs.World.{Scene, World, Event, HasCopy, happens, tra
 use Rattle.ct_law_record.proofs.Rule
 use Rattle.ct_law_record.proofs.Rule.{Copy}
 use Rattle.ct_law_record.proofs.Likeness.{copy_of}
-use Rattle.ct_law_record.proofs.Invariant.{Ghost, Span, span_of, Past, Marking, NodeInv}
+use Rattle.ct_law_record.proofs.Invariant.{Ghost, Span, span_of, Past, Marking}
 use Rattle.ct_law_record.proofs.Markings.{mark_within, RunsOn}
 use Rattle.ct_law_record.proofs.MarkLists.{dense, marks_in, dense_rises, dense_below, dense_ends, dense_has, dense_low, dense_high, none_in, marks_go, marks_grow, marks_from}
 use Rattle.ct_law_record.proofs.Worlds.{WorldInv, nodes_at, step_holds, run_holds}

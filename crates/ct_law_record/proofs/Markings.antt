@@ -1,11 +1,11 @@
 -- How the marks go on: what each change of the ghost owes of them.
-use Rattle.std.proofs.Common.{length, ◌≡◌, ◌≢◌, ◌⊎◌, ℕ, ◌+◌, ◌<◌, ◌≤◌, Bool, true, false, List, [], ◌∷◌, ◌++◌, refl, sym, ap, ◌∙◌, ⊎_elim, arith, subst, take, cond, leb, length-append, ◌||◌}
+use Rattle.std.proofs.Common.{length, ◌≡◌, ℕ, ◌+◌, ◌<◌, ◌≤◌, Bool, true, false, List, [], ◌∷◌, ◌++◌, refl, sym, ap, ◌∙◌, ⊎_elim, arith, subst, cond, leb, length-append, ◌||◌}
 use Rattle.std.proofs.lemmas.Bool.{lt-leb, le-leb}
 use Rattle.std.proofs.lemmas.List.{take_all, take-append-le}
 use Rattle.ct_register.specs.Register.{reading}
 use Rattle.ct_law_record.specs.Labels.{Label, Joined}
 use Rattle.ct_law_record.specs.Marked.{is_removal, is_removed}
-use Rattle.ct_law_record.proofs.Invariant.{Ghost, Span, span_of, Grows, Empties, Goes, Marking}
+use Rattle.ct_law_record.proofs.Invariant.{Span, Grows, Empties, Goes, Marking}
 use Rattle.ct_law_record.proofs.Copies.{lt_cases}
 use Rattle.ct_law_record.proofs.Rule.{greater}
 

@@ -2,7 +2,7 @@
 use Rattle.std.proofs.Common.{◌≡◌, ◌≢◌, ◌⊎◌, ℕ, ◌+◌, ◌<◌, ◌≤◌, Bool, true, false, Option, Some, None, List, [], ◌∷◌, ◌++◌, length, take, refl, sym, ap, ◌∙◌, inl, inr, ⊎_elim, arith, subst, ◌||◌, cond, leb, length-append}
 use Rattle.std.proofs.lemmas.Bool.{lt-leb, le-leb}
 use Rattle.std.proofs.lemmas.List.{take-append-le}
-use Rattle.ct_law_record.proofs.Invariant.{span_of, readers_of, is_revoking, Ghost, Ungranted, Emptied, Joined, Says, NodeInv, GlobalInv}
+use Rattle.ct_law_record.proofs.Invariant.{readers_of, is_revoking, Ghost, Ungranted, Emptied, Joined, Says, NodeInv, GlobalInv}
 use Rattle.ct_law_record.proofs.Holder.{Change, Shift, Granted}
 use Rattle.ct_law_record.proofs.Markings.{grows_top, grows_grown, marking_top, marking_grown}
 use Rattle.std.specs.Prelude.{List}

@@ -1,5 +1,5 @@
 -- The frames of a vacuum, and the vacuum event.
-use Rattle.std.proofs.Common.{◌≡◌, ◌≢◌, ◌⊎◌, ℕ, ◌+◌, ◌<◌, ◌≤◌, Bool, true, false, Option, Some, None, List, [], ◌∷◌, take, refl, sym, ap, ◌∙◌, inl, inr, ⊎_elim, arith, subst, ◌&&◌, ◌==◌, eqb-true}
+use Rattle.std.proofs.Common.{◌≡◌, ◌≢◌, ℕ, ◌+◌, ◌<◌, ◌≤◌, true, false, Option, Some, None, List, [], ◌∷◌, take, refl, sym, ap, ◌∙◌, inl, inr, ⊎_elim, arith, subst, ◌&&◌, ◌==◌, eqb-true}
 use Rattle.std.proofs.lemmas.Bool.{and_parts, cond_both, cases_eq, eq-eqb, eqb-false, false_from_ne_true}
 use Rattle.ct_law_record.proofs.Invariant.{span_of, Start, readers_of, Ghost, Past, Emptied, Joined, VStoreAt, VDeleteAt, Says, VacuumAt, NodeInv, Emptying, GlobalInv, Holds, Kept}
 use Rattle.ct_law_record.proofs.Nodes.{rank_of, past_none}
@@ -8,48 +8,19 @@ use Rattle.ct_law_record.proofs.Holder.{Change, Shift, Own}
 use Rattle.ct_law_record.proofs.Markings.{grows_none, grows_top, marking_top, marking_deleting}
 use Rattle.ct_law_record.proofs.Parts.{nil_none, nobody_has, readers_idle, granted_end}
 use Rattle.ct_law_record.proofs.Acts.{send_holds, node_holds, own_holds, Others, master_copy, calm_other, below_top, give_holds, free_parts}
-use Rattle.ct_law_record.proofs.Revoking.{risen_is, Came, has-without}
+use Rattle.ct_law_record.proofs.Revoking.{risen_is, Came}
 use Rattle.ct_law_record.proofs.Finish.{finish_holds}
+use Rattle.ct_law_record.proofs.Phases.{fewer_has, not_has, bool_true, rank_none, none_rank, value_none, past_is, phase_storing, phase_deleting, awaits_parts, last_parts}
 use Rattle.std.specs.Prelude.{is_none, List}
 use Rattle.ct_call.specs.Rules.{Rules}
 use Rattle.ct_deleg.specs.Tracked.{Revocation}
-use Rattle.ct_vacuum.specs.Vacuum.{Vacuuming, begun, is_phase, awaits, without, acknowledged, is_last, stored, deleting as in_deleting, is_none as is_none_left}
+use Rattle.ct_vacuum.specs.Vacuum.{Vacuuming, begun, awaits, without, acknowledged, is_last, stored, deleting as in_deleting}
 use Rattle.ct_vacuum.specs.declared.vacuum.VacuumPhase.{VacuumPhase}
 use Rattle.ct_vacuum.specs.declared.vacuum.VacuumPhase.TheVariants.{Storing, Deleting}
 use Rattle.ct_rules.specs.State.{is_nil}
 use Rattle.ct_register.specs.Register.{Register, reading}
 use Rattle.ct_law_record.proofs.Rule
 use Rattle.ct_law_record.proofs.Rule.{is_storing, risen, Body, Copy, Frame, Grant, Here, Node, Out, VDelete, VDeleted, VStore, VStored, Wish, drop_copy, give, greater, has_node, is_free, is_here, is_idle, is_reading, raise_copy, rank, reads_op, rsn_of, send, send_all, tell, value_of, with_node}
-
-fewer_has : (k n : ℕ) (ns : List ℕ) → has_node k ns ≡ false → has_node k (without n ns) ≡ false
-unfolding has_node
-fewer_has k n [] h = refl
-fewer_has k n (m ∷ ms) h = grind (arith, fewer_has k n ms)
-
-not_has : (k n : ℕ) (ns : List ℕ) → k ≢ n → has_node k (without n ns) ≡ false → has_node k ns ≡ false
-not_has k n ns ne e = false_from_ne_true _ (λ t. (let a = has-without k n ns ne t in cc))
-
-bool_true : (b : Bool) → (b ≡ false → ⊥) → b ≡ true
-bool_true true h = refl
-bool_true false h = absurd (h refl)
-
-rank_none : (c : Option Copy) → c ≡ None → rank c ≡ 0
-unfolding rank
-rank_none c e = ap rank e
-
-none_rank : (c : Option Copy) → rank c ≡ 0 → c ≡ None
-unfolding rank
-none_rank None e = refl
-none_rank (Some c) e = absurd (omega arith)
-
-value_none : (c : Option Copy) → rank c ≡ 0 → value_of c ≡ []
-unfolding rank value_of
-value_none None e = refl
-value_none (Some c) e = absurd (omega arith)
-
-past_is : (low : ℕ) (c : Option Copy) → Past low c → (rank c ≡ 0) ⊎ (low ≤ rank c)
-unfolding Past
-past_is low c h = ⊎_elim (λ (e : rank c ≡ 0). inl e) (λ (e : rank c ≢ 0). inr (h (omega arith))) (cases_eq (rank c) 0)
 
 -- absent copies come to stand for what copies of this rank do
 abbrev pub raised : ℕ → (ℕ → ℕ) → ℕ → ℕ
@@ -150,32 +121,6 @@ shift_deleting ps m g v k node all none empty past outside h = record {
     deleted = λ _ b. past_none (w.rsn + 2) node.copy (rank_none node.copy (outside (ap (λ (x : Vacuuming). has_node k x.missing) k' ∙ b)));
   });
 }
-
-phase_storing : (p : VacuumPhase) → is_phase Storing p ≡ true → is_storing p ≡ true
-unfolding is_storing
-phase_storing Storing h = refl
-phase_storing Deleting h = absurd (cc)
-
-phase_deleting : (p : VacuumPhase) → is_phase Deleting p ≡ true → is_storing p ≡ false
-unfolding is_storing
-phase_deleting Storing h = absurd (cc)
-phase_deleting Deleting h = refl
-
-none_left : (l : List ℕ) → is_none_left l ≡ true → l ≡ []
-none_left [] h = refl
-none_left (x ∷ xs) h = absurd (cc)
-
-awaits_parts : (phase : VacuumPhase) (n rsn : ℕ) (v : Vacuuming) → awaits phase n rsn v ≡ true → (is_phase phase v.phase ≡ true) × (v.rsn ≡ rsn)
-awaits_parts phase n rsn v t =
-    let p = and_parts (is_phase phase v.phase && (v.rsn == rsn)) _ t in
-    let q = and_parts (is_phase phase v.phase) (v.rsn == rsn) p.0 in
-    (q.0, eqb-true v.rsn rsn q.1)
-
-last_parts : (phase : VacuumPhase) (n rsn : ℕ) (v : Vacuuming) → is_last phase n rsn v ≡ true → (is_phase phase v.phase ≡ true) × (v.rsn ≡ rsn) × (without n v.missing ≡ [])
-last_parts phase n rsn v t =
-    let p = and_parts (awaits phase n rsn v) (is_none_left (without n v.missing)) t in
-    let q = awaits_parts phase n rsn v p.0 in
-    (q.0, q.1, none_left (without n v.missing) p.1)
 
 module _ (rules : Rules) (ps : List ℕ) (m me : ℕ) (nodes : ℕ → Node) (frames : List Frame) (r : Start) where
   pub on_vstore_holds : (x rsn : ℕ) (g : Ghost) (o : Out) → VStoreAt x me g.top g.place g.register.versions rsn → Holds rules ps m me nodes frames r g o → Kept rules ps m me nodes frames r (Rule.on_vstore me x rsn o)
