@@ -40,3 +40,4 @@ pub mod BornWorlds
 pub mod BornStarts
 pub mod BornCalls
 pub mod BornForms
+pub mod BornNodes
