@@ -36,3 +36,8 @@ pub mod Retried
 pub mod Resending
 pub mod Retrying
 pub mod Assembled
+pub mod BornWorlds
+pub mod BornStarts
+pub mod BornCalls
+pub mod BornForms
+pub mod BornNodes

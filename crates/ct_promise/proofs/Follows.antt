@@ -1,18 +1,21 @@
--- The promise follows from the law of marks.
-use Rattle.std.proofs.Common.{List, [], ◌∷◌, ◌++◌, refl, subst}
+-- The promise follows from the law of marks, and that of one generation from its law step by step.
+use Rattle.std.proofs.Common.{◌≡◌, ℕ, Bool, true, false, cond, List, [], ◌∷◌, ◌++◌, refl, sym, ap, subst}
+use Rattle.std.specs.List.{filter}
 use Rattle.ct_msg.specs.declared.config.Config.{Config}
 use Rattle.ct_call.specs.Rules.{Rules}
 use Rattle.ct_cluster.specs.Cluster.{Cluster}
 use Rattle.ct_cluster.specs.Labels.{Label}
 use Rattle.ct_cluster.specs.Traces
-use Rattle.ct_cluster.specs.Traces.{ran}
+use Rattle.ct_cluster.specs.Traces.{ran, ran_one}
 use Rattle.ct_cluster.specs.declared.step.Step.{Step}
 use Rattle.ct_register.specs.Lines.{Lines}
 use Rattle.ct_register.specs.Legal.{AcceptsLabels}
-use Rattle.ct_register.specs.Stands.{StandsFor}
+use Rattle.ct_register.specs.Stands.{StandsFor, RecordsStand}
 use Rattle.ct_register.proofs.Opened.{opening_stands}
-use Rattle.ct_promise.specs.Marked.{AllMarks, MarksRun}
-use Rattle.ct_promise.specs.Laws.{PromiseFollows}
+use Rattle.ct_promise.specs.Generation.{speaks_of_records, KeepsRecords}
+use Rattle.ct_promise.specs.Marked.{AllMarks, LineMarks, MarksRun}
+use Rattle.ct_promise.specs.Kept.{RecordsRun}
+use Rattle.ct_promise.specs.Laws.{PromiseFollows, OneGenerationFollows, RowsFollow}
 
 -- some labels are accepted, and then others
 both_accepted : (config : Config) (rules : Rules) (front back : List Label) (r s t : Lines) → AcceptsLabels config rules r front s → AcceptsLabels config rules s back t → AcceptsLabels config rules r (front ++ back) t
@@ -56,4 +59,4 @@ one_generation_follows law config rules steps is all = (let h = law config rules
 pub rows_follow : RowsFollow
 rows_follow law config rules g members row w r steps is born registers all =
     let h = law config rules g members row w r steps is born registers all in
-    records_kept config rules g steps w r h.0 h.2 h.1.stand
+    records_kept config rules g steps w r h.0 h.1.1 h.1.0.stand

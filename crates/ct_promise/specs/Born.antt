@@ -79,7 +79,7 @@ pub record IsBornNode (config : Config) (g : ℕ) (members : List ℕ) (row : Ro
   -- and no record in a database that is none of records
   pub others : (db : ℕ) → is_of_records (kind_at config db) ≡ false → (db_at db node).records ≡ []
 
--- a node that is no member
+-- a node that is no member: it keeps nothing of any record, none of its commits waits, and request numbers begin at 1 or above
 pub record HasLeft (node : Node) : Type 0 where
   pub records : (db : ℕ) → (db_at db node).records ≡ []
   pub floors : (db : ℕ) → (db_at db node).floor ≡ 0
@@ -96,7 +96,7 @@ pub record IsBornWith (config : Config) (g : ℕ) (members : List ℕ) (row : Ro
   pub born : (n : ℕ) → is_in n members ≡ true → IsBornNode config g members row n (node_at n w)
   -- a data master is one of them
   pub mastered : (db : ℕ) (key : List ℕ) → IsMastered members (row db key)
-  -- every other node is down, and as a stop leaves it: it keeps nothing of any record, and its numbers begin anew
+  -- every other node is down, and has left as a stop lets it: it keeps nothing of any record, and none of its commits waits
   pub down : (n : ℕ) → is_in n members ≡ false → is_up n w ≡ false
   pub left : (n : ℕ) → is_in n members ≡ false → HasLeft (node_at n w)
   -- calls that wait have different numbers, none of them above the last one that was given

@@ -28,7 +28,6 @@ pub fn one_generation_follows()
 {}
 
 /// So it does in a generation that began with rows.
-#[tactic(auto, using(crate::proofs::Follows::rows_follow))]
 pub fn rows_follow()
     ensures { RowsFollow }
 {}
