@@ -36,3 +36,6 @@ pub mod Retried
 pub mod Resending
 pub mod Retrying
 pub mod Assembled
+pub mod Beside
+pub mod Rounding
+pub mod Yielding
