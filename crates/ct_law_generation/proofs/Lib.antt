@@ -41,3 +41,6 @@ pub mod BornStarts
 pub mod BornCalls
 pub mod BornForms
 pub mod BornNodes
+pub mod Beside
+pub mod Rounding
+pub mod Yielding
