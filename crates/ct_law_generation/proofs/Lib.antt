@@ -36,3 +36,8 @@ pub mod Retried
 pub mod Resending
 pub mod Retrying
 pub mod Assembled
+pub mod Holding
+pub mod Finishing
+pub mod Removing
+pub mod Silent
+pub mod Removed
