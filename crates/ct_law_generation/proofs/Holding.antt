@@ -18,12 +18,9 @@ use Rattle.ct_law_record.specs.World.{World, Stands, NothingIsLost}
 use Rattle.ct_law_record.specs.World as law
 use Rattle.ct_law_record.specs.Marked as law_marked
 use Rattle.ct_law_generation.specs.Shown.{Era, scene, project}
+use Rattle.ct_law_generation.proofs.Seeing.{SeenWithin}
 
 -- ---- what is asked of the cluster and of the line
-
--- no node has seen more versions of a record than there are
-abbrev pub SeenWithin : Register → Type 0
-SeenWithin t = (n : ℕ) → t.seen n ≤ length t.versions
 
 -- the era's number is a line's, in which every running node is, and every node with a copy; only a location master has an
 -- entry, and nobody has seen more of a record than there is
