@@ -5,7 +5,6 @@ use Rattle.std.specs.List.{list_all, filter, AllByRecursion}
 use Rattle.ct_msg.specs.declared.client.ClientOp.{ClientOp}
 use Rattle.ct_msg.specs.declared.client.ClientOp.TheVariants as op
 use Rattle.ct_msg.specs.declared.config.Config.{Config}
-use Rattle.ct_frame.specs.declared.frame.Msg.{Msg}
 use Rattle.ct_call.specs.Rules.{Rules}
 use Rattle.ct_frame.specs.declared.header.RecCopy.{RecCopy}
 use Rattle.ct_rules_node.specs.Node.{Node, state_at, db_at, or_untouched, untouched, or_nothing, is_persistent, kind_at}
@@ -33,7 +32,7 @@ use Rattle.ct_register.specs.Lines
 use Rattle.ct_register.specs.Stands.{HasCopy}
 use Rattle.ct_promise.specs.Promises.{IsConfig}
 use Rattle.ct_promise.specs.Generation.{is_of_one_generation, speaks_of_records, record_labels, PromiseOfOneGeneration}
-use Rattle.ct_law_generation.specs.Shown.{IsOfLineOne, labels_of, Schedules}
+use Rattle.ct_law_generation.specs.Shown.{Era, IsOfLineOne, labels_of, Schedules}
 use Rattle.ct_law_generation.proofs.Weave.{true_or_false}
 use Rattle.ct_law_generation.proofs.Standing.{OneLine}
 use Rattle.ct_law_generation.proofs.Pending.{Callers}
@@ -62,15 +61,15 @@ use Rattle.ct_law_generation.proofs.Opening.{opened_schedules, opened_stays}
 use Rattle.ct_law_generation.proofs.Concluding.{concluded}
 
 -- the cluster goes on, and tells these labels, all of line 1
-pub record Run_goes (c : Config) (rules : Rules) (p : Msg → Bool) (labels : List Label) (w : Cluster) : Type 0 where
+pub record Run_goes (c : Config) (era : Era) (rules : Rules) (labels : List Label) (w : Cluster) : Type 0 where
   pub who : Callers
-  pub goes : Cluster_goes c rules p who w labels
+  pub goes : Cluster_goes c era rules who w labels
   pub own : AllByRecursion (IsOfLineOne c (Lines.opening c).line) labels
 
 -- so it does by each step of one generation
-abbrev pub Each_goes : Config → Rules → (Msg → Bool) → Type 0
-Each_goes c rules p = (w : Cluster) (labels : List Label) (s : Step) → is_of_one_generation s ≡ true → Run_goes c rules p labels w →
-    Run_goes c rules p (labels ++ record_labels c (ran_one c rules w s).trace) (ran_one c rules w s).cluster
+abbrev pub Each_goes : Config → Era → Rules → Type 0
+Each_goes c era rules = (w : Cluster) (labels : List Label) (s : Step) → is_of_one_generation s ≡ true → Run_goes c era rules labels w →
+    Run_goes c era rules (labels ++ record_labels c (ran_one c rules w s).trace) (ran_one c rules w s).cluster
 
 filter_more : {X : Type 0} (f : X → Bool) (xs ys : List X) → filter f (xs ++ ys) ≡ filter f xs ++ filter f ys
 filter_more f [] ys = refl
@@ -89,15 +88,15 @@ both_true true b e = (refl, e)
 both_true false b e = absurd (cc)
 
 -- a run of such steps
-pub runs_go : (c : Config) (rules : Rules) (p : Msg → Bool) (steps : List Step) (w : Cluster) (labels : List Label) → Each_goes c rules p → list_all is_of_one_generation steps ≡ true → Run_goes c rules p labels w →
-    Run_goes c rules p (labels ++ record_labels c (ran c rules w steps).trace) (ran c rules w steps).cluster
+pub runs_go : (c : Config) (era : Era) (rules : Rules) (steps : List Step) (w : Cluster) (labels : List Label) → Each_goes c era rules → list_all is_of_one_generation steps ≡ true → Run_goes c era rules labels w →
+    Run_goes c era rules (labels ++ record_labels c (ran c rules w steps).trace) (ran c rules w steps).cluster
 unfolding ran after idle
-runs_go c rules p [] w labels each all h = subst (λ (l : List Label). Run_goes c rules p l w) (sym (append-nil labels)) h
-runs_go c rules p (s ∷ steps) w labels each all h =
+runs_go c era rules [] w labels each all h = subst (λ (l : List Label). Run_goes c era rules l w) (sym (append-nil labels)) h
+runs_go c era rules (s ∷ steps) w labels each all h =
     let q = ran_one c rules w s in
     let e = both_true (is_of_one_generation s) (list_all is_of_one_generation steps) all in
-    let r = runs_go c rules p steps q.cluster (labels ++ record_labels c q.trace) each e.1 (each w labels s e.0 h) in
-    subst (λ (l : List Label). Run_goes c rules p l (ran c rules q.cluster steps).cluster)
+    let r = runs_go c era rules steps q.cluster (labels ++ record_labels c q.trace) each e.1 (each w labels s e.0 h) in
+    subst (λ (l : List Label). Run_goes c era rules l (ran c rules q.cluster steps).cluster)
     (sym (list_more labels (record_labels c q.trace) (record_labels c (ran c rules q.cluster steps).trace)) ∙ ap (λ (l : List Label). labels ++ l) (sym (filter_more (speaks_of_records c) q.trace (ran c rules q.cluster steps).trace))) r
 
 -- ---- all nodes are in line 1
@@ -119,8 +118,8 @@ no_copy : (w : Cluster) (n db : ℕ) (key : List ℕ) (x : RecCopy) → nat_lt n
 unfolding node_at
 no_copy w n db key x e has = (let a = sym (absent_copy db key) ∙ ap (λ (m : Node). (state_at db key m).copy) (sym (past_absent w.nodes n e)) ∙ has in absurd (cc))
 
-one_line : (c : Config) (rules : Rules) (p : Msg → Bool) (who : Callers) (w : Cluster) → ClusterStays c rules p who w → OneLine w (Lines.opening c).line
-one_line c rules p who w h = record {
+one_line : (c : Config) (era : Era) (rules : Rules) (who : Callers) (w : Cluster) → ClusterStays c era rules who w → OneLine w (Lines.opening c).line
+one_line c era rules who w h = record {
   up = λ n e. in_line c n (h.up n e);
   has = λ n db key x has. ⊎_elim
       (λ (t : nat_lt n c.nodes ≡ true). in_line c n t)
@@ -130,45 +129,45 @@ one_line c rules p who w h = record {
 
 -- ---- the promise
 
-opened_goes : (c : Config) (rules : Rules) (p : Msg → Bool) → Run_goes c rules p [] (opening c)
-opened_goes c rules p = record { who = λ k. (0, op.Unlock 0 []); goes = (opened_stays c rules p (λ k. (0, op.Unlock 0 [])), (λ db key. []), opened_schedules c rules); own = tt }
+opened_goes : (c : Config) (era : Era) (rules : Rules) → Run_goes c era rules [] (opening c)
+opened_goes c era rules = record { who = λ k. (0, op.Unlock 0 []); goes = (opened_stays c era rules (λ k. (0, op.Unlock 0 [])), (λ db key. []), opened_schedules c era rules); own = tt }
 
 -- where each step of one generation goes on so, the promise is kept
-pub promised : (p : Msg → Bool) → ((c : Config) (rules : Rules) → IsConfig c → Each_goes c rules p) → PromiseOfOneGeneration
-promised p each c rules steps is all =
-    let r = runs_go c rules p steps (opening c) [] (each c rules is) all (opened_goes c rules p) in
-    concluded c rules (ran c rules (opening c) steps) r.goes.1 (all_real c is) (one_line c rules p r.who _ r.goes.0) r.own r.goes.2
+pub promised : (g : ℕ) → ((c : Config) (rules : Rules) → IsConfig c → Each_goes c era rules) → PromiseOfOneGeneration
+promised g each c rules steps is all =
+    let r = runs_go c era rules steps (opening c) [] (each c rules is) all (opened_goes c era rules) in
+    concluded c era rules (ran c rules (opening c) steps) r.goes.1 (all_real c era is) (one_line c era rules r.who _ r.goes.0) r.own r.goes.2
 
 -- ---- one step
 
 -- where the step is taken, the cluster goes on to this
-abbrev pub Taken_goes : Config → Rules → (Msg → Bool) → Cluster → List Label → Step → Type 0
-Taken_goes c rules p w ls s = (x : Stepped) → fault_of c w s ≡ None → steps c rules w s ≡ Ok x → Run_goes c rules p (ls ++ record_labels c (traces.labels w s x.lines)) x.cluster
+abbrev pub Taken_goes : Config → Era → Rules → Cluster → List Label → Step → Type 0
+Taken_goes c era rules w ls s = (x : Stepped) → fault_of c w s ≡ None → steps c rules w s ≡ Ok x → Run_goes c era rules (ls ++ record_labels c (traces.labels w s x.lines)) x.cluster
 
-idle_goes : (c : Config) (rules : Rules) (p : Msg → Bool) (w : Cluster) (ls : List Label) → Run_goes c rules p ls w → Run_goes c rules p (ls ++ record_labels c (idle w).trace) (idle w).cluster
+idle_goes : (c : Config) (era : Era) (rules : Rules) (w : Cluster) (ls : List Label) → Run_goes c era rules ls w → Run_goes c era rules (ls ++ record_labels c (idle w).trace) (idle w).cluster
 unfolding idle
-idle_goes c rules p w ls h = subst (λ (l : List Label). Run_goes c rules p l w) (sym (append-nil ls)) h
+idle_goes c era rules w ls h = subst (λ (l : List Label). Run_goes c era rules l w) (sym (append-nil ls)) h
 
-result_goes : (c : Config) (rules : Rules) (p : Msg → Bool) (w : Cluster) (ls : List Label) (s : Step) (r : Result Stepped StepFault) → Run_goes c rules p ls w →
-    ((x : Stepped) → r ≡ Ok x → Run_goes c rules p (ls ++ record_labels c (traces.labels w s x.lines)) x.cluster) → Run_goes c rules p (ls ++ record_labels c (taken w s r).trace) (taken w s r).cluster
+result_goes : (c : Config) (era : Era) (rules : Rules) (w : Cluster) (ls : List Label) (s : Step) (r : Result Stepped StepFault) → Run_goes c era rules ls w →
+    ((x : Stepped) → r ≡ Ok x → Run_goes c era rules (ls ++ record_labels c (traces.labels w s x.lines)) x.cluster) → Run_goes c era rules (ls ++ record_labels c (taken w s r).trace) (taken w s r).cluster
 unfolding taken
-result_goes c rules p w ls s (Ok x) h f = f x refl
-result_goes c rules p w ls s (Err e) h f = idle_goes c rules p w ls h
+result_goes c era rules w ls s (Ok x) h f = f x refl
+result_goes c era rules w ls s (Err e) h f = idle_goes c era rules w ls h
 
-fault_goes : (c : Config) (rules : Rules) (p : Msg → Bool) (w : Cluster) (ls : List Label) (s : Step) (f : Option StepFault) → fault_of c w s ≡ f → Run_goes c rules p ls w → Taken_goes c rules p w ls s →
-    Run_goes c rules p (ls ++ record_labels c (taken w s (steps_or c rules w s f)).trace) (taken w s (steps_or c rules w s f)).cluster
+fault_goes : (c : Config) (era : Era) (rules : Rules) (w : Cluster) (ls : List Label) (s : Step) (f : Option StepFault) → fault_of c w s ≡ f → Run_goes c era rules ls w → Taken_goes c era rules w ls s →
+    Run_goes c era rules (ls ++ record_labels c (taken w s (steps_or c rules w s f)).trace) (taken w s (steps_or c rules w s f)).cluster
 unfolding steps_or
-fault_goes c rules p w ls s (Some f) e h g = result_goes c rules p w ls s (Err f) h (λ x bad. absurd (cc))
-fault_goes c rules p w ls s None e h g = result_goes c rules p w ls s (steps c rules w s) h (λ x ok. g x e ok)
+fault_goes c era rules w ls s (Some f) e h g = result_goes c era rules w ls s (Err f) h (λ x bad. absurd (cc))
+fault_goes c era rules w ls s None e h g = result_goes c era rules w ls s (steps c rules w s) h (λ x ok. g x e ok)
 
-pub step_goes : (c : Config) (rules : Rules) (p : Msg → Bool) (w : Cluster) (ls : List Label) (s : Step) → Run_goes c rules p ls w → Taken_goes c rules p w ls s →
-    Run_goes c rules p (ls ++ record_labels c (ran_one c rules w s).trace) (ran_one c rules w s).cluster
+pub step_goes : (c : Config) (era : Era) (rules : Rules) (w : Cluster) (ls : List Label) (s : Step) → Run_goes c era rules ls w → Taken_goes c era rules w ls s →
+    Run_goes c era rules (ls ++ record_labels c (ran_one c rules w s).trace) (ran_one c rules w s).cluster
 unfolding ran_one applied
-step_goes c rules p w ls s h g = either (is_allowed s)
+step_goes c era rules w ls s h g = either (is_allowed s)
   where
-    either : (b : Bool) → Run_goes c rules p (ls ++ record_labels c (cond b (taken w s (steps_or c rules w s (fault_of c w s))) (idle w)).trace) (cond b (taken w s (steps_or c rules w s (fault_of c w s))) (idle w)).cluster
-    either true = fault_goes c rules p w ls s (fault_of c w s) refl h g
-    either false = idle_goes c rules p w ls h
+    either : (b : Bool) → Run_goes c era rules (ls ++ record_labels c (cond b (taken w s (steps_or c rules w s (fault_of c w s))) (idle w)).trace) (cond b (taken w s (steps_or c rules w s (fault_of c w s))) (idle w)).cluster
+    either true = fault_goes c era rules w ls s (fault_of c w s) refl h g
+    either false = idle_goes c era rules w ls h
 
 -- ---- what a step needs that is taken
 
@@ -189,34 +188,34 @@ runs c w n xs e = not_faulty (is_up n w) _ (first_none _ _ (first_none _ _ e).1)
 
 -- ---- steps that tell nothing
 
-silent : (c : Config) (rules : Rules) (p : Msg → Bool) (ls : List Label) (w v : Cluster) (s : Step) (x : Stepped) → own_labels w s [] ≡ [] → ((who : Callers) → Cluster_goes c rules p who w ls → Cluster_goes c rules p who v ls) → Run_goes c rules p ls w → done [] v ≡ Ok x →
-    Run_goes c rules p (ls ++ record_labels c (traces.labels w s x.lines)) x.cluster
+silent : (c : Config) (era : Era) (rules : Rules) (ls : List Label) (w v : Cluster) (s : Step) (x : Stepped) → own_labels w s [] ≡ [] → ((who : Callers) → Cluster_goes c era rules who w ls → Cluster_goes c era rules who v ls) → Run_goes c era rules ls w → done [] v ≡ Ok x →
+    Run_goes c era rules (ls ++ record_labels c (traces.labels w s x.lines)) x.cluster
 unfolding done traces.labels line_labels
-silent c rules p ls w v s x none f h e =
+silent c era rules ls w v s x none f h e =
     let is : record { cluster = v; lines = [] } ≡ x = cc in
-    subst (λ (y : Stepped). Run_goes c rules p (ls ++ record_labels c (traces.labels w s y.lines)) y.cluster) is
-    (subst (λ (l : List Label). Run_goes c rules p (ls ++ record_labels c (l ++ [])) v) (sym none)
-    (subst (λ (l : List Label). Run_goes c rules p l v) (sym (append-nil ls)) (record { who = h.who; goes = f h.who h.goes; own = h.own })))
+    subst (λ (y : Stepped). Run_goes c era rules (ls ++ record_labels c (traces.labels w s y.lines)) y.cluster) is
+    (subst (λ (l : List Label). Run_goes c era rules (ls ++ record_labels c (l ++ [])) v) (sym none)
+    (subst (λ (l : List Label). Run_goes c era rules l v) (sym (append-nil ls)) (record { who = h.who; goes = f h.who h.goes; own = h.own })))
 
-able_taken : (c : Config) (rules : Rules) (p : Msg → Bool) (w : Cluster) (ls : List Label) (n : ℕ) (able : Bool) → Run_goes c rules p ls w → Taken_goes c rules p w ls (step.Able n able)
+able_taken : (c : Config) (era : Era) (rules : Rules) (w : Cluster) (ls : List Label) (n : ℕ) (able : Bool) → Run_goes c era rules ls w → Taken_goes c era rules w ls (step.Able n able)
 unfolding steps own_labels
-able_taken c rules p w ls n able h x ok e = silent c rules p ls w _ (step.Able n able) x refl (λ who g. able_goes c rules p who w _ ls g) h e
+able_taken c era rules w ls n able h x ok e = silent c era rules ls w _ (step.Able n able) x refl (λ who g. able_goes c era rules who w _ ls g) h e
 
-drop_taken : (c : Config) (rules : Rules) (p : Msg → Bool) (w : Cluster) (ls : List Label) (k : ℕ) → Run_goes c rules p ls w → Taken_goes c rules p w ls (step.Drop k)
+drop_taken : (c : Config) (era : Era) (rules : Rules) (w : Cluster) (ls : List Label) (k : ℕ) → Run_goes c era rules ls w → Taken_goes c era rules w ls (step.Drop k)
 unfolding steps own_labels drop sent_at
-drop_taken c rules p w ls zero h x ok e = silent c rules p ls w w (step.Drop zero) x refl (λ who g. g) h e
-drop_taken c rules p w ls (suc k) h x ok e = either (slice_get w.sent k) refl e
+drop_taken c era rules w ls zero h x ok e = silent c era rules ls w w (step.Drop zero) x refl (λ who g. g) h e
+drop_taken c era rules w ls (suc k) h x ok e = either (slice_get w.sent k) refl e
   where
-    either : (o : Option Sent) → slice_get w.sent k ≡ o → drop (suc k) w o ≡ Ok x → Run_goes c rules p (ls ++ record_labels c (traces.labels w (step.Drop (suc k)) x.lines)) x.cluster
-    either None at r = silent c rules p ls w w (step.Drop (suc k)) x refl (λ who g. g) h r
-    either (Some m) at r = silent c rules p ls w _ (step.Drop (suc k)) x refl (λ who g. fate_goes c rules p who w k m Dropped ls at g) h r
+    either : (o : Option Sent) → slice_get w.sent k ≡ o → drop (suc k) w o ≡ Ok x → Run_goes c era rules (ls ++ record_labels c (traces.labels w (step.Drop (suc k)) x.lines)) x.cluster
+    either None at r = silent c era rules ls w w (step.Drop (suc k)) x refl (λ who g. g) h r
+    either (Some m) at r = silent c era rules ls w _ (step.Drop (suc k)) x refl (λ who g. fate_goes c era rules who w k m Dropped ls at g) h r
 
-yield_taken : (c : Config) (rules : Rules) (p : Msg → Bool) (w : Cluster) (ls : List Label) (n : ℕ) → Run_goes c rules p ls w → Taken_goes c rules p w ls (step.Yield n)
-yield_taken c rules p w ls n h x ok e = absurd (yields_refused c w n h.goes.0.free ok)
+yield_taken : (c : Config) (era : Era) (rules : Rules) (w : Cluster) (ls : List Label) (n : ℕ) → Run_goes c era rules ls w → Taken_goes c era rules w ls (step.Yield n)
+yield_taken c era rules w ls n h x ok e = absurd (yields_refused c w n h.goes.0.free ok)
 
-takeover_taken : (c : Config) (rules : Rules) (p : Msg → Bool) (w : Cluster) (ls : List Label) (n : ℕ) → Run_goes c rules p ls w → Taken_goes c rules p w ls (step.Takeover n)
+takeover_taken : (c : Config) (era : Era) (rules : Rules) (w : Cluster) (ls : List Label) (n : ℕ) → Run_goes c era rules ls w → Taken_goes c era rules w ls (step.Takeover n)
 unfolding fault_of
-takeover_taken c rules p w ls n h x ok e = absurd (takeovers_refused c w n (h.goes.0.nodes n (h.goes.0.up n (runs c w n _ ok))).leads ok)
+takeover_taken c era rules w ls n h x ok e = absurd (takeovers_refused c w n (h.goes.0.nodes n (h.goes.0.up n (runs c w n _ ok))).leads ok)
 
 -- ---- a step of a node
 
@@ -236,66 +235,66 @@ own_more c line [] [] h k = tt
 own_more c line [] (y ∷ ys) h k = (k.0.own, own_more c line [] ys h k.1)
 own_more c line (x ∷ xs) ys h k = (h.0, own_more c line xs ys h.1 k)
 
-pub turn_tells : (c : Config) (rules : Rules) (p : Msg → Bool) (who : Callers) (ls : List Label) (w v : Cluster) (s : Step) (n : ℕ) (u : Turn) (x : Stepped) → AllByRecursion (IsOfLineOne c (Lines.opening c).line) ls →
-    Tells_kept c n (traces.calls_of w s) u → own_labels w s x.lines ≡ [] → x ≡ put n u [] v → Cluster_goes c rules p who x.cluster (ls ++ labels_of n (traces.calls_of w s) u.outs) →
-    Run_goes c rules p (ls ++ record_labels c (traces.labels w s x.lines)) x.cluster
+pub turn_tells : (c : Config) (era : Era) (rules : Rules) (who : Callers) (ls : List Label) (w v : Cluster) (s : Step) (n : ℕ) (u : Turn) (x : Stepped) → AllByRecursion (IsOfLineOne c (Lines.opening c).line) ls →
+    Tells_kept c n (traces.calls_of w s) u → own_labels w s x.lines ≡ [] → x ≡ put n u [] v → Cluster_goes c era rules who x.cluster (ls ++ labels_of n (traces.calls_of w s) u.outs) →
+    Run_goes c era rules (ls ++ record_labels c (traces.labels w s x.lines)) x.cluster
 unfolding traces.labels put
-turn_tells c rules p who ls w v s n u x own kept none is goes =
+turn_tells c era rules who ls w v s n u x own kept none is goes =
     let told : traces.labels w s x.lines ≡ labels_of n (traces.calls_of w s) u.outs =
     ap (λ (l : List Label). l ++ line_labels s (traces.calls_of w s) x.lines) none ∙ ap (λ (y : Stepped). line_labels s (traces.calls_of w s) y.lines) is ∙ lines_tell s (traces.calls_of w s) n _ u.outs in
     let all = ap (λ (l : List Label). record_labels c l) told ∙ all_speak c (Lines.opening c).line _ kept in
-    subst (λ (l : List Label). Run_goes c rules p (ls ++ l) x.cluster) (sym all) (record { who = who; goes = goes; own = own_more c (Lines.opening c).line ls _ own kept })
+    subst (λ (l : List Label). Run_goes c era rules (ls ++ l) x.cluster) (sym all) (record { who = who; goes = goes; own = own_more c (Lines.opening c).line ls _ own kept })
 
 -- a vacuum, where all that the node tells is of records
-pub vacuum_taken : (c : Config) (rules : Rules) (p : Msg → Bool) (w : Cluster) (ls : List Label) (n db : ℕ) → IsConfig c → Tells_kept c n (pending w) (vacuums c n db (begins (node_at n w))) → Run_goes c rules p ls w → Taken_goes c rules p w ls (step.Vacuum n db)
+pub vacuum_taken : (c : Config) (era : Era) (rules : Rules) (w : Cluster) (ls : List Label) (n db : ℕ) → IsConfig c → Tells_kept c n (pending w) (vacuums c n db (begins (node_at n w))) → Run_goes c era rules ls w → Taken_goes c era rules w ls (step.Vacuum n db)
 unfolding fault_of steps own_labels traces.calls_of node_steps.happens
-vacuum_taken c rules p w ls n db is kept h x ok e =
-    turn_tells c rules p h.who ls w w (step.Vacuum n db) n (vacuums c n db (begins (node_at n w))) x h.own kept refl (fed_is c rules n (event.Vacuum db) [] w x e).1
-    (vacuum_fed c rules p h.who w n db ls h.goes.1 x (all_real c is) (all_small c is) h.goes.0 h.goes.2 (runs c w n _ ok) e)
+vacuum_taken c era rules w ls n db is kept h x ok e =
+    turn_tells c era rules h.who ls w w (step.Vacuum n db) n (vacuums c n db (begins (node_at n w))) x h.own kept refl (fed_is c rules n (event.Vacuum db) [] w x e).1
+    (vacuum_fed c era rules h.who w n db ls h.goes.1 x (all_real c era is) (all_small c is) h.goes.0 h.goes.2 (runs c w n _ ok) e)
 
 -- ---- messages
 
 -- what is left to show of a message: what its receiver tells is of records, and a message of a commit lets the run go on
-pub record Left_of_messages (c : Config) (rules : Rules) (p : Msg → Bool) : Type 0 where
-  pub kept : (w : Cluster) (ls : List Label) (k : ℕ) (m : Sent) (r : ℕ × List ℕ) → Run_goes c rules p ls w → slice_get w.sent k ≡ Some m → is_up m.frame.receiver w ≡ true → record_in m.frame.msg ≡ Some r →
+pub record Left_of_messages (c : Config) (era : Era) (rules : Rules) : Type 0 where
+  pub kept : (w : Cluster) (ls : List Label) (k : ℕ) (m : Sent) (r : ℕ × List ℕ) → Run_goes c era rules ls w → slice_get w.sent k ≡ Some m → is_up m.frame.receiver w ≡ true → record_in m.frame.msg ≡ Some r →
       Tells_kept c m.frame.receiver (pending w) (arrives c rules m.frame.receiver m.frame (begins (node_at m.frame.receiver w)) m.frame.msg)
-  pub commit : (w v : Cluster) (ls : List Label) (k : ℕ) (m : Sent) (s : Step) (x : Stepped) → Run_goes c rules p ls v → slice_get v.sent k ≡ Some m → is_up m.frame.receiver v ≡ true → p m.frame.msg ≡ true → traces.calls_of w s ≡ pending v → own_labels w s x.lines ≡ [] →
-      fed c rules m.frame.receiver (event.Arrive m.frame) [] v ≡ Ok x → Run_goes c rules p (ls ++ record_labels c (traces.labels w s x.lines)) x.cluster
+  pub commit : (w v : Cluster) (ls : List Label) (k : ℕ) (m : Sent) (s : Step) (x : Stepped) → Run_goes c era rules ls v → slice_get v.sent k ≡ Some m → is_up m.frame.receiver v ≡ true → p m.frame.msg ≡ true → traces.calls_of w s ≡ pending v → own_labels w s x.lines ≡ [] →
+      fed c rules m.frame.receiver (event.Arrive m.frame) [] v ≡ Ok x → Run_goes c era rules (ls ++ record_labels c (traces.labels w s x.lines)) x.cluster
 
 -- a message comes to its receiver, which runs
-message_taken : (c : Config) (rules : Rules) (p : Msg → Bool) (w v : Cluster) (ls : List Label) (k : ℕ) (m : Sent) (s : Step) (x : Stepped) → IsConfig c → Left_of_messages c rules p → Run_goes c rules p ls v → slice_get v.sent k ≡ Some m → is_up m.frame.receiver v ≡ true →
-    traces.calls_of w s ≡ pending v → own_labels w s x.lines ≡ [] → fed c rules m.frame.receiver (event.Arrive m.frame) [] v ≡ Ok x → Run_goes c rules p (ls ++ record_labels c (traces.labels w s x.lines)) x.cluster
+message_taken : (c : Config) (era : Era) (rules : Rules) (w v : Cluster) (ls : List Label) (k : ℕ) (m : Sent) (s : Step) (x : Stepped) → IsConfig c → Left_of_messages c era rules → Run_goes c era rules ls v → slice_get v.sent k ≡ Some m → is_up m.frame.receiver v ≡ true →
+    traces.calls_of w s ≡ pending v → own_labels w s x.lines ≡ [] → fed c rules m.frame.receiver (event.Arrive m.frame) [] v ≡ Ok x → Run_goes c era rules (ls ++ record_labels c (traces.labels w s x.lines)) x.cluster
 unfolding IsPlain node_steps.happens
-message_taken c rules p w v ls k m s x is rest h at up calls none e = ⊎_elim
+message_taken c era rules w v ls k m s x is rest h at up calls none e = ⊎_elim
     (λ (r : (r : ℕ × List ℕ) × (record_in m.frame.msg ≡ Some r) × Is_sound_mail (record { sender = m.frame.sender; receiver = m.frame.receiver; msg = m.frame.msg })).
-    turn_tells c rules p h.who ls w v s m.frame.receiver (arrives c rules m.frame.receiver m.frame (begins (node_at m.frame.receiver v)) m.frame.msg) x h.own
+    turn_tells c era rules h.who ls w v s m.frame.receiver (arrives c rules m.frame.receiver m.frame (begins (node_at m.frame.receiver v)) m.frame.msg) x h.own
     (subst (λ (l : List PendingCall). Tells_kept c m.frame.receiver l (arrives c rules m.frame.receiver m.frame (begins (node_at m.frame.receiver v)) m.frame.msg)) (sym calls) (rest.kept v ls k m r.0 h at up r.1))
     none (fed_is c rules m.frame.receiver (event.Arrive m.frame) [] v x e).1
-    (subst (λ (l : List PendingCall). Cluster_goes c rules p h.who x.cluster (ls ++ labels_of m.frame.receiver l (arrives c rules m.frame.receiver m.frame (begins (node_at m.frame.receiver v)) m.frame.msg).outs)) (sym calls)
-    (fed_goes c rules p h.who v k m r.0 ls h.goes.1 x (all_real c is) (all_small c is) h.goes.0 h.goes.2 at up r.1 r.2 e)))
+    (subst (λ (l : List PendingCall). Cluster_goes c era rules h.who x.cluster (ls ++ labels_of m.frame.receiver l (arrives c rules m.frame.receiver m.frame (begins (node_at m.frame.receiver v)) m.frame.msg).outs)) (sym calls)
+    (fed_goes c era rules h.who v k m r.0 ls h.goes.1 x (all_real c era is) (all_small c is) h.goes.0 h.goes.2 at up r.1 r.2 e)))
     (λ (q : p m.frame.msg ≡ true). rest.commit w v ls k m s x h at up q calls none e)
-    (plain_at p v.sent k m at h.goes.0.sent)
+    (plain_at era.number v.sent k m at h.goes.0.sent)
 
 -- a message is lost
-lost : (c : Config) (rules : Rules) (p : Msg → Bool) (ls : List Label) (w v : Cluster) (k : ℕ) (s : Step) (x : Stepped) → own_labels w s (line.Lost k ∷ []) ≡ [] → Run_goes c rules p ls v → done (line.Lost k ∷ []) v ≡ Ok x →
-    Run_goes c rules p (ls ++ record_labels c (traces.labels w s x.lines)) x.cluster
+lost : (c : Config) (era : Era) (rules : Rules) (ls : List Label) (w v : Cluster) (k : ℕ) (s : Step) (x : Stepped) → own_labels w s (line.Lost k ∷ []) ≡ [] → Run_goes c era rules ls v → done (line.Lost k ∷ []) v ≡ Ok x →
+    Run_goes c era rules (ls ++ record_labels c (traces.labels w s x.lines)) x.cluster
 unfolding done traces.labels line_labels traces.label_of
-lost c rules p ls w v k s x none h e =
+lost c era rules ls w v k s x none h e =
     let is : record { cluster = v; lines = line.Lost k ∷ [] } ≡ x = cc in
-    subst (λ (y : Stepped). Run_goes c rules p (ls ++ record_labels c (traces.labels w s y.lines)) y.cluster) is
-    (subst (λ (l : List Label). Run_goes c rules p (ls ++ record_labels c (l ++ [])) v) (sym none)
-    (subst (λ (l : List Label). Run_goes c rules p l v) (sym (append-nil ls)) h))
+    subst (λ (y : Stepped). Run_goes c era rules (ls ++ record_labels c (traces.labels w s y.lines)) y.cluster) is
+    (subst (λ (l : List Label). Run_goes c era rules (ls ++ record_labels c (l ++ [])) v) (sym none)
+    (subst (λ (l : List Label). Run_goes c era rules l v) (sym (append-nil ls)) h))
 
-pub repeat_taken : (c : Config) (rules : Rules) (p : Msg → Bool) (w : Cluster) (ls : List Label) (k : ℕ) → IsConfig c → Left_of_messages c rules p → Run_goes c rules p ls w → Taken_goes c rules p w ls (step.Repeat k)
+pub repeat_taken : (c : Config) (era : Era) (rules : Rules) (w : Cluster) (ls : List Label) (k : ℕ) → IsConfig c → Left_of_messages c era rules → Run_goes c era rules ls w → Taken_goes c era rules w ls (step.Repeat k)
 unfolding steps own_labels repeat sent_at traces.calls_of
-repeat_taken c rules p w ls zero is rest h x ok e = silent c rules p ls w w (step.Repeat zero) x refl (λ who g. g) h e
-repeat_taken c rules p w ls (suc k) is rest h x ok e = either (slice_get w.sent k) refl e
+repeat_taken c era rules w ls zero is rest h x ok e = silent c era rules ls w w (step.Repeat zero) x refl (λ who g. g) h e
+repeat_taken c era rules w ls (suc k) is rest h x ok e = either (slice_get w.sent k) refl e
   where
-    either : (o : Option Sent) → slice_get w.sent k ≡ o → repeat c rules (suc k) w o ≡ Ok x → Run_goes c rules p (ls ++ record_labels c (traces.labels w (step.Repeat (suc k)) x.lines)) x.cluster
-    either None at r = silent c rules p ls w w (step.Repeat (suc k)) x refl (λ who g. g) h r
-    either (Some m) at r = cond_both (is_up m.frame.receiver w) (fed c rules m.frame.receiver (event.Arrive m.frame) [] w) (done (line.Lost (suc k) ∷ []) w) (λ (y : Result Stepped StepFault). y ≡ Ok x → Run_goes c rules p (ls ++ record_labels c (traces.labels w (step.Repeat (suc k)) x.lines)) x.cluster)
-        (λ up q. message_taken c rules p w w ls k m (step.Repeat (suc k)) x is rest h at up refl refl q)
-        (λ down q. lost c rules p ls w w (suc k) (step.Repeat (suc k)) x refl h q) r
+    either : (o : Option Sent) → slice_get w.sent k ≡ o → repeat c rules (suc k) w o ≡ Ok x → Run_goes c era rules (ls ++ record_labels c (traces.labels w (step.Repeat (suc k)) x.lines)) x.cluster
+    either None at r = silent c era rules ls w w (step.Repeat (suc k)) x refl (λ who g. g) h r
+    either (Some m) at r = cond_both (is_up m.frame.receiver w) (fed c rules m.frame.receiver (event.Arrive m.frame) [] w) (done (line.Lost (suc k) ∷ []) w) (λ (y : Result Stepped StepFault). y ≡ Ok x → Run_goes c era rules (ls ++ record_labels c (traces.labels w (step.Repeat (suc k)) x.lines)) x.cluster)
+        (λ up q. message_taken c era rules w w ls k m (step.Repeat (suc k)) x is rest h at up refl refl q)
+        (λ down q. lost c era rules ls w w (suc k) (step.Repeat (suc k)) x refl h q) r
 
 set_got : (ss : List Sent) (k : ℕ) (m y : Sent) → slice_get ss k ≡ Some m → slice_get (slice_set ss k y) k ≡ Some y
 set_got [] k m y e = absurd (cc)
@@ -314,29 +313,29 @@ fate_got : (k : ℕ) (m : Sent) (f : Fate) (w : Cluster) → slice_get w.sent k 
 unfolding with_fate
 fate_got k m f w at = set_got w.sent k m (record m { fate = f }) at
 
-run_fate : (c : Config) (rules : Rules) (p : Msg → Bool) (w : Cluster) (ls : List Label) (k : ℕ) (m : Sent) (f : Fate) → slice_get w.sent k ≡ Some m → Run_goes c rules p ls w → Run_goes c rules p ls (with_fate (suc k) m f w)
-run_fate c rules p w ls k m f at h = record { who = h.who; goes = fate_goes c rules p h.who w k m f ls at h.goes; own = h.own }
+run_fate : (c : Config) (era : Era) (rules : Rules) (w : Cluster) (ls : List Label) (k : ℕ) (m : Sent) (f : Fate) → slice_get w.sent k ≡ Some m → Run_goes c era rules ls w → Run_goes c era rules ls (with_fate (suc k) m f w)
+run_fate c era rules w ls k m f at h = record { who = h.who; goes = fate_goes c era rules h.who w k m f ls at h.goes; own = h.own }
 
-pub deliver_taken : (c : Config) (rules : Rules) (p : Msg → Bool) (w : Cluster) (ls : List Label) (k : ℕ) → IsConfig c → Left_of_messages c rules p → Run_goes c rules p ls w → Taken_goes c rules p w ls (step.Deliver k)
+pub deliver_taken : (c : Config) (era : Era) (rules : Rules) (w : Cluster) (ls : List Label) (k : ℕ) → IsConfig c → Left_of_messages c era rules → Run_goes c era rules ls w → Taken_goes c era rules w ls (step.Deliver k)
 unfolding steps own_labels deliver sent_at traces.calls_of
-deliver_taken c rules p w ls zero is rest h x ok e = silent c rules p ls w w (step.Deliver zero) x refl (λ who g. g) h e
-deliver_taken c rules p w ls (suc k) is rest h x ok e = either (slice_get w.sent k) refl e
+deliver_taken c era rules w ls zero is rest h x ok e = silent c era rules ls w w (step.Deliver zero) x refl (λ who g. g) h e
+deliver_taken c era rules w ls (suc k) is rest h x ok e = either (slice_get w.sent k) refl e
   where
-    either : (o : Option Sent) → slice_get w.sent k ≡ o → deliver c rules (suc k) w o ≡ Ok x → Run_goes c rules p (ls ++ record_labels c (traces.labels w (step.Deliver (suc k)) x.lines)) x.cluster
-    either None at r = silent c rules p ls w w (step.Deliver (suc k)) x refl (λ who g. g) h r
-    either (Some m) at r = cond_both (is_up m.frame.receiver w) (fed c rules m.frame.receiver (event.Arrive m.frame) [] (with_fate (suc k) m Delivered w)) (done (line.Lost (suc k) ∷ []) (with_fate (suc k) m Dropped w)) (λ (y : Result Stepped StepFault). y ≡ Ok x → Run_goes c rules p (ls ++ record_labels c (traces.labels w (step.Deliver (suc k)) x.lines)) x.cluster)
-        (λ up q. message_taken c rules p w (with_fate (suc k) m Delivered w) ls k (record m { fate = Delivered }) (step.Deliver (suc k)) x is rest (run_fate c rules p w ls k m Delivered at h) (fate_got k m Delivered w at)
+    either : (o : Option Sent) → slice_get w.sent k ≡ o → deliver c rules (suc k) w o ≡ Ok x → Run_goes c era rules (ls ++ record_labels c (traces.labels w (step.Deliver (suc k)) x.lines)) x.cluster
+    either None at r = silent c era rules ls w w (step.Deliver (suc k)) x refl (λ who g. g) h r
+    either (Some m) at r = cond_both (is_up m.frame.receiver w) (fed c rules m.frame.receiver (event.Arrive m.frame) [] (with_fate (suc k) m Delivered w)) (done (line.Lost (suc k) ∷ []) (with_fate (suc k) m Dropped w)) (λ (y : Result Stepped StepFault). y ≡ Ok x → Run_goes c era rules (ls ++ record_labels c (traces.labels w (step.Deliver (suc k)) x.lines)) x.cluster)
+        (λ up q. message_taken c era rules w (with_fate (suc k) m Delivered w) ls k (record m { fate = Delivered }) (step.Deliver (suc k)) x is rest (run_fate c era rules w ls k m Delivered at h) (fate_got k m Delivered w at)
         (sym (fate_up m.frame.receiver k m Delivered w) ∙ up) (fate_pending k m Delivered w) refl q)
-        (λ down q. lost c rules p ls w (with_fate (suc k) m Dropped w) (suc k) (step.Deliver (suc k)) x refl (run_fate c rules p w ls k m Dropped at h) q) r
+        (λ down q. lost c era rules ls w (with_fate (suc k) m Dropped w) (suc k) (step.Deliver (suc k)) x refl (run_fate c era rules w ls k m Dropped at h) q) r
 
 -- a Retry, where all that the node tells is of records
-pub retry_taken : (c : Config) (rules : Rules) (p : Msg → Bool) (w : Cluster) (ls : List Label) (n : ℕ) → IsConfig c → Updates p → Tells_kept c n (pending w) (retry c n (begins (node_at n w))) → Run_goes c rules p ls w → Taken_goes c rules p w ls (step.Retry n)
+pub retry_taken : (c : Config) (era : Era) (rules : Rules) (w : Cluster) (ls : List Label) (n : ℕ) → IsConfig c → Updates era.number → Tells_kept c n (pending w) (retry c n (begins (node_at n w))) → Run_goes c era rules ls w → Taken_goes c era rules w ls (step.Retry n)
 unfolding fault_of steps own_labels traces.calls_of node_steps.happens
-retry_taken c rules p w ls n is updates kept h x ok e =
+retry_taken c era rules w ls n is updates kept h x ok e =
     let f = fed_is c rules n event.Retry [] w x e in
-    turn_tells c rules p h.who ls w w (step.Retry n) n (retry c n (begins (node_at n w))) x h.own kept refl f.1
-    (subst (λ (y : Stepped). Cluster_goes c rules p h.who y.cluster (ls ++ labels_of n (pending w) (retry c n (begins (node_at n w))).outs)) (sym f.1)
-    (retry_cluster c rules p h.who w n ls h.goes.1 updates (all_real c is) (all_small c is) (runs c w n _ ok) h.goes.0 h.goes.2))
+    turn_tells c era rules h.who ls w w (step.Retry n) n (retry c n (begins (node_at n w))) x h.own kept refl f.1
+    (subst (λ (y : Stepped). Cluster_goes c era rules h.who y.cluster (ls ++ labels_of n (pending w) (retry c n (begins (node_at n w))).outs)) (sym f.1)
+    (retry_cluster c era rules h.who w n ls h.goes.1 updates (all_real c era is) (all_small c is) (runs c w n _ ok) h.goes.0 h.goes.2))
 
 -- ---- calls
 
@@ -349,89 +348,89 @@ unfolding traces.calls_of pending
 counted_calls w n o = refl
 
 -- a call by which the cluster goes on, where all that the node tells is of records and no commit begins
-pub client_taken : (c : Config) (rules : Rules) (p : Msg → Bool) (w : Cluster) (ls : List Label) (n : ℕ) (o : ClientOp) → Tells_kept c n (own_pending n (w.calls + 1) o ∷ pending (counted w)) (client_turn c rules w n o) → ((lines : List Line) → own_labels w (step.Client n o) lines ≡ []) →
-    ((who : Callers) (es : ℕ → List ℕ → List law.Event) → ClusterStays c rules p who w → Schedules c rules w ls es → is_up n w ≡ true → (client_turn c rules w n o).spent ≡ false →
-    Cluster_goes c rules p (called_by n o w who) (put n (client_turn c rules w n o) [] (counted w)).cluster (ls ++ labels_of n (own_pending n (w.calls + 1) o ∷ pending (counted w)) (client_turn c rules w n o).outs)) →
-    Run_goes c rules p ls w → Taken_goes c rules p w ls (step.Client n o)
+pub client_taken : (c : Config) (era : Era) (rules : Rules) (w : Cluster) (ls : List Label) (n : ℕ) (o : ClientOp) → Tells_kept c n (own_pending n (w.calls + 1) o ∷ pending (counted w)) (client_turn c rules w n o) → ((lines : List Line) → own_labels w (step.Client n o) lines ≡ []) →
+    ((who : Callers) (es : ℕ → List ℕ → List law.Event) → ClusterStays c era rules who w → Schedules c era rules w ls es → is_up n w ≡ true → (client_turn c rules w n o).spent ≡ false →
+    Cluster_goes c era rules (called_by n o w who) (put n (client_turn c rules w n o) [] (counted w)).cluster (ls ++ labels_of n (own_pending n (w.calls + 1) o ∷ pending (counted w)) (client_turn c rules w n o).outs)) →
+    Run_goes c era rules ls w → Taken_goes c era rules w ls (step.Client n o)
 unfolding fault_of steps node_steps.happens
-client_taken c rules p w ls n o kept none goes h x ok e =
+client_taken c era rules w ls n o kept none goes h x ok e =
     let f = fed_is c rules n (event.Client (w.calls + 1) o) [] (counted w) x e in
     let u = client_turn c rules w n o in
-    turn_tells c rules p (called_by n o w h.who) ls w (counted w) (step.Client n o) n u x h.own
+    turn_tells c era rules (called_by n o w h.who) ls w (counted w) (step.Client n o) n u x h.own
     (subst (λ (l : List PendingCall). Tells_kept c n l u) (counted_calls w n o) kept) (none x.lines) f.1
-    (subst (λ (l : List PendingCall). Cluster_goes c rules p (called_by n o w h.who) x.cluster (ls ++ labels_of n l u.outs)) (counted_calls w n o)
-    (subst (λ (y : Stepped). Cluster_goes c rules p (called_by n o w h.who) y.cluster (ls ++ labels_of n (own_pending n (w.calls + 1) o ∷ pending (counted w)) u.outs)) (sym f.1)
+    (subst (λ (l : List PendingCall). Cluster_goes c era rules (called_by n o w h.who) x.cluster (ls ++ labels_of n l u.outs)) (counted_calls w n o)
+    (subst (λ (y : Stepped). Cluster_goes c era rules (called_by n o w h.who) y.cluster (ls ++ labels_of n (own_pending n (w.calls + 1) o ∷ pending (counted w)) u.outs)) (sym f.1)
     (goes h.who h.goes.1 h.goes.0 h.goes.2 (runs c w n _ ok) f.0)))
 
 -- a store that is not refused
-pub store_taken : (c : Config) (rules : Rules) (p : Msg → Bool) (w : Cluster) (ls : List Label) (n db : ℕ) (key v : List ℕ) → IsConfig c → refusal c rules (node_at n (counted w)) (op.Store db key v) ≡ None →
-    Tells_kept c n (own_pending n (w.calls + 1) (op.Store db key v) ∷ pending (counted w)) (client_turn c rules w n (op.Store db key v)) → Run_goes c rules p ls w → Taken_goes c rules p w ls (step.Client n (op.Store db key v))
+pub store_taken : (c : Config) (era : Era) (rules : Rules) (w : Cluster) (ls : List Label) (n db : ℕ) (key v : List ℕ) → IsConfig c → refusal c rules (node_at n (counted w)) (op.Store db key v) ≡ None →
+    Tells_kept c n (own_pending n (w.calls + 1) (op.Store db key v) ∷ pending (counted w)) (client_turn c rules w n (op.Store db key v)) → Run_goes c era rules ls w → Taken_goes c era rules w ls (step.Client n (op.Store db key v))
 unfolding own_labels traces.begun_by clients.db_of
-store_taken c rules p w ls n db key v is free kept h =
-    client_taken c rules p w ls n (op.Store db key v) kept (λ lines. refl) (λ who es stays sched up spent. stores_go c rules p who w n db key v ls es (all_real c is) (all_small c is) stays sched up free spent) h
+store_taken c era rules w ls n db key v is free kept h =
+    client_taken c era rules w ls n (op.Store db key v) kept (λ lines. refl) (λ who es stays sched up spent. stores_go c era rules who w n db key v ls es (all_real c era is) (all_small c is) stays sched up free spent) h
 
 -- an unlock that is not refused
-pub unlock_taken : (c : Config) (rules : Rules) (p : Msg → Bool) (w : Cluster) (ls : List Label) (n db : ℕ) (key : List ℕ) → IsConfig c → refusal c rules (node_at n (counted w)) (op.Unlock db key) ≡ None →
-    Tells_kept c n (own_pending n (w.calls + 1) (op.Unlock db key) ∷ pending (counted w)) (client_turn c rules w n (op.Unlock db key)) → Run_goes c rules p ls w → Taken_goes c rules p w ls (step.Client n (op.Unlock db key))
+pub unlock_taken : (c : Config) (era : Era) (rules : Rules) (w : Cluster) (ls : List Label) (n db : ℕ) (key : List ℕ) → IsConfig c → refusal c rules (node_at n (counted w)) (op.Unlock db key) ≡ None →
+    Tells_kept c n (own_pending n (w.calls + 1) (op.Unlock db key) ∷ pending (counted w)) (client_turn c rules w n (op.Unlock db key)) → Run_goes c era rules ls w → Taken_goes c era rules w ls (step.Client n (op.Unlock db key))
 unfolding own_labels traces.begun_by clients.db_of
-unlock_taken c rules p w ls n db key is free kept h =
-    client_taken c rules p w ls n (op.Unlock db key) kept (λ lines. refl) (λ who es stays sched up spent. unlocks_go c rules p who w n db key ls es (all_real c is) (all_small c is) stays sched up free spent) h
+unlock_taken c era rules w ls n db key is free kept h =
+    client_taken c era rules w ls n (op.Unlock db key) kept (λ lines. refl) (λ who es stays sched up spent. unlocks_go c era rules who w n db key ls es (all_real c era is) (all_small c is) stays sched up free spent) h
 
 -- a lock that is not refused
-pub lock_taken : (c : Config) (rules : Rules) (p : Msg → Bool) (w : Cluster) (ls : List Label) (n db : ℕ) (key : List ℕ) → IsConfig c → refusal c rules (node_at n (counted w)) (op.Lock db key) ≡ None →
-    Tells_kept c n (own_pending n (w.calls + 1) (op.Lock db key) ∷ pending (counted w)) (client_turn c rules w n (op.Lock db key)) → Run_goes c rules p ls w → Taken_goes c rules p w ls (step.Client n (op.Lock db key))
+pub lock_taken : (c : Config) (era : Era) (rules : Rules) (w : Cluster) (ls : List Label) (n db : ℕ) (key : List ℕ) → IsConfig c → refusal c rules (node_at n (counted w)) (op.Lock db key) ≡ None →
+    Tells_kept c n (own_pending n (w.calls + 1) (op.Lock db key) ∷ pending (counted w)) (client_turn c rules w n (op.Lock db key)) → Run_goes c era rules ls w → Taken_goes c era rules w ls (step.Client n (op.Lock db key))
 unfolding own_labels traces.begun_by clients.db_of
-lock_taken c rules p w ls n db key is free kept h =
-    client_taken c rules p w ls n (op.Lock db key) kept (λ lines. refl) (λ who es stays sched up spent. wants_go c rules p who w n db key (op.Lock db key) ls es (all_real c is) (all_small c is) stays sched up (has_database c (node_at n (counted w)) (op.Lock db key) (admits c rules (node_at n (counted w)) (op.Lock db key) free)) refl refl free (may_lock c (node_at n (counted w)) db key (admits c rules (node_at n (counted w)) (op.Lock db key) free)) (serves_lock c rules n (w.calls + 1) db key (makes (w.calls + 1) (begins (node_at n (counted w))))) spent) h
+lock_taken c era rules w ls n db key is free kept h =
+    client_taken c era rules w ls n (op.Lock db key) kept (λ lines. refl) (λ who es stays sched up spent. wants_go c era rules who w n db key (op.Lock db key) ls es (all_real c era is) (all_small c is) stays sched up (has_database c (node_at n (counted w)) (op.Lock db key) (admits c rules (node_at n (counted w)) (op.Lock db key) free)) refl refl free (may_lock c (node_at n (counted w)) db key (admits c rules (node_at n (counted w)) (op.Lock db key) free)) (serves_lock c rules n (w.calls + 1) db key (makes (w.calls + 1) (begins (node_at n (counted w))))) spent) h
 
 -- a write that is not refused
-pub write_taken : (c : Config) (rules : Rules) (p : Msg → Bool) (w : Cluster) (ls : List Label) (n db : ℕ) (key v : List ℕ) → IsConfig c → refusal c rules (node_at n (counted w)) (op.Write db key v) ≡ None →
-    Tells_kept c n (own_pending n (w.calls + 1) (op.Write db key v) ∷ pending (counted w)) (client_turn c rules w n (op.Write db key v)) → Run_goes c rules p ls w → Taken_goes c rules p w ls (step.Client n (op.Write db key v))
+pub write_taken : (c : Config) (era : Era) (rules : Rules) (w : Cluster) (ls : List Label) (n db : ℕ) (key v : List ℕ) → IsConfig c → refusal c rules (node_at n (counted w)) (op.Write db key v) ≡ None →
+    Tells_kept c n (own_pending n (w.calls + 1) (op.Write db key v) ∷ pending (counted w)) (client_turn c rules w n (op.Write db key v)) → Run_goes c era rules ls w → Taken_goes c era rules w ls (step.Client n (op.Write db key v))
 unfolding own_labels traces.begun_by clients.db_of
-write_taken c rules p w ls n db key v is free kept h =
-    client_taken c rules p w ls n (op.Write db key v) kept (λ lines. refl) (λ who es stays sched up spent. wants_go c rules p who w n db key (op.Write db key v) ls es (all_real c is) (all_small c is) stays sched up (has_database c (node_at n (counted w)) (op.Write db key v) (admits c rules (node_at n (counted w)) (op.Write db key v) free)) refl refl free (may_write c (node_at n (counted w)) db key v (admits c rules (node_at n (counted w)) (op.Write db key v) free)) (serves_write c rules n (w.calls + 1) db key v (makes (w.calls + 1) (begins (node_at n (counted w))))) spent) h
+write_taken c era rules w ls n db key v is free kept h =
+    client_taken c era rules w ls n (op.Write db key v) kept (λ lines. refl) (λ who es stays sched up spent. wants_go c era rules who w n db key (op.Write db key v) ls es (all_real c era is) (all_small c is) stays sched up (has_database c (node_at n (counted w)) (op.Write db key v) (admits c rules (node_at n (counted w)) (op.Write db key v) free)) refl refl free (may_write c (node_at n (counted w)) db key v (admits c rules (node_at n (counted w)) (op.Write db key v) free)) (serves_write c rules n (w.calls + 1) db key v (makes (w.calls + 1) (begins (node_at n (counted w))))) spent) h
 
 -- a function that is not refused
-pub apply_taken : (c : Config) (rules : Rules) (p : Msg → Bool) (w : Cluster) (ls : List Label) (n db : ℕ) (f : ℕ) (key arg : List ℕ) → IsConfig c → refusal c rules (node_at n (counted w)) (op.Apply db key f arg) ≡ None →
-    Tells_kept c n (own_pending n (w.calls + 1) (op.Apply db key f arg) ∷ pending (counted w)) (client_turn c rules w n (op.Apply db key f arg)) → Run_goes c rules p ls w → Taken_goes c rules p w ls (step.Client n (op.Apply db key f arg))
+pub apply_taken : (c : Config) (era : Era) (rules : Rules) (w : Cluster) (ls : List Label) (n db : ℕ) (f : ℕ) (key arg : List ℕ) → IsConfig c → refusal c rules (node_at n (counted w)) (op.Apply db key f arg) ≡ None →
+    Tells_kept c n (own_pending n (w.calls + 1) (op.Apply db key f arg) ∷ pending (counted w)) (client_turn c rules w n (op.Apply db key f arg)) → Run_goes c era rules ls w → Taken_goes c era rules w ls (step.Client n (op.Apply db key f arg))
 unfolding own_labels traces.begun_by clients.db_of
-apply_taken c rules p w ls n db f key arg is free kept h =
-    client_taken c rules p w ls n (op.Apply db key f arg) kept (λ lines. refl) (λ who es stays sched up spent. wants_go c rules p who w n db key (op.Apply db key f arg) ls es (all_real c is) (all_small c is) stays sched up (has_database c (node_at n (counted w)) (op.Apply db key f arg) (admits c rules (node_at n (counted w)) (op.Apply db key f arg) free)) refl refl free (may_apply c (node_at n (counted w)) db f key arg (admits c rules (node_at n (counted w)) (op.Apply db key f arg) free)) (serves_apply c rules n (w.calls + 1) db f key arg (makes (w.calls + 1) (begins (node_at n (counted w))))) spent) h
+apply_taken c era rules w ls n db f key arg is free kept h =
+    client_taken c era rules w ls n (op.Apply db key f arg) kept (λ lines. refl) (λ who es stays sched up spent. wants_go c era rules who w n db key (op.Apply db key f arg) ls es (all_real c era is) (all_small c is) stays sched up (has_database c (node_at n (counted w)) (op.Apply db key f arg) (admits c rules (node_at n (counted w)) (op.Apply db key f arg) free)) refl refl free (may_apply c (node_at n (counted w)) db f key arg (admits c rules (node_at n (counted w)) (op.Apply db key f arg) free)) (serves_apply c rules n (w.calls + 1) db f key arg (makes (w.calls + 1) (begins (node_at n (counted w))))) spent) h
 
 -- a read of a record that is not refused
-pub read_taken : (c : Config) (rules : Rules) (p : Msg → Bool) (w : Cluster) (ls : List Label) (n db : ℕ) (key : List ℕ) → IsConfig c → is_persistent (kind_at c db) ≡ false → refusal c rules (node_at n (counted w)) (op.Read db key) ≡ None →
-    Tells_kept c n (own_pending n (w.calls + 1) (op.Read db key) ∷ pending (counted w)) (client_turn c rules w n (op.Read db key)) → Run_goes c rules p ls w → Taken_goes c rules p w ls (step.Client n (op.Read db key))
+pub read_taken : (c : Config) (era : Era) (rules : Rules) (w : Cluster) (ls : List Label) (n db : ℕ) (key : List ℕ) → IsConfig c → is_persistent (kind_at c db) ≡ false → refusal c rules (node_at n (counted w)) (op.Read db key) ≡ None →
+    Tells_kept c n (own_pending n (w.calls + 1) (op.Read db key) ∷ pending (counted w)) (client_turn c rules w n (op.Read db key)) → Run_goes c era rules ls w → Taken_goes c era rules w ls (step.Client n (op.Read db key))
 unfolding own_labels traces.begun_by clients.db_of
-read_taken c rules p w ls n db key is kind free kept h =
+read_taken c era rules w ls n db key is kind free kept h =
     let admitted = admits c rules (node_at n (counted w)) (op.Read db key) free in
-    client_taken c rules p w ls n (op.Read db key) kept (λ lines. refl) (λ who es stays sched up spent. wants_go c rules p who w n db key (op.Read db key) ls es (all_real c is) (all_small c is) stays sched up (has_database c (node_at n (counted w)) (op.Read db key) admitted) refl refl free
+    client_taken c era rules w ls n (op.Read db key) kept (λ lines. refl) (λ who es stays sched up spent. wants_go c era rules who w n db key (op.Read db key) ls es (all_real c era is) (all_small c is) stays sched up (has_database c (node_at n (counted w)) (op.Read db key) admitted) refl refl free
     (may_read c (node_at n (counted w)) db key admitted) (serves_read c rules n (w.calls + 1) db key (makes (w.calls + 1) (begins (node_at n (counted w)))) kind) spent) h
 
 -- ---- all steps, from what is left to show of them
 
 -- what is left to show: these steps let the run go on, and what a vacuum tells is of records
-pub record Left_to_show (c : Config) (rules : Rules) (p : Msg → Bool) : Type 0 where
-  pub client : (w : Cluster) (ls : List Label) (n : ℕ) (o : ClientOp) → Run_goes c rules p ls w → Taken_goes c rules p w ls (step.Client n o)
-  pub updates : Updates p
-  pub retry : (w : Cluster) (ls : List Label) (n : ℕ) → Run_goes c rules p ls w → is_up n w ≡ true → Tells_kept c n (pending w) (retry c n (begins (node_at n w)))
-  pub messages : Left_of_messages c rules p
-  pub vacuum : (w : Cluster) (ls : List Label) (n db : ℕ) → Run_goes c rules p ls w → is_up n w ≡ true → Tells_kept c n (pending w) (vacuums c n db (begins (node_at n w)))
+pub record Left_to_show (c : Config) (era : Era) (rules : Rules) : Type 0 where
+  pub client : (w : Cluster) (ls : List Label) (n : ℕ) (o : ClientOp) → Run_goes c era rules ls w → Taken_goes c era rules w ls (step.Client n o)
+  pub updates : Updates era.number
+  pub retry : (w : Cluster) (ls : List Label) (n : ℕ) → Run_goes c era rules ls w → is_up n w ≡ true → Tells_kept c n (pending w) (retry c n (begins (node_at n w)))
+  pub messages : Left_of_messages c era rules
+  pub vacuum : (w : Cluster) (ls : List Label) (n db : ℕ) → Run_goes c era rules ls w → is_up n w ≡ true → Tells_kept c n (pending w) (vacuums c n db (begins (node_at n w)))
 
-pub each_goes : (c : Config) (rules : Rules) (p : Msg → Bool) → IsConfig c → Left_to_show c rules p → Each_goes c rules p
+pub each_goes : (c : Config) (era : Era) (rules : Rules) → IsConfig c → Left_to_show c era rules → Each_goes c era rules
 unfolding is_of_one_generation fault_of
-each_goes c rules p is rest w ls (step.Client n o) e h = step_goes c rules p w ls (step.Client n o) h (rest.client w ls n o h)
-each_goes c rules p is rest w ls (step.Deliver k) e h = step_goes c rules p w ls (step.Deliver k) h (deliver_taken c rules p w ls k is rest.messages h)
-each_goes c rules p is rest w ls (step.Drop k) e h = step_goes c rules p w ls (step.Drop k) h (drop_taken c rules p w ls k h)
-each_goes c rules p is rest w ls (step.Repeat k) e h = step_goes c rules p w ls (step.Repeat k) h (repeat_taken c rules p w ls k is rest.messages h)
-each_goes c rules p is rest w ls (step.Retry n) e h = step_goes c rules p w ls (step.Retry n) h (λ x ok. retry_taken c rules p w ls n is rest.updates (rest.retry w ls n h (runs c w n _ ok)) h x ok)
-each_goes c rules p is rest w ls (step.Vacuum n db) e h = step_goes c rules p w ls (step.Vacuum n db) h (λ x ok. vacuum_taken c rules p w ls n db is (rest.vacuum w ls n db h (runs c w n _ ok)) h x ok)
-each_goes c rules p is rest w ls (step.Recover n members) e h = absurd (cc)
-each_goes c rules p is rest w ls (step.Yield n) e h = step_goes c rules p w ls (step.Yield n) h (yield_taken c rules p w ls n h)
-each_goes c rules p is rest w ls (step.Stop n) e h = absurd (cc)
-each_goes c rules p is rest w ls (step.Start n) e h = absurd (cc)
-each_goes c rules p is rest w ls (step.Takeover n) e h = step_goes c rules p w ls (step.Takeover n) h (takeover_taken c rules p w ls n h)
-each_goes c rules p is rest w ls (step.Able n able) e h = step_goes c rules p w ls (step.Able n able) h (able_taken c rules p w ls n able h)
+each_goes c era rules is rest w ls (step.Client n o) e h = step_goes c era rules w ls (step.Client n o) h (rest.client w ls n o h)
+each_goes c era rules is rest w ls (step.Deliver k) e h = step_goes c era rules w ls (step.Deliver k) h (deliver_taken c era rules w ls k is rest.messages h)
+each_goes c era rules is rest w ls (step.Drop k) e h = step_goes c era rules w ls (step.Drop k) h (drop_taken c era rules w ls k h)
+each_goes c era rules is rest w ls (step.Repeat k) e h = step_goes c era rules w ls (step.Repeat k) h (repeat_taken c era rules w ls k is rest.messages h)
+each_goes c era rules is rest w ls (step.Retry n) e h = step_goes c era rules w ls (step.Retry n) h (λ x ok. retry_taken c era rules w ls n is rest.updates (rest.retry w ls n h (runs c w n _ ok)) h x ok)
+each_goes c era rules is rest w ls (step.Vacuum n db) e h = step_goes c era rules w ls (step.Vacuum n db) h (λ x ok. vacuum_taken c era rules w ls n db is (rest.vacuum w ls n db h (runs c w n _ ok)) h x ok)
+each_goes c era rules is rest w ls (step.Recover n members) e h = absurd (cc)
+each_goes c era rules is rest w ls (step.Yield n) e h = step_goes c era rules w ls (step.Yield n) h (yield_taken c era rules w ls n h)
+each_goes c era rules is rest w ls (step.Stop n) e h = absurd (cc)
+each_goes c era rules is rest w ls (step.Start n) e h = absurd (cc)
+each_goes c era rules is rest w ls (step.Takeover n) e h = step_goes c era rules w ls (step.Takeover n) h (takeover_taken c era rules w ls n h)
+each_goes c era rules is rest w ls (step.Able n able) e h = step_goes c era rules w ls (step.Able n able) h (able_taken c era rules w ls n able h)
 
 -- so the promise follows from what is left to show
-pub promise_follows : (p : Msg → Bool) → ((c : Config) (rules : Rules) → IsConfig c → Left_to_show c rules p) → PromiseOfOneGeneration
-promise_follows p rest = promised p (λ c rules is. each_goes c rules p is (rest c rules is))
+pub promise_follows : (g : ℕ) → ((c : Config) (rules : Rules) → IsConfig c → Left_to_show c era rules) → PromiseOfOneGeneration
+promise_follows g rest = promised g (λ c rules is. each_goes c era rules is (rest c rules is))

@@ -44,7 +44,7 @@ use Rattle.ct_register.specs.Legal.{db_of, kind_at}
 use Rattle.ct_promise.specs.Generation.{speaks_of_records, record_labels}
 use Rattle.ct_law_record.specs.World as law
 use Rattle.ct_law_record.specs.World.{View, Mail, World}
-use Rattle.ct_law_generation.specs.Shown.{scene, view, mail_of, mails, labels_of, amid, project, Schedules}
+use Rattle.ct_law_generation.specs.Shown.{Era, scene, view, mail_of, mails, labels_of, amid, project, Schedules}
 use Rattle.ct_law_generation.proofs.Hearing.{frames_more, mails_more, labels_more}
 use Rattle.ct_law_generation.proofs.Plain.{IsPlain, AllPlain, plain_more}
 use Rattle.ct_law_generation.proofs.Pending.{Callers, Fits, KnownAt, CommitFits, DatabaseKnown, NodeKnown, pending_fits}
@@ -98,9 +98,9 @@ database_with who calls n db d x node h s f = ⊎_elim
     (cases_eq d db)
 
 -- where the commit that waits then is known, what holds of the node stays
-pub stays_with : (c : Config) (rules : Rules) (who : Callers) (calls n db : ℕ) (x : Database) (node : Node) → NodeStays c rules who calls n node → Same_records x (db_at db node) → CommitFits who calls n db x.commit → NodeStays c rules who calls n (with_db db x node)
+pub stays_with : (c : Config) (era : Era) (rules : Rules) (who : Callers) (calls n db : ℕ) (x : Database) (node : Node) → NodeStays c era rules who calls n node → Same_records x (db_at db node) → CommitFits who calls n db x.commit → NodeStays c era rules who calls n (with_db db x node)
 unfolding with_db db_at AllAscend
-stays_with c rules who calls n db x node h s f = record {
+stays_with c era rules who calls n db x node h s f = record {
   serving = h.serving;
   members = h.members;
   leads = h.leads;
@@ -109,7 +109,7 @@ stays_with c rules who calls n db x node h s f = record {
     order = all_set (λ d. Ascends d.records) node.dbs db x (subst (λ m. Ascends m) (sym s.0) (at_ascends node.dbs db h.known.order)) h.known.order;
     dbs = λ d. database_with who calls n db d x node h.known s f;
   };
-  formed = λ d key. subst (λ (v : View). Is_formed (scene c rules d key) n v) (sym (view_with db d key x node s)) (h.formed d key);
+  formed = λ d key. subst (λ (v : View). Is_formed (scene c era rules d key) n v) (sym (view_with db d key x node s)) (h.formed d key);
 }
 
 -- ---- the step
@@ -124,20 +124,20 @@ filter_more f (x ∷ xs) ys = first (f x) (filter_more f xs ys)
 
 -- What follows of a step on the persistent side: the node stays as it was, no record sees it or gets mail, what is sent is
 -- plain, and nothing is told of records.
-pub record Goes_beside (c : Config) (rules : Rules) (who : Callers) (calls n : ℕ) (pend : List PendingCall) (p : Msg → Bool) (t u : Turn) : Type 0 where
-  pub stays : NodeStays c rules who calls n t.node → NodeStays c rules who calls n u.node
+pub record Goes_beside (c : Config) (era : Era) (rules : Rules) (who : Callers) (calls n : ℕ) (pend : List PendingCall) (t u : Turn) : Type 0 where
+  pub stays : NodeStays c era rules who calls n t.node → NodeStays c era rules who calls n u.node
   pub views : (db : ℕ) (key : List ℕ) → view db key u.node ≡ view db key t.node
-  pub mail : (db : ℕ) (key : List ℕ) → mails db key (frames_of u.outs) ≡ mails db key (frames_of t.outs)
-  pub plain : AllPlain p (frames_of t.outs) → AllPlain p (frames_of u.outs)
+  pub mail : (db : ℕ) (key : List ℕ) → mails era.number db key (frames_of u.outs) ≡ mails era.number db key (frames_of t.outs)
+  pub plain : AllPlain era.number (frames_of t.outs) → AllPlain era.number (frames_of u.outs)
   pub untold : record_labels c (labels_of n pend u.outs) ≡ record_labels c (labels_of n pend t.outs)
 
 -- nothing happens
-pub beside_none : (c : Config) (rules : Rules) (who : Callers) (calls n : ℕ) (pend : List PendingCall) (p : Msg → Bool) (t : Turn) → Goes_beside c rules who calls n pend p t t
-beside_none c rules who calls n pend p t = record { stays = λ h. h; views = λ db key. refl; mail = λ db key. refl; plain = λ h. h; untold = refl }
+pub beside_none : (c : Config) (era : Era) (rules : Rules) (who : Callers) (calls n : ℕ) (pend : List PendingCall) (t : Turn) → Goes_beside c era rules who calls n pend t t
+beside_none c era rules who calls n pend t = record { stays = λ h. h; views = λ db key. refl; mail = λ db key. refl; plain = λ h. h; untold = refl }
 
 -- one after the other
-pub beside_then : (c : Config) (rules : Rules) (who : Callers) (calls n : ℕ) (pend : List PendingCall) (p : Msg → Bool) (t u v : Turn) → Goes_beside c rules who calls n pend p t u → Goes_beside c rules who calls n pend p u v → Goes_beside c rules who calls n pend p t v
-beside_then c rules who calls n pend p t u v g h = record {
+pub beside_then : (c : Config) (era : Era) (rules : Rules) (who : Callers) (calls n : ℕ) (pend : List PendingCall) (t u v : Turn) → Goes_beside c era rules who calls n pend t u → Goes_beside c era rules who calls n pend u v → Goes_beside c era rules who calls n pend t v
+beside_then c era rules who calls n pend t u v g h = record {
   stays = λ k. h.stays (g.stays k);
   views = λ db key. h.views db key ∙ g.views db key;
   mail = λ db key. h.mail db key ∙ g.mail db key;
@@ -145,16 +145,16 @@ beside_then c rules who calls n pend p t u v g h = record {
   untold = h.untold ∙ g.untold;
 }
 
-makes_beside : (c : Config) (rules : Rules) (who : Callers) (calls n : ℕ) (pend : List PendingCall) (p : Msg → Bool) (number : ℕ) (t : Turn) → Goes_beside c rules who calls n pend p t (makes number t)
+makes_beside : (c : Config) (era : Era) (rules : Rules) (who : Callers) (calls n : ℕ) (pend : List PendingCall) (number : ℕ) (t : Turn) → Goes_beside c era rules who calls n pend t (makes number t)
 unfolding makes
-makes_beside c rules who calls n pend p number t = record { stays = λ h. h; views = λ db key. refl; mail = λ db key. refl; plain = λ h. h; untold = refl }
+makes_beside c era rules who calls n pend number t = record { stays = λ h. h; views = λ db key. refl; mail = λ db key. refl; plain = λ h. h; untold = refl }
 
 -- another state of a database, with the records and the floor that it had
-db_beside : (c : Config) (rules : Rules) (who : Callers) (calls n : ℕ) (pend : List PendingCall) (p : Msg → Bool) (db : ℕ) (x : Database) (t : Turn) → Same_records x (db_at db t.node) →
-    (CommitFits who calls n db (db_at db t.node).commit → CommitFits who calls n db x.commit) → Goes_beside c rules who calls n pend p t (with_node (with_db db x t.node) t)
+db_beside : (c : Config) (era : Era) (rules : Rules) (who : Callers) (calls n : ℕ) (pend : List PendingCall) (db : ℕ) (x : Database) (t : Turn) → Same_records x (db_at db t.node) →
+    (CommitFits who calls n db (db_at db t.node).commit → CommitFits who calls n db x.commit) → Goes_beside c era rules who calls n pend t (with_node (with_db db x t.node) t)
 unfolding with_node
-db_beside c rules who calls n pend p db x t s f = record {
-  stays = λ h. stays_with c rules who calls n db x t.node h s (f (h.known.dbs db).commit);
+db_beside c era rules who calls n pend db x t s f = record {
+  stays = λ h. stays_with c era rules who calls n db x t.node h s (f (h.known.dbs db).commit);
   views = λ d key. view_with db d key x t.node s;
   mail = λ db key. refl;
   plain = λ h. h;
@@ -162,15 +162,15 @@ db_beside c rules who calls n pend p db x t s f = record {
 }
 
 -- one thing more that the node does
-does_beside : (c : Config) (rules : Rules) (who : Callers) (calls n : ℕ) (pend : List PendingCall) (p : Msg → Bool) (x : Out) (t : Turn) → ((db : ℕ) (key : List ℕ) → mails db key (frames_of (x ∷ [])) ≡ []) →
-    AllPlain p (frames_of (x ∷ [])) → record_labels c (labels_of n pend (x ∷ [])) ≡ [] → Goes_beside c rules who calls n pend p t (does x t)
+does_beside : (c : Config) (era : Era) (rules : Rules) (who : Callers) (calls n : ℕ) (pend : List PendingCall) (x : Out) (t : Turn) → ((db : ℕ) (key : List ℕ) → mails era.number db key (frames_of (x ∷ [])) ≡ []) →
+    AllPlain era.number (frames_of (x ∷ [])) → record_labels c (labels_of n pend (x ∷ [])) ≡ [] → Goes_beside c era rules who calls n pend t (does x t)
 unfolding does
-does_beside c rules who calls n pend p x t quiet plain untold = record {
+does_beside c era rules who calls n pend x t quiet plain untold = record {
   stays = λ h. h;
   views = λ db key. refl;
-  mail = λ db key. ap (λ (l : List Sent). mails db key l) (frames_more t.outs (x ∷ [])) ∙ mails_more db key (frames_of t.outs) (frames_of (x ∷ []))
-      ∙ ap (λ (l : List Mail). mails db key (frames_of t.outs) ++ l) (quiet db key) ∙ append-nil _;
-  plain = λ h. subst (λ (l : List Sent). AllPlain p l) (sym (frames_more t.outs (x ∷ []))) (plain_more p (frames_of t.outs) (frames_of (x ∷ [])) h plain);
+  mail = λ db key. ap (λ (l : List Sent). mails era.number db key l) (frames_more t.outs (x ∷ [])) ∙ mails_more era.number db key (frames_of t.outs) (frames_of (x ∷ []))
+      ∙ ap (λ (l : List Mail). mails era.number db key (frames_of t.outs) ++ l) (quiet db key) ∙ append-nil _;
+  plain = λ h. subst (λ (l : List Sent). AllPlain era.number l) (sym (frames_more t.outs (x ∷ []))) (plain_more era.number (frames_of t.outs) (frames_of (x ∷ [])) h plain);
   untold = ap (λ (l : List Label). record_labels c l) (labels_more n pend t.outs (x ∷ [])) ∙ filter_more (speaks_of_records c) (labels_of n pend t.outs) (labels_of n pend (x ∷ []))
       ∙ ap (λ (l : List Label). record_labels c (labels_of n pend t.outs) ++ l) untold ∙ append-nil _;
 }
@@ -179,97 +179,97 @@ does_beside c rules who calls n pend p x t quiet plain untold = record {
 abbrev pub Untold : Config → List PendingCall → ℕ → Type 0
 Untold c pend call = (a : Answer) → record_labels c (answered call a pend) ≡ []
 
-answers_beside : (c : Config) (rules : Rules) (who : Callers) (calls n : ℕ) (pend : List PendingCall) (p : Msg → Bool) (call : ℕ) (a : Answer) (t : Turn) → Untold c pend call → Goes_beside c rules who calls n pend p t (answers call a t)
+answers_beside : (c : Config) (era : Era) (rules : Rules) (who : Callers) (calls n : ℕ) (pend : List PendingCall) (call : ℕ) (a : Answer) (t : Turn) → Untold c pend call → Goes_beside c era rules who calls n pend t (answers call a t)
 unfolding answers frames_of mails labels_of
-answers_beside c rules who calls n pend p call a t h = does_beside c rules who calls n pend p (out.Answer call a) t (λ db key. refl) tt (ap (λ (l : List Label). record_labels c l) (append-nil _) ∙ h a)
+answers_beside c era rules who calls n pend call a t h = does_beside c era rules who calls n pend (out.Answer call a) t (λ db key. refl) tt (ap (λ (l : List Label). record_labels c l) (append-nil _) ∙ h a)
 
 -- the message speaks of no record, and is one of commits
-record Is_beside (p : Msg → Bool) (n g : ℕ) (m : Msg) : Type 0 where
+record Is_beside (n g : ℕ) (m : Msg) : Type 0 where
   pub no_record : record_in m ≡ None
   pub no_label : sent_label n g m ≡ []
   pub allowed : p m ≡ true
 
-posts_beside : (c : Config) (rules : Rules) (who : Callers) (calls n : ℕ) (pend : List PendingCall) (p : Msg → Bool) (g receiver : ℕ) (m : Msg) (t : Turn) → Is_beside p n g m → Goes_beside c rules who calls n pend p t (posts g n receiver m t)
+posts_beside : (c : Config) (era : Era) (rules : Rules) (who : Callers) (calls n : ℕ) (pend : List PendingCall) (g receiver : ℕ) (m : Msg) (t : Turn) → Is_beside n g m → Goes_beside c era rules who calls n pend t (posts g n receiver m t)
 unfolding posts frames_of mails mail_of labels_of IsPlain
-posts_beside c rules who calls n pend p g receiver m t h = does_beside c rules who calls n pend p (out.Send (record { generation = g; sender = n; receiver = receiver; msg = m })) t
-    (λ db key. ap (λ (r : Option (ℕ × List ℕ)). mail_of db key (record { generation = g; sender = n; receiver = receiver; msg = m }) r ++ []) h.no_record)
+posts_beside c era rules who calls n pend g receiver m t h = does_beside c era rules who calls n pend (out.Send (record { generation = g; sender = n; receiver = receiver; msg = m })) t
+    (λ db key. ap (λ (r : Option (ℕ × List ℕ)). mail_of era.number db key (record { generation = g; sender = n; receiver = receiver; msg = m }) r ++ []) h.no_record)
     (inr h.allowed, tt)
     (ap (λ (l : List Label). record_labels c (l ++ [])) h.no_label)
 
-posts_all_beside : (c : Config) (rules : Rules) (who : Callers) (calls n : ℕ) (pend : List PendingCall) (p : Msg → Bool) (g : ℕ) (ns : List ℕ) (m : Msg) (t : Turn) → Is_beside p n g m → Goes_beside c rules who calls n pend p t (posts_all g n ns m t)
+posts_all_beside : (c : Config) (era : Era) (rules : Rules) (who : Callers) (calls n : ℕ) (pend : List PendingCall) (g : ℕ) (ns : List ℕ) (m : Msg) (t : Turn) → Is_beside n g m → Goes_beside c era rules who calls n pend t (posts_all g n ns m t)
 unfolding posts_all
-posts_all_beside c rules who calls n pend p g [] m t h = beside_none c rules who calls n pend p t
-posts_all_beside c rules who calls n pend p g (r ∷ ns) m t h =
-    beside_then c rules who calls n pend p t (posts g n r m t) (posts_all g n ns m (posts g n r m t)) (posts_beside c rules who calls n pend p g r m t h) (posts_all_beside c rules who calls n pend p g ns m (posts g n r m t) h)
+posts_all_beside c era rules who calls n pend g [] m t h = beside_none c era rules who calls n pend t
+posts_all_beside c era rules who calls n pend g (r ∷ ns) m t h =
+    beside_then c era rules who calls n pend t (posts g n r m t) (posts_all g n ns m (posts g n r m t)) (posts_beside c era rules who calls n pend g r m t h) (posts_all_beside c era rules who calls n pend g ns m (posts g n r m t) h)
 
 -- ---- what a persistent database does
 
 -- the messages of a commit are allowed
-pub record Allows_commits (p : Msg → Bool) : Type 0 where
+pub record Allows_commits (g : ℕ) : Type 0 where
   pub update : (db seq : ℕ) (writes : List Pair) → p (msg.PUpdate db seq writes) ≡ true
   pub ack : (db seq : ℕ) → p (msg.PAck db seq) ≡ true
 
-updates_beside : (c : Config) (rules : Rules) (who : Callers) (calls n : ℕ) (pend : List PendingCall) (p : Msg → Bool) (db seq : ℕ) (writes : List Pair) (t : Turn) → Goes_beside c rules who calls n pend p t (updates db seq writes t)
+updates_beside : (c : Config) (era : Era) (rules : Rules) (who : Callers) (calls n : ℕ) (pend : List PendingCall) (db seq : ℕ) (writes : List Pair) (t : Turn) → Goes_beside c era rules who calls n pend t (updates db seq writes t)
 unfolding updates
-updates_beside c rules who calls n pend p db seq writes t = db_beside c rules who calls n pend p db (record (db_at db t.node) { store = updated seq writes (db_at db t.node).store }) t (refl, refl) (λ f. f)
+updates_beside c era rules who calls n pend db seq writes t = db_beside c era rules who calls n pend db (record (db_at db t.node) { store = updated seq writes (db_at db t.node).store }) t (refl, refl) (λ f. f)
 
-with_commit_beside : (c : Config) (rules : Rules) (who : Callers) (calls n : ℕ) (pend : List PendingCall) (p : Msg → Bool) (db : ℕ) (x : Option Committing) (t : Turn) → CommitFits who calls n db x → Goes_beside c rules who calls n pend p t (with_commit db x t)
+with_commit_beside : (c : Config) (era : Era) (rules : Rules) (who : Callers) (calls n : ℕ) (pend : List PendingCall) (db : ℕ) (x : Option Committing) (t : Turn) → CommitFits who calls n db x → Goes_beside c era rules who calls n pend t (with_commit db x t)
 unfolding with_commit
-with_commit_beside c rules who calls n pend p db x t f = db_beside c rules who calls n pend p db (record (db_at db t.node) { commit = x }) t (refl, refl) (λ _. f)
+with_commit_beside c era rules who calls n pend db x t f = db_beside c era rules who calls n pend db (record (db_at db t.node) { commit = x }) t (refl, refl) (λ _. f)
 
-awaits_beside : (c : Config) (rules : Rules) (who : Callers) (calls n : ℕ) (pend : List PendingCall) (p : Msg → Bool) (call db seq : ℕ) (writes : List Pair) (ns : List ℕ) (t : Turn) → Allows_commits p → Untold c pend call → who call ≡ (n, op.Commit db writes) → call ≤ calls →
-    Goes_beside c rules who calls n pend p t (awaits_others n call db seq writes ns t)
+awaits_beside : (c : Config) (era : Era) (rules : Rules) (who : Callers) (calls n : ℕ) (pend : List PendingCall) (call db seq : ℕ) (writes : List Pair) (ns : List ℕ) (t : Turn) → Allows_commits era.number → Untold c pend call → who call ≡ (n, op.Commit db writes) → call ≤ calls →
+    Goes_beside c era rules who calls n pend t (awaits_others n call db seq writes ns t)
 unfolding awaits_others CommitFits record_in sent_label
-awaits_beside c rules who calls n pend p call db seq writes [] t ok untold own l = answers_beside c rules who calls n pend p call (answer.Committed seq) t untold
-awaits_beside c rules who calls n pend p call db seq writes (r ∷ ns) t ok untold own l =
+awaits_beside c era rules who calls n pend call db seq writes [] t ok untold own l = answers_beside c era rules who calls n pend call (answer.Committed seq) t untold
+awaits_beside c era rules who calls n pend call db seq writes (r ∷ ns) t ok untold own l =
     let x : Committing = record { call = call; writes = writes; pending = begun seq (r ∷ ns) } in
     let u = with_commit db (Some x) t in
-    beside_then c rules who calls n pend p t u (posts_all t.node.generation n (r ∷ ns) (msg.PUpdate db seq writes) u)
-    (with_commit_beside c rules who calls n pend p db (Some x) t (own, l))
-    (posts_all_beside c rules who calls n pend p t.node.generation (r ∷ ns) (msg.PUpdate db seq writes) u (record { no_record = refl; no_label = refl; allowed = ok.update db seq writes }))
+    beside_then c era rules who calls n pend t u (posts_all t.node.generation n (r ∷ ns) (msg.PUpdate db seq writes) u)
+    (with_commit_beside c era rules who calls n pend db (Some x) t (own, l))
+    (posts_all_beside c era rules who calls n pend t.node.generation (r ∷ ns) (msg.PUpdate db seq writes) u (record { no_record = refl; no_label = refl; allowed = ok.update db seq writes }))
 
 -- a commit
-pub commit_beside : (c : Config) (rules : Rules) (who : Callers) (calls n : ℕ) (pend : List PendingCall) (p : Msg → Bool) (call db : ℕ) (writes : List Pair) (t : Turn) → Allows_commits p → Untold c pend call → who call ≡ (n, op.Commit db writes) → call ≤ calls →
-    Goes_beside c rules who calls n pend p t (commit n call db writes t)
+pub commit_beside : (c : Config) (era : Era) (rules : Rules) (who : Callers) (calls n : ℕ) (pend : List PendingCall) (call db : ℕ) (writes : List Pair) (t : Turn) → Allows_commits era.number → Untold c pend call → who call ≡ (n, op.Commit db writes) → call ≤ calls →
+    Goes_beside c era rules who calls n pend t (commit n call db writes t)
 unfolding commit commits_at
-commit_beside c rules who calls n pend p call db writes t ok untold own l =
+commit_beside c era rules who calls n pend call db writes t ok untold own l =
     let seq = (db_at db t.node).store.seq + 1 in
     let u = makes seq t in
     let v = updates db seq writes u in
-    beside_then c rules who calls n pend p t u (awaits_others n call db seq writes (without n t.node.members) v) (makes_beside c rules who calls n pend p seq t)
-    (beside_then c rules who calls n pend p u v (awaits_others n call db seq writes (without n t.node.members) v) (updates_beside c rules who calls n pend p db seq writes u)
-    (awaits_beside c rules who calls n pend p call db seq writes (without n t.node.members) v ok untold own l))
+    beside_then c era rules who calls n pend t u (awaits_others n call db seq writes (without n t.node.members) v) (makes_beside c era rules who calls n pend seq t)
+    (beside_then c era rules who calls n pend u v (awaits_others n call db seq writes (without n t.node.members) v) (updates_beside c era rules who calls n pend db seq writes u)
+    (awaits_beside c era rules who calls n pend call db seq writes (without n t.node.members) v ok untold own l))
 
 -- a read of a pair
-pub read_pair_beside : (c : Config) (rules : Rules) (who : Callers) (calls n : ℕ) (pend : List PendingCall) (p : Msg → Bool) (call db : ℕ) (key : List ℕ) (t : Turn) → Untold c pend call → Goes_beside c rules who calls n pend p t (read_pair call db key t)
+pub read_pair_beside : (c : Config) (era : Era) (rules : Rules) (who : Callers) (calls n : ℕ) (pend : List PendingCall) (call db : ℕ) (key : List ℕ) (t : Turn) → Untold c pend call → Goes_beside c era rules who calls n pend t (read_pair call db key t)
 unfolding read_pair
-read_pair_beside c rules who calls n pend p call db key t untold = answers_beside c rules who calls n pend p call _ t untold
+read_pair_beside c era rules who calls n pend call db key t untold = answers_beside c era rules who calls n pend call _ t untold
 
 -- PUpdate
-pub pupdate_beside : (c : Config) (rules : Rules) (who : Callers) (calls n : ℕ) (pend : List PendingCall) (p : Msg → Bool) (sender db seq : ℕ) (writes : List Pair) (t : Turn) → Allows_commits p → Goes_beside c rules who calls n pend p t (on_pupdate n sender db seq writes t)
+pub pupdate_beside : (c : Config) (era : Era) (rules : Rules) (who : Callers) (calls n : ℕ) (pend : List PendingCall) (sender db seq : ℕ) (writes : List Pair) (t : Turn) → Allows_commits era.number → Goes_beside c era rules who calls n pend t (on_pupdate n sender db seq writes t)
 unfolding on_pupdate acknowledges record_in sent_label
-pupdate_beside c rules who calls n pend p sender db seq writes t ok =
+pupdate_beside c era rules who calls n pend sender db seq writes t ok =
     let u = updates db seq writes t in
-    beside_then c rules who calls n pend p t u (acknowledges n sender db seq u) (updates_beside c rules who calls n pend p db seq writes t)
-    (cond_both (nat_le seq (db_at db u.node).store.seq) (posts u.node.generation n sender (msg.PAck db seq) u) u (λ (v : Turn). Goes_beside c rules who calls n pend p u v)
-    (λ _. posts_beside c rules who calls n pend p u.node.generation sender (msg.PAck db seq) u (record { no_record = refl; no_label = refl; allowed = ok.ack db seq }))
-    (λ _. beside_none c rules who calls n pend p u))
+    beside_then c era rules who calls n pend t u (acknowledges n sender db seq u) (updates_beside c era rules who calls n pend db seq writes t)
+    (cond_both (nat_le seq (db_at db u.node).store.seq) (posts u.node.generation n sender (msg.PAck db seq) u) u (λ (v : Turn). Goes_beside c era rules who calls n pend u v)
+    (λ _. posts_beside c era rules who calls n pend u.node.generation sender (msg.PAck db seq) u (record { no_record = refl; no_label = refl; allowed = ok.ack db seq }))
+    (λ _. beside_none c era rules who calls n pend u))
 
-pack_of_beside : (c : Config) (rules : Rules) (who : Callers) (calls n : ℕ) (pend : List PendingCall) (p : Msg → Bool) (sender db seq : ℕ) (t : Turn) (x : Option Committing) → CommitFits who calls n db x →
-    ((call : ℕ) (writes : List Pair) → who call ≡ (n, op.Commit db writes) → Untold c pend call) → Goes_beside c rules who calls n pend p t (on_pack_of sender db seq t x)
+pack_of_beside : (c : Config) (era : Era) (rules : Rules) (who : Callers) (calls n : ℕ) (pend : List PendingCall) (sender db seq : ℕ) (t : Turn) (x : Option Committing) → CommitFits who calls n db x →
+    ((call : ℕ) (writes : List Pair) → who call ≡ (n, op.Commit db writes) → Untold c pend call) → Goes_beside c era rules who calls n pend t (on_pack_of sender db seq t x)
 unfolding on_pack_of CommitFits
-pack_of_beside c rules who calls n pend p sender db seq t None f untold = beside_none c rules who calls n pend p t
-pack_of_beside c rules who calls n pend p sender db seq t (Some x) f untold =
-    cond_both (is_last sender seq x.pending) (answers x.call (answer.Committed seq) (with_commit db None t)) (with_commit db (Some (record x { pending = acknowledged sender seq x.pending })) t) (λ (v : Turn). Goes_beside c rules who calls n pend p t v)
-    (λ _. beside_then c rules who calls n pend p t (with_commit db None t) (answers x.call (answer.Committed seq) (with_commit db None t)) (with_commit_beside c rules who calls n pend p db None t tt)
-    (answers_beside c rules who calls n pend p x.call (answer.Committed seq) (with_commit db None t) (untold x.call x.writes f.0)))
-    (λ _. with_commit_beside c rules who calls n pend p db (Some (record x { pending = acknowledged sender seq x.pending })) t f)
+pack_of_beside c era rules who calls n pend sender db seq t None f untold = beside_none c era rules who calls n pend t
+pack_of_beside c era rules who calls n pend sender db seq t (Some x) f untold =
+    cond_both (is_last sender seq x.pending) (answers x.call (answer.Committed seq) (with_commit db None t)) (with_commit db (Some (record x { pending = acknowledged sender seq x.pending })) t) (λ (v : Turn). Goes_beside c era rules who calls n pend t v)
+    (λ _. beside_then c era rules who calls n pend t (with_commit db None t) (answers x.call (answer.Committed seq) (with_commit db None t)) (with_commit_beside c era rules who calls n pend db None t tt)
+    (answers_beside c era rules who calls n pend x.call (answer.Committed seq) (with_commit db None t) (untold x.call x.writes f.0)))
+    (λ _. with_commit_beside c era rules who calls n pend db (Some (record x { pending = acknowledged sender seq x.pending })) t f)
 
 -- PAck: the commit that waits is answered, and whoever made it asked a commit of this database
-pub pack_beside : (c : Config) (rules : Rules) (who : Callers) (calls n : ℕ) (pend : List PendingCall) (p : Msg → Bool) (sender db seq : ℕ) (t : Turn) → NodeStays c rules who calls n t.node →
-    ((call : ℕ) (writes : List Pair) → who call ≡ (n, op.Commit db writes) → Untold c pend call) → Goes_beside c rules who calls n pend p t (on_pack sender db seq t)
+pub pack_beside : (c : Config) (era : Era) (rules : Rules) (who : Callers) (calls n : ℕ) (pend : List PendingCall) (sender db seq : ℕ) (t : Turn) → NodeStays c era rules who calls n t.node →
+    ((call : ℕ) (writes : List Pair) → who call ≡ (n, op.Commit db writes) → Untold c pend call) → Goes_beside c era rules who calls n pend t (on_pack sender db seq t)
 unfolding on_pack
-pack_beside c rules who calls n pend p sender db seq t h untold = pack_of_beside c rules who calls n pend p sender db seq t (db_at db t.node).commit (h.known.dbs db).commit untold
+pack_beside c era rules who calls n pend sender db seq t h untold = pack_of_beside c era rules who calls n pend sender db seq t (db_at db t.node).commit (h.known.dbs db).commit untold
 
 -- ---- what is told of it is left out
 
@@ -307,35 +307,35 @@ waiting_untold c who n call asked (x ∷ xs) h own e a = cond_both (nat_eq x.cal
 
 -- ---- the cluster
 
-amid_same : (db : ℕ) (key : List ℕ) (n : ℕ) (w : World) (t u : Turn) → view db key u.node ≡ view db key t.node → mails db key (frames_of u.outs) ≡ mails db key (frames_of t.outs) → amid db key n w u ≡ amid db key n w t
-amid_same db key n w t u v m = λ i. record { nodes = λ k. cond (nat_eq k n) (v i) (w.nodes k); joined = λ _. true; mail = w.mail ++ m i }
+amid_same : (g : ℕ) (db : ℕ) (key : List ℕ) (n : ℕ) (w : World) (t u : Turn) → view db key u.node ≡ view db key t.node → mails g db key (frames_of u.outs) ≡ mails g db key (frames_of t.outs) → amid g db key n w u ≡ amid g db key n w t
+amid_same g db key n w t u v m = λ i. record { nodes = λ k. cond (nat_eq k n) (v i) (w.nodes k); joined = λ _. true; mail = w.mail ++ m i }
 
 -- Where a turn that has just begun goes on so, the cluster stays so, and the same schedules lead to it; what is told more is
 -- left out.
-pub beside_goes : (c : Config) (rules : Rules) (p : Msg → Bool) (who : Callers) (w : Cluster) (n : ℕ) (t u : Turn) (pend : List PendingCall) (labels : List Label) (es : ℕ → List ℕ → List law.Event) → nat_lt n c.nodes ≡ true → t.outs ≡ [] →
-    ((db : ℕ) (key : List ℕ) → project db key w ≡ amid db key n (project db key w) t) → NodeStays c rules who w.calls n t.node → ClusterStays c rules p who w → Schedules c rules w labels es →
-    Goes_beside c rules who w.calls n pend p t u → Cluster_goes c rules p who (put n u [] w).cluster (labels ++ record_labels c (labels_of n pend u.outs))
+pub beside_goes : (c : Config) (era : Era) (rules : Rules) (who : Callers) (w : Cluster) (n : ℕ) (t u : Turn) (pend : List PendingCall) (labels : List Label) (es : ℕ → List ℕ → List law.Event) → nat_lt n c.nodes ≡ true → t.outs ≡ [] →
+    ((db : ℕ) (key : List ℕ) → project era.number db key w ≡ amid era.number db key n (project era.number db key w) t) → NodeStays c era rules who w.calls n t.node → ClusterStays c era rules who w → Schedules c era rules w labels es →
+    Goes_beside c era rules who w.calls n pend t u → Cluster_goes c era rules who (put n u [] w).cluster (labels ++ record_labels c (labels_of n pend u.outs))
 unfolding frames_of labels_of
-beside_goes c rules p who w n t u pend labels es is empty starts mine h sched g =
+beside_goes c era rules who w n t u pend labels es is empty starts mine h sched g =
     let inside : n < length w.nodes = subst (λ (l : ℕ). n < l) (sym h.size) (ltb-true n c.nodes is) in
     let none : record_labels c (labels_of n pend u.outs) ≡ [] = g.untold ∙ ap (λ xs. record_labels c (labels_of n pend xs)) empty in
-    subst (λ (l : List Label). Cluster_goes c rules p who (put n u [] w).cluster l) (sym (ap (λ (l : List Label). labels ++ l) none ∙ append-nil labels)) (
-      put_stays c rules p who w n u inside h (g.stays mine) (g.plain (subst (λ xs. AllPlain p (frames_of xs)) (sym empty) tt)),
+    subst (λ (l : List Label). Cluster_goes c era rules who (put n u [] w).cluster l) (sym (ap (λ (l : List Label). labels ++ l) none ∙ append-nil labels)) (
+      put_stays c era rules who w n u inside h (g.stays mine) (g.plain (subst (λ xs. AllPlain era.number (frames_of xs)) (sym empty) tt)),
       es,
-      λ db key. ((sched db key).0 ∙ starts db key ∙ sym (amid_same db key n (project db key w) t u (g.views db key) (g.mail db key)) ∙ sym (put_shows db key n u [] w inside), (sched db key).1),
+      λ db key. ((sched db key).0 ∙ starts db key ∙ sym (amid_same era.number db key n (project era.number db key w) t u (g.views db key) (g.mail db key)) ∙ sym (put_shows era.number db key n u [] w inside), (sched db key).1),
     )
 
 -- ---- its calls and its messages
 
 -- a call that goes on so at a node that runs
-call_beside : (c : Config) (rules : Rules) (p : Msg → Bool) (who : Callers) (w : Cluster) (n : ℕ) (asked : ClientOp) (u : Turn) (labels : List Label) (es : ℕ → List ℕ → List law.Event) → ClusterStays c rules p who w → Schedules c rules w labels es → is_up n w ≡ true →
-    Goes_beside c rules (called_by n asked w who) (w.calls + 1) n (own_pending n (w.calls + 1) asked ∷ pending (counted w)) p (makes (w.calls + 1) (begins (node_at n (counted w)))) u →
-    Cluster_goes c rules p (called_by n asked w who) (put n u [] (counted w)).cluster (labels ++ record_labels c (labels_of n (own_pending n (w.calls + 1) asked ∷ pending (counted w)) u.outs))
+call_beside : (c : Config) (era : Era) (rules : Rules) (who : Callers) (w : Cluster) (n : ℕ) (asked : ClientOp) (u : Turn) (labels : List Label) (es : ℕ → List ℕ → List law.Event) → ClusterStays c era rules who w → Schedules c era rules w labels es → is_up n w ≡ true →
+    Goes_beside c era rules (called_by n asked w who) (w.calls + 1) n (own_pending n (w.calls + 1) asked ∷ pending (counted w)) (makes (w.calls + 1) (begins (node_at n (counted w)))) u →
+    Cluster_goes c era rules (called_by n asked w who) (put n u [] (counted w)).cluster (labels ++ record_labels c (labels_of n (own_pending n (w.calls + 1) asked ∷ pending (counted w)) u.outs))
 unfolding makes
-call_beside c rules p who w n asked u labels es h sched up g =
-    let more = more_calls c rules p who (n, asked) w h in
-    beside_goes c rules p (called_by n asked w who) (counted w) n (makes (w.calls + 1) (begins (node_at n (counted w)))) u (own_pending n (w.calls + 1) asked ∷ pending (counted w)) labels es (h.up n up) refl
-    (λ db key. delivering.begun db key n (counted w)) (more.nodes n (h.up n up)) more (counted_schedules c rules w labels es sched) g
+call_beside c era rules who w n asked u labels es h sched up g =
+    let more = more_calls c era rules who (n, asked) w h in
+    beside_goes c era rules (called_by n asked w who) (counted w) n (makes (w.calls + 1) (begins (node_at n (counted w)))) u (own_pending n (w.calls + 1) asked ∷ pending (counted w)) labels es (h.up n up) refl
+    (λ db key. delivering.begun era.number db key n (counted w)) (more.nodes n (h.up n up)) more (counted_schedules c era rules w labels es sched) g
 
 -- a commit that is not refused is of a persistent database
 pub commit_kind : (c : Config) (n : Node) (db : ℕ) (writes : List Pair) → Admits c n (op.Commit db writes) → node.is_persistent (node.kind_at c db) ≡ true
@@ -343,56 +343,56 @@ unfolding wrong_kind refused_if is_commit clients.db_of
 commit_kind c n db writes h = (let a = h.kind in grind arith)
 
 -- a commit of a persistent database that is not refused: the cluster goes on
-pub commit_goes : (c : Config) (rules : Rules) (p : Msg → Bool) (who : Callers) (w : Cluster) (n db : ℕ) (writes : List Pair) (labels : List Label) (es : ℕ → List ℕ → List law.Event) → Allows_commits p → ClusterStays c rules p who w → Schedules c rules w labels es → is_up n w ≡ true →
+pub commit_goes : (c : Config) (era : Era) (rules : Rules) (who : Callers) (w : Cluster) (n db : ℕ) (writes : List Pair) (labels : List Label) (es : ℕ → List ℕ → List law.Event) → Allows_commits era.number → ClusterStays c era rules who w → Schedules c era rules w labels es → is_up n w ≡ true →
     node.is_persistent (node.kind_at c db) ≡ true → refusal c rules (node_at n (counted w)) (op.Commit db writes) ≡ None →
-    Cluster_goes c rules p (called_by n (op.Commit db writes) w who) (put n (client c rules n (w.calls + 1) (op.Commit db writes) (begins (node_at n (counted w)))) [] (counted w)).cluster
+    Cluster_goes c era rules (called_by n (op.Commit db writes) w who) (put n (client c rules n (w.calls + 1) (op.Commit db writes) (begins (node_at n (counted w)))) [] (counted w)).cluster
     (labels ++ record_labels c (labels_of n (own_pending n (w.calls + 1) (op.Commit db writes) ∷ pending (counted w)) (client c rules n (w.calls + 1) (op.Commit db writes) (begins (node_at n (counted w)))).outs))
 unfolding serves
-commit_goes c rules p who w n db writes labels es ok h sched up kind free =
+commit_goes c era rules who w n db writes labels es ok h sched up kind free =
     let asked = op.Commit db writes in
-    call_beside c rules p who w n asked (client c rules n (w.calls + 1) asked (begins (node_at n (counted w)))) labels es h sched up
-    (subst (λ (u : Turn). Goes_beside c rules (called_by n asked w who) (w.calls + 1) n (own_pending n (w.calls + 1) asked ∷ pending (counted w)) p (makes (w.calls + 1) (begins (node_at n (counted w)))) u)
+    call_beside c era rules who w n asked (client c rules n (w.calls + 1) asked (begins (node_at n (counted w)))) labels es h sched up
+    (subst (λ (u : Turn). Goes_beside c era rules (called_by n asked w who) (w.calls + 1) n (own_pending n (w.calls + 1) asked ∷ pending (counted w)) (makes (w.calls + 1) (begins (node_at n (counted w)))) u)
     (sym (client_serves c rules n (w.calls + 1) asked (node_at n (counted w)) free))
-    (commit_beside c rules (called_by n asked w who) (w.calls + 1) n (own_pending n (w.calls + 1) asked ∷ pending (counted w)) p (w.calls + 1) db writes (makes (w.calls + 1) (begins (node_at n (counted w)))) ok
+    (commit_beside c era rules (called_by n asked w who) (w.calls + 1) n (own_pending n (w.calls + 1) asked ∷ pending (counted w)) (w.calls + 1) db writes (makes (w.calls + 1) (begins (node_at n (counted w)))) ok
     (own_untold c n (w.calls + 1) asked (pending (counted w)) kind) (own_caller (w.calls + 1) (n, asked) who) (omega arith)))
 
 -- and so it does at a read of a pair
-pub read_pair_goes : (c : Config) (rules : Rules) (p : Msg → Bool) (who : Callers) (w : Cluster) (n db : ℕ) (key : List ℕ) (labels : List Label) (es : ℕ → List ℕ → List law.Event) → ClusterStays c rules p who w → Schedules c rules w labels es → is_up n w ≡ true →
+pub read_pair_goes : (c : Config) (era : Era) (rules : Rules) (who : Callers) (w : Cluster) (n db : ℕ) (key : List ℕ) (labels : List Label) (es : ℕ → List ℕ → List law.Event) → ClusterStays c era rules who w → Schedules c era rules w labels es → is_up n w ≡ true →
     node.is_persistent (node.kind_at c db) ≡ true → refusal c rules (node_at n (counted w)) (op.Read db key) ≡ None →
-    Cluster_goes c rules p (called_by n (op.Read db key) w who) (put n (client c rules n (w.calls + 1) (op.Read db key) (begins (node_at n (counted w)))) [] (counted w)).cluster
+    Cluster_goes c era rules (called_by n (op.Read db key) w who) (put n (client c rules n (w.calls + 1) (op.Read db key) (begins (node_at n (counted w)))) [] (counted w)).cluster
     (labels ++ record_labels c (labels_of n (own_pending n (w.calls + 1) (op.Read db key) ∷ pending (counted w)) (client c rules n (w.calls + 1) (op.Read db key) (begins (node_at n (counted w)))).outs))
 unfolding serves reads
-read_pair_goes c rules p who w n db key labels es h sched up kind free =
+read_pair_goes c era rules who w n db key labels es h sched up kind free =
     let asked = op.Read db key in
     let t = makes (w.calls + 1) (begins (node_at n (counted w))) in
     let is : client c rules n (w.calls + 1) asked (begins (node_at n (counted w))) ≡ read_pair (w.calls + 1) db key t
     = client_serves c rules n (w.calls + 1) asked (node_at n (counted w)) free ∙ ap (λ (b : Bool). cond b (read_pair (w.calls + 1) db key t) (at_record c n db key (λ at o. want at rules (w.calls + 1) asked o) t)) kind in
-    call_beside c rules p who w n asked (client c rules n (w.calls + 1) asked (begins (node_at n (counted w)))) labels es h sched up
-    (subst (λ (u : Turn). Goes_beside c rules (called_by n asked w who) (w.calls + 1) n (own_pending n (w.calls + 1) asked ∷ pending (counted w)) p t u) (sym is)
-    (read_pair_beside c rules (called_by n asked w who) (w.calls + 1) n (own_pending n (w.calls + 1) asked ∷ pending (counted w)) p (w.calls + 1) db key t (own_untold c n (w.calls + 1) asked (pending (counted w)) kind)))
+    call_beside c era rules who w n asked (client c rules n (w.calls + 1) asked (begins (node_at n (counted w)))) labels es h sched up
+    (subst (λ (u : Turn). Goes_beside c era rules (called_by n asked w who) (w.calls + 1) n (own_pending n (w.calls + 1) asked ∷ pending (counted w)) t u) (sym is)
+    (read_pair_beside c era rules (called_by n asked w who) (w.calls + 1) n (own_pending n (w.calls + 1) asked ∷ pending (counted w)) (w.calls + 1) db key t (own_untold c n (w.calls + 1) asked (pending (counted w)) kind)))
 
 -- a PUpdate that comes, followed or dropped
-pub pupdate_goes : (c : Config) (rules : Rules) (p : Msg → Bool) (who : Callers) (w : Cluster) (n : ℕ) (f : Frame) (db seq : ℕ) (writes : List Pair) (labels : List Label) (es : ℕ → List ℕ → List law.Event) → Allows_commits p → ClusterStays c rules p who w → Schedules c rules w labels es → is_up n w ≡ true →
-    Cluster_goes c rules p who (put n (arrives c rules n f (begins (node_at n w)) (msg.PUpdate db seq writes)) [] w).cluster (labels ++ record_labels c (labels_of n (pending w) (arrives c rules n f (begins (node_at n w)) (msg.PUpdate db seq writes)).outs))
+pub pupdate_goes : (c : Config) (era : Era) (rules : Rules) (who : Callers) (w : Cluster) (n : ℕ) (f : Frame) (db seq : ℕ) (writes : List Pair) (labels : List Label) (es : ℕ → List ℕ → List law.Event) → Allows_commits era.number → ClusterStays c era rules who w → Schedules c era rules w labels es → is_up n w ≡ true →
+    Cluster_goes c era rules who (put n (arrives c rules n f (begins (node_at n w)) (msg.PUpdate db seq writes)) [] w).cluster (labels ++ record_labels c (labels_of n (pending w) (arrives c rules n f (begins (node_at n w)) (msg.PUpdate db seq writes)).outs))
 unfolding arrives if_persistent
-pupdate_goes c rules p who w n f db seq writes labels es ok h sched up =
+pupdate_goes c era rules who w n f db seq writes labels es ok h sched up =
     let t = begins (node_at n w) in
     let u = on_pupdate n f.sender db seq writes t in
-    beside_goes c rules p who w n t (arrives c rules n f t (msg.PUpdate db seq writes)) (pending w) labels es (h.up n up) refl (λ db key. delivering.begun db key n w) (h.nodes n (h.up n up)) h sched
-    (cond_both (is_current f (node_at n w) && node.is_persistent (node.kind_at c db)) u t (λ (v : Turn). Goes_beside c rules who w.calls n (pending w) p t v)
-    (λ _. pupdate_beside c rules who w.calls n (pending w) p f.sender db seq writes t ok)
-    (λ _. beside_none c rules who w.calls n (pending w) p t))
+    beside_goes c era rules who w n t (arrives c rules n f t (msg.PUpdate db seq writes)) (pending w) labels es (h.up n up) refl (λ db key. delivering.begun era.number db key n w) (h.nodes n (h.up n up)) h sched
+    (cond_both (is_current f (node_at n w) && node.is_persistent (node.kind_at c db)) u t (λ (v : Turn). Goes_beside c era rules who w.calls n (pending w) t v)
+    (λ _. pupdate_beside c era rules who w.calls n (pending w) f.sender db seq writes t ok)
+    (λ _. beside_none c era rules who w.calls n (pending w) t))
 
 -- a PAck that comes, followed or dropped
-pub pack_goes : (c : Config) (rules : Rules) (p : Msg → Bool) (who : Callers) (w : Cluster) (n : ℕ) (f : Frame) (db seq : ℕ) (labels : List Label) (es : ℕ → List ℕ → List law.Event) → ClusterStays c rules p who w → Schedules c rules w labels es → is_up n w ≡ true →
-    Cluster_goes c rules p who (put n (arrives c rules n f (begins (node_at n w)) (msg.PAck db seq)) [] w).cluster (labels ++ record_labels c (labels_of n (pending w) (arrives c rules n f (begins (node_at n w)) (msg.PAck db seq)).outs))
+pub pack_goes : (c : Config) (era : Era) (rules : Rules) (who : Callers) (w : Cluster) (n : ℕ) (f : Frame) (db seq : ℕ) (labels : List Label) (es : ℕ → List ℕ → List law.Event) → ClusterStays c era rules who w → Schedules c era rules w labels es → is_up n w ≡ true →
+    Cluster_goes c era rules who (put n (arrives c rules n f (begins (node_at n w)) (msg.PAck db seq)) [] w).cluster (labels ++ record_labels c (labels_of n (pending w) (arrives c rules n f (begins (node_at n w)) (msg.PAck db seq)).outs))
 unfolding arrives if_persistent
-pack_goes c rules p who w n f db seq labels es h sched up =
+pack_goes c era rules who w n f db seq labels es h sched up =
     let t = begins (node_at n w) in
     let u = on_pack f.sender db seq t in
-    let fits = pending_fits who w.calls w (all_known c rules p who w h) in
-    beside_goes c rules p who w n t (arrives c rules n f t (msg.PAck db seq)) (pending w) labels es (h.up n up) refl (λ db key. delivering.begun db key n w) (h.nodes n (h.up n up)) h sched
-    (cond_both (is_current f (node_at n w) && node.is_persistent (node.kind_at c db)) u t (λ (v : Turn). Goes_beside c rules who w.calls n (pending w) p t v)
-    (λ k. pack_beside c rules who w.calls n (pending w) p f.sender db seq t (h.nodes n (h.up n up))
+    let fits = pending_fits who w.calls w (all_known c era rules who w h) in
+    beside_goes c era rules who w n t (arrives c rules n f t (msg.PAck db seq)) (pending w) labels es (h.up n up) refl (λ db key. delivering.begun era.number db key n w) (h.nodes n (h.up n up)) h sched
+    (cond_both (is_current f (node_at n w) && node.is_persistent (node.kind_at c db)) u t (λ (v : Turn). Goes_beside c era rules who w.calls n (pending w) t v)
+    (λ k. pack_beside c era rules who w.calls n (pending w) f.sender db seq t (h.nodes n (h.up n up))
     (λ call writes own. waiting_untold c who n call (op.Commit db writes) (pending w) fits own (and_parts (is_current f (node_at n w)) (node.is_persistent (node.kind_at c db)) k).1))
-    (λ _. beside_none c rules who w.calls n (pending w) p t))
+    (λ _. beside_none c era rules who w.calls n (pending w) t))

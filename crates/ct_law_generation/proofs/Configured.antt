@@ -24,7 +24,7 @@ use Rattle.ct_cluster.specs.Cluster.{numbers, everyone}
 use Rattle.ct_register.specs.Legal as legal
 use Rattle.ct_register.proofs.Bridges.{same_kind, same_records}
 use Rattle.ct_promise.specs.Promises.{IsConfig}
-use Rattle.ct_law_generation.specs.Shown.{is_telling}
+use Rattle.ct_law_generation.specs.Shown.{Era, is_telling}
 
 -- ---- how many nodes and databases there are
 
@@ -57,9 +57,9 @@ numbers_are i zero l = refl
 numbers_are i (suc k) l = and_from (is_node i) _ (lt-ltb i 16 (omega arith)) (numbers_are (i + 1) k (omega arith))
 
 -- every node of a configuration has a number that is one
-pub all_real : (c : Config) → IsConfig c → list_all is_node (everyone c) ≡ true
+pub all_real : (c : Config) (era : Era) → IsConfig c → list_all is_node era.members ≡ true
 unfolding everyone
-all_real c h = (let l = at_most_sixteen_nodes c h in numbers_are 0 c.nodes (omega arith))
+all_real c era h = (let l = at_most_sixteen_nodes c h in numbers_are 0 c.nodes (omega arith))
 
 -- and so has every database
 pub all_small : (c : Config) → IsConfig c → (db : ℕ) → db < length c.dbs → is_db db ≡ true

@@ -2,7 +2,6 @@
 use Rattle.std.proofs.Common.{◌≡◌, ℕ, zero, suc, Bool, true, List, [], length, refl, sym, ap, arith, subst}
 use Rattle.std.specs.Prelude.{nat_lt, slice_get, replicate}
 use Rattle.ct_msg.specs.declared.config.Config.{Config}
-use Rattle.ct_frame.specs.declared.frame.Msg.{Msg}
 use Rattle.ct_call.specs.Rules.{Rules}
 use Rattle.ct_store.specs.Map.{look}
 use Rattle.ct_rules.specs.State.{nothing_kept}
@@ -11,11 +10,11 @@ use Rattle.ct_rules_node.specs.Node as node
 use Rattle.ct_rules_node.specs.Node.{Node, Database}
 use Rattle.ct_rules_node.proofs.Starting.{starts_in_order}
 use Rattle.ct_cluster.specs.Cluster as cluster
-use Rattle.ct_cluster.specs.Cluster.{Cluster, everyone, node_at, or_absent}
+use Rattle.ct_cluster.specs.Cluster.{Cluster, node_at, or_absent}
 use Rattle.ct_law_record.specs.World as law
 use Rattle.ct_law_record.specs.World.{View}
 use Rattle.ct_register.proofs.Opened.{untouched_one}
-use Rattle.ct_law_generation.specs.Shown.{scene, view, mails, project, heard, told_by_all, Schedules}
+use Rattle.ct_law_generation.specs.Shown.{Era, scene, view, mails, project, heard, told_by_all, Schedules}
 use Rattle.ct_law_generation.proofs.Pending.{Callers, CommitFits, DatabaseKnown, none_known}
 use Rattle.ct_law_generation.proofs.Forming.{Is_formed}
 use Rattle.ct_law_generation.proofs.Staying.{NodeStays}
@@ -48,29 +47,29 @@ many (suc k) x = ap suc (many k x)
 abbrev nothing : View
 nothing = record { state = nothing_kept; next = 1; floor = 0 }
 
-opened_view : (c : Config) (db : ℕ) (key : List ℕ) → view db key (node.opening c (everyone c)) ≡ nothing
+opened_view : (c : Config) (era : Era) (db : ℕ) (key : List ℕ) → view db key (node.opening c era.members) ≡ nothing
 unfolding node.opening node.state_at node.db_at node.or_nothing node.untouched
-opened_view c db key = ap (λ (d : Database). record { state = node.or_nothing (look key d.records); next = 1; floor = d.floor }) (untouched_one c.dbs db)
+opened_view c era db key = ap (λ (d : Database). record { state = node.or_nothing (look key d.records); next = 1; floor = d.floor }) (untouched_one c.dbs db)
 
 absent_view : (db : ℕ) (key : List ℕ) → view db key cluster.absent ≡ nothing
 unfolding cluster.absent node.state_at node.db_at node.or_nothing node.or_untouched node.untouched
 absent_view db key = refl
 
 -- the world of every record is at its opening
-pub opened_world : (c : Config) (db : ℕ) (key : List ℕ) → law.opening ≡ project db key (cluster.opening c)
+pub opened_world : (c : Config) (era : Era) (db : ℕ) (key : List ℕ) → law.opening ≡ project era.number db key (cluster.opening c)
 unfolding cluster.opening node_at mails
-opened_world c db key =
-    let each : (n : ℕ) → nothing ≡ view db key (or_absent (slice_get (replicate c.nodes (node.opening c (everyone c))) n))
-    = λ n. sym (one_of_all (λ (x : Node). view db key x ≡ nothing) (node.opening c (everyone c)) (absent_view db key) (opened_view c db key) c.nodes n) in
+opened_world c era db key =
+    let each : (n : ℕ) → nothing ≡ view db key (or_absent (slice_get (replicate c.nodes (node.opening c era.members)) n))
+    = λ n. sym (one_of_all (λ (x : Node). view db key x ≡ nothing) (node.opening c era.members) (absent_view db key) (opened_view c era db key) c.nodes n) in
     λ i. record { nodes = λ n. each n i; joined = λ _. true; mail = [] }
 
-pub opened_schedules : (c : Config) (rules : Rules) → Schedules c rules (cluster.opening c) [] (λ db key. [])
+pub opened_schedules : (c : Config) (era : Era) (rules : Rules) → Schedules c era rules (cluster.opening c) [] (λ db key. [])
 unfolding heard told_by_all
-opened_schedules c rules db key = (opened_world c db key, refl)
+opened_schedules c era rules db key = (opened_world c era db key, refl)
 
-opened_form : (c : Config) (rules : Rules) (n db : ℕ) (key : List ℕ) → Is_formed (scene c rules db key) n nothing
-opened_form c rules n db key = record {
-  form = in_form_at_start (law.place (scene c rules db key) n nothing);
+opened_form : (c : Config) (era : Era) (rules : Rules) (n db : ℕ) (key : List ℕ) → Is_formed (scene c era rules db key) n nothing
+opened_form c era rules n db key = record {
+  form = in_form_at_start (law.place (scene c era rules db key) n nothing);
   tracks = record { tracked_held = λ e. absurd (cc); vacuum_untracked = λ e. refl };
   waits = refl;
   from_one = omega arith;
@@ -78,27 +77,27 @@ opened_form c rules n db key = record {
   floor_limit = omega arith;
 }
 
-opened_known : (c : Config) (who : Callers) (calls n db : ℕ) → DatabaseKnown who calls n db (node.db_at db (node.opening c (everyone c)))
+opened_known : (c : Config) (era : Era) (who : Callers) (calls n db : ℕ) → DatabaseKnown who calls n db (node.db_at db (node.opening c era.members))
 unfolding node.opening node.db_at node.untouched CommitFits
-opened_known c who calls n db = subst (λ (d : Database). DatabaseKnown who calls n db d) (sym (untouched_one c.dbs db)) (record { records = λ key. none_known who calls n db key; commit = tt })
+opened_known c era who calls n db = subst (λ (d : Database). DatabaseKnown who calls n db d) (sym (untouched_one c.dbs db)) (record { records = λ key. none_known who calls n db key; commit = tt })
 
-opened_node : (c : Config) (rules : Rules) (who : Callers) (calls n : ℕ) → NodeStays c rules who calls n (node.opening c (everyone c))
+opened_node : (c : Config) (era : Era) (rules : Rules) (who : Callers) (calls n : ℕ) → NodeStays c era rules who calls n (node.opening c era.members)
 unfolding node.opening
-opened_node c rules who calls n = record {
+opened_node c era rules who calls n = record {
   serving = refl;
   members = refl;
   leads = refl;
-  size = (starts_in_order c (everyone c)).0;
-  known = record { order = (starts_in_order c (everyone c)).1; dbs = λ db. opened_known c who calls n db };
-  formed = λ db key. subst (λ (v : View). Is_formed (scene c rules db key) n v) (sym (opened_view c db key)) (opened_form c rules n db key);
+  size = (starts_in_order c era.members).0;
+  known = record { order = (starts_in_order c era.members).1; dbs = λ db. opened_known c era who calls n db };
+  formed = λ db key. subst (λ (v : View). Is_formed (scene c era rules db key) n v) (sym (opened_view c era db key)) (opened_form c era rules n db key);
 }
 
-pub opened_stays : (c : Config) (rules : Rules) (p : Msg → Bool) (who : Callers) → ClusterStays c rules p who (cluster.opening c)
+pub opened_stays : (c : Config) (era : Era) (rules : Rules) (who : Callers) → ClusterStays c era rules who (cluster.opening c)
 unfolding cluster.opening node_at cluster.is_up
-opened_stays c rules p who = record {
-  size = many c.nodes (node.opening c (everyone c));
+opened_stays c era rules who = record {
+  size = many c.nodes (node.opening c era.members);
   up = λ n e. up_below c.nodes n e;
   free = refl;
-  nodes = λ n t. subst (λ (x : Node). NodeStays c rules who 0 n x) (sym (one_below (node.opening c (everyone c)) c.nodes n t)) (opened_node c rules who 0 n);
+  nodes = λ n t. subst (λ (x : Node). NodeStays c era rules who 0 n x) (sym (one_below (node.opening c era.members) c.nodes n t)) (opened_node c era rules who 0 n);
   sent = tt;
 }

@@ -1,7 +1,6 @@
 -- Steps that are refused in the first generation, and one that changes no record.
 use Rattle.std.proofs.Common.{◌≡◌, ℕ, Bool, true, false, not, List, ◌∷◌, Option, Some, None, refl, ap}
 use Rattle.ct_msg.specs.declared.config.Config.{Config}
-use Rattle.ct_frame.specs.declared.frame.Msg.{Msg}
 use Rattle.ct_call.specs.Rules.{Rules}
 use Rattle.ct_rules_node.specs.Node.{Lead, Nothing}
 use Rattle.ct_cluster.specs.Cluster.{Cluster, is_up, node_at}
@@ -10,6 +9,7 @@ use Rattle.ct_cluster.specs.Faults.{faulty_if, first_of, is_holder, not_holder, 
 use Rattle.ct_cluster.specs.declared.step.StepFault.{StepFault}
 use Rattle.ct_cluster.specs.declared.step.StepFault.TheVariants as fault
 use Rattle.ct_cluster.specs.declared.step.Step.TheVariants as step
+use Rattle.ct_law_generation.specs.Shown.{Era}
 use Rattle.ct_law_generation.proofs.Pending.{Callers}
 use Rattle.ct_law_generation.proofs.Coming.{Cluster_goes}
 
@@ -48,6 +48,6 @@ unfolding fault_of not_leader
 takeovers_refused c w n h e = faulty (leads (node_at n w).generation (node_at n w).lead) (fault.NotLeader n) (leads_is (node_at n w).generation (node_at n w).lead h) (first_none _ _ (rest_none _ _ (rest_none _ _ (rest_none _ _ e))))
 
 -- a mark of a node changes no record
-pub able_goes : (c : Config) (rules : Rules) (p : Msg → Bool) (who : Callers) (w : Cluster) (able : List Bool) (labels : List Label) → Cluster_goes c rules p who w labels → Cluster_goes c rules p who (record w { able = able }) labels
+pub able_goes : (c : Config) (era : Era) (rules : Rules) (who : Callers) (w : Cluster) (able : List Bool) (labels : List Label) → Cluster_goes c era rules who w labels → Cluster_goes c era rules who (record w { able = able }) labels
 unfolding node_at is_up
-able_goes c rules p who w able labels g = (record { size = g.0.size; up = g.0.up; free = g.0.free; nodes = g.0.nodes; sent = g.0.sent }, g.1, g.2)
+able_goes c era rules who w able labels g = (record { size = g.0.size; up = g.0.up; free = g.0.free; nodes = g.0.nodes; sent = g.0.sent }, g.1, g.2)

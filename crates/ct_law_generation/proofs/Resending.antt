@@ -31,13 +31,12 @@ use Rattle.ct_rules.specs.declared.event.Act.{Act}
 use Rattle.ct_rules.specs.declared.event.MoveEvent.TheVariants as event
 use Rattle.ct_rules_node.specs.Node.{or_nothing, state_at, db_at}
 use Rattle.ct_rules_node.proofs.Waiting.{calls_each}
-use Rattle.ct_cluster.specs.Cluster.{everyone}
 use Rattle.ct_cluster.specs.Steps.{frames_of}
 use Rattle.ct_cluster.specs.declared.step.PendingCall.{PendingCall}
 use Rattle.ct_register.specs.Words.{is_in}
 use Rattle.ct_law_record.specs.Labels as law
 use Rattle.ct_law_record.specs.World.{View, World, Resends, place, starts, sent, told, answers, call_of, waiting_call, Stepped, put, happens}
-use Rattle.ct_law_generation.specs.Shown.{scene, view, mails, told_by_all, heard, labels_of, amid, Comes_by}
+use Rattle.ct_law_generation.specs.Shown.{Era, scene, view, mails, told_by_all, heard, labels_of, amid, Comes_by}
 use Rattle.ct_law_generation.proofs.Pending.{Callers}
 use Rattle.ct_law_generation.proofs.Amid.{self, put_world}
 use Rattle.ct_law_generation.proofs.Staying.{NodeStays}
@@ -208,33 +207,33 @@ revoke_times n at (Some s) xs h = h (sent n (revokes_sent at s.tracking.revoking
 abbrev pub resends_of : Config → ℕ → Turn → Turn
 resends_of c n t = revoke_in c n 0 t.node.dbs (call_all c n (pending_calls t.node) t)
 
-calls_passes : (c : Config) (rules : Rules) (who : Callers) (calls n : ℕ) (pend : List PendingCall) (t : Turn) → Retries_at c n → NodeStays c rules who calls n t.node → Passes c rules who calls n pend t (call_all c n (pending_calls t.node) t)
-calls_passes c rules who calls n pend t r h = subst (λ (u : Turn). Passes c rules who calls n pend t u) (sym (call_all_is c n (pending_calls t.node) t))
-    (all_passes c rules who calls n pend call_again (calls_at c rules n) (pending_calls t.node) t (λ db key t h l. calls_just c rules who calls n db key t r h l) (pending_inside c t.node h.size) h)
+calls_passes : (c : Config) (era : Era) (rules : Rules) (who : Callers) (calls n : ℕ) (pend : List PendingCall) (t : Turn) → Retries_at c n → NodeStays c era rules who calls n t.node → Passes c era rules who calls n pend t (call_all c n (pending_calls t.node) t)
+calls_passes c era rules who calls n pend t r h = subst (λ (u : Turn). Passes c era rules who calls n pend t u) (sym (call_all_is c n (pending_calls t.node) t))
+    (all_passes c era rules who calls n pend call_again (calls_at c era rules n) (pending_calls t.node) t (λ db key t h l. calls_just c era rules who calls n db key t r h l) (pending_inside c t.node h.size) h)
 
-pub resends_passes : (c : Config) (rules : Rules) (who : Callers) (calls n : ℕ) (pend : List PendingCall) (t : Turn) → Retries_at c n → NodeStays c rules who calls n t.node → Passes c rules who calls n pend t (resends_of c n t)
-resends_passes c rules who calls n pend t r h =
+pub resends_passes : (c : Config) (era : Era) (rules : Rules) (who : Callers) (calls n : ℕ) (pend : List PendingCall) (t : Turn) → Retries_at c n → NodeStays c era rules who calls n t.node → Passes c era rules who calls n pend t (resends_of c n t)
+resends_passes c era rules who calls n pend t r h =
     let u = call_all c n (pending_calls t.node) t in
-    let a = calls_passes c rules who calls n pend t r h in
-    passes_more c rules who calls n pend t u (resends_of c n t) a (subst (λ (v : Turn). Passes c rules who calls n pend u v) (sym (revoke_in_is c n 0 t.node.dbs u))
-    (all_passes c rules who calls n pend revoke_again (revokes_at c rules n) (places_in 0 t.node.dbs) u (λ db key t h l. revokes_just c rules who calls n db key t r h l) (all_inside c 0 t.node.dbs (let s = h.size in omega arith)) a.stays))
+    let a = calls_passes c era rules who calls n pend t r h in
+    passes_more c era rules who calls n pend t u (resends_of c n t) a (subst (λ (v : Turn). Passes c era rules who calls n pend u v) (sym (revoke_in_is c n 0 t.node.dbs u))
+    (all_passes c era rules who calls n pend revoke_again (revokes_at c era rules n) (places_in 0 t.node.dbs) u (λ db key t h l. revokes_just c era rules who calls n db key t r h l) (all_inside c 0 t.node.dbs (let s = h.size in omega arith)) a.stays))
 
-pub resends_mail : (c : Config) (rules : Rules) (who : Callers) (calls n db : ℕ) (key : List ℕ) (t : Turn) → Retries_at c n → NodeStays c rules who calls n t.node →
-    mails db key (frames_of (resends_of c n t).outs) ≡ (mails db key (frames_of t.outs) ++ sent n (calls_at c rules n db key (view db key t.node))) ++ sent n (revokes_at c rules n db key (view db key t.node))
+pub resends_mail : (c : Config) (era : Era) (rules : Rules) (who : Callers) (calls n db : ℕ) (key : List ℕ) (t : Turn) → Retries_at c n → NodeStays c era rules who calls n t.node →
+    mails era.number db key (frames_of (resends_of c n t).outs) ≡ (mails era.number db key (frames_of t.outs) ++ sent n (calls_at c era rules n db key (view db key t.node))) ++ sent n (revokes_at c era rules n db key (view db key t.node))
 unfolding state_at db_at
-resends_mail c rules who calls n db key t r h =
+resends_mail c era rules who calls n db key t r h =
     let v = view db key t.node in
     let u = call_all c n (pending_calls t.node) t in
-    let a = calls_passes c rules who calls n [] t r h in
-    let first = ap (λ (x : Turn). mails db key (frames_of x.outs)) (call_all_is c n (pending_calls t.node) t)
-    ∙ all_mail c rules who calls n call_again (calls_at c rules n) (pending_calls t.node) t (λ db key t h l. calls_just c rules who calls n db key t r h l) (pending_inside c t.node h.size) h db key
-    ∙ ap (λ (l : List Called). mails db key (frames_of t.outs) ++ times l (sent n (calls_at c rules n db key v))) (calls_each t.node h.known.order db key)
-    ∙ ap (λ (m : List Mail). mails db key (frames_of t.outs) ++ m) (wish_times n db key (place (scene c rules db key) n v) v.state.wish) in
-    ap (λ (x : Turn). mails db key (frames_of x.outs)) (revoke_in_is c n 0 t.node.dbs u)
-    ∙ all_mail c rules who calls n revoke_again (revokes_at c rules n) (places_in 0 t.node.dbs) u (λ db key t h l. revokes_just c rules who calls n db key t r h l) (all_inside c 0 t.node.dbs (let s = h.size in omega arith)) a.stays db key
-    ∙ ap (λ (x : View). mails db key (frames_of u.outs) ++ times (At db key (places_in 0 t.node.dbs)) (sent n (revokes_at c rules n db key x))) (a.same db key)
-    ∙ ap (λ (m : List Mail). mails db key (frames_of u.outs) ++ m) (revoke_times n (place (scene c rules db key) n v) _ _ (all_meets 0 db db key t.node.dbs (omega arith) h.known.order))
-    ∙ ap (λ (m : List Mail). m ++ sent n (revokes_at c rules n db key v)) first
+    let a = calls_passes c era rules who calls n [] t r h in
+    let first = ap (λ (x : Turn). mails era.number db key (frames_of x.outs)) (call_all_is c n (pending_calls t.node) t)
+    ∙ all_mail c era rules who calls n call_again (calls_at c era rules n) (pending_calls t.node) t (λ db key t h l. calls_just c era rules who calls n db key t r h l) (pending_inside c t.node h.size) h db key
+    ∙ ap (λ (l : List Called). mails era.number db key (frames_of t.outs) ++ times l (sent n (calls_at c era rules n db key v))) (calls_each t.node h.known.order db key)
+    ∙ ap (λ (m : List Mail). mails era.number db key (frames_of t.outs) ++ m) (wish_times n db key (place (scene c era rules db key) n v) v.state.wish) in
+    ap (λ (x : Turn). mails era.number db key (frames_of x.outs)) (revoke_in_is c n 0 t.node.dbs u)
+    ∙ all_mail c era rules who calls n revoke_again (revokes_at c era rules n) (places_in 0 t.node.dbs) u (λ db key t h l. revokes_just c era rules who calls n db key t r h l) (all_inside c 0 t.node.dbs (let s = h.size in omega arith)) a.stays db key
+    ∙ ap (λ (x : View). mails era.number db key (frames_of u.outs) ++ times (At db key (places_in 0 t.node.dbs)) (sent n (revokes_at c era rules n db key x))) (a.same db key)
+    ∙ ap (λ (m : List Mail). mails era.number db key (frames_of u.outs) ++ m) (revoke_times n (place (scene c era rules db key) n v) _ _ (all_meets 0 db db key t.node.dbs (omega arith) h.known.order))
+    ∙ ap (λ (m : List Mail). m ++ sent n (revokes_at c era rules n db key v)) first
 
 if_same : {X : Type 0} (b : Bool) (x y z : X) → cond b x (cond b y z) ≡ cond b x z
 if_same true x y z = refl
@@ -245,34 +244,34 @@ list_more [] ys zs = refl
 list_more (x ∷ xs) ys zs = ap (λ (l : List _). x ∷ l) (list_more xs ys zs)
 
 -- what the world's Resend leaves
-abbrev resent : Config → Rules → ℕ → ℕ → List ℕ → View → Moving
-resent c rules n db key v = more (revokes_at c rules n db key v) (more (calls_at c rules n db key v) (starts v))
+abbrev resent : Config → Era → Rules → ℕ → ℕ → List ℕ → View → Moving
+resent c era rules n db key v = more (revokes_at c era rules n db key v) (more (calls_at c era rules n db key v) (starts v))
 
-resends_happen : (c : Config) (rules : Rules) (n db : ℕ) (key : List ℕ) (w : World) (t : Turn) →
-    happens (scene c rules db key) (amid db key n w t) (Resends n) ≡ put (scene c rules db key) (amid db key n w t) n (waiting_call (state_at db key t.node).wish) (resent c rules n db key (view db key t.node))
-resends_happen c rules n db key w t =
-    let s = scene c rules db key in
-    ap (λ (v : View). put s (amid db key n w t) n (waiting_call v.state.wish) (move (place s n v) rules event.Resend (starts v))) (self db key n w t)
-    ∙ ap (λ (o : Moving). put s (amid db key n w t) n (waiting_call (state_at db key t.node).wish) o) (resend_is (place s n (view db key t.node)) (starts (view db key t.node)))
+resends_happen : (c : Config) (era : Era) (rules : Rules) (n db : ℕ) (key : List ℕ) (w : World) (t : Turn) →
+    happens (scene c era rules db key) (amid era.number db key n w t) (Resends n) ≡ put (scene c era rules db key) (amid era.number db key n w t) n (waiting_call (state_at db key t.node).wish) (resent c era rules n db key (view db key t.node))
+resends_happen c era rules n db key w t =
+    let s = scene c era rules db key in
+    ap (λ (v : View). put s (amid era.number db key n w t) n (waiting_call v.state.wish) (move (place s n v) rules event.Resend (starts v))) (self era.number db key n w t)
+    ∙ ap (λ (o : Moving). put s (amid era.number db key n w t) n (waiting_call (state_at db key t.node).wish) o) (resend_is (place s n (view db key t.node)) (starts (view db key t.node)))
 
-pub resends_follow : (c : Config) (rules : Rules) (who : Callers) (calls n : ℕ) (pend : List PendingCall) (db : ℕ) (key : List ℕ) (w : World) (t : Turn) → is_in n (everyone c) ≡ true → Retries_at c n → NodeStays c rules who calls n t.node →
-    Comes_by (scene c rules db key) n w pend t (resends_of c n t) (Resends n ∷ [])
+pub resends_follow : (c : Config) (era : Era) (rules : Rules) (who : Callers) (calls n : ℕ) (pend : List PendingCall) (db : ℕ) (key : List ℕ) (w : World) (t : Turn) → is_in n era.members ≡ true → Retries_at c n → NodeStays c era rules who calls n t.node →
+    Comes_by era.number (scene c era rules db key) n w pend t (resends_of c n t) (Resends n ∷ [])
 unfolding heard
-resends_follow c rules who calls n pend db key w t member r h =
-    let s = scene c rules db key in
+resends_follow c era rules who calls n pend db key w t member r h =
+    let s = scene c era rules db key in
     let v = view db key t.node in
     let u = resends_of c n t in
-    let o = resent c rules n db key v in
+    let o = resent c era rules n db key v in
     let asks = waiting_call (state_at db key t.node).wish in
-    let k = resends_passes c rules who calls n pend t r h in
-    let all = resends_happen c rules n db key w t ∙ put_world s (amid db key n w t) n asks o member refl refl in
+    let k = resends_passes c era rules who calls n pend t r h in
+    let all = resends_happen c era rules n db key w t ∙ put_world s (amid era.number db key n w t) n asks o member refl refl in
     let nodes : (j : ℕ) → cond (nat_eq j n) v (cond (nat_eq j n) v (w.nodes j)) ≡ cond (nat_eq j n) (view db key u.node) (w.nodes j)
     = λ j. if_same (nat_eq j n) v v (w.nodes j) ∙ ap (λ (x : View). cond (nat_eq j n) x (w.nodes j)) (sym (k.same db key)) in
-    let calls' = calls_at c rules n db key v in
-    let revokes' = revokes_at c rules n db key v in
-    let mail : (w.mail ++ mails db key (frames_of t.outs)) ++ sent n (calls' ++ revokes') ≡ w.mail ++ mails db key (frames_of u.outs)
-    = list_more w.mail (mails db key (frames_of t.outs)) _ ∙ ap (λ (m : List Mail). w.mail ++ m)
-    (ap (λ (m : List Mail). mails db key (frames_of t.outs) ++ m) (sent_more n calls' revokes') ∙ sym (list_more (mails db key (frames_of t.outs)) (sent n calls') (sent n revokes')) ∙ sym (resends_mail c rules who calls n db key t r h)) in
+    let calls' = calls_at c era rules n db key v in
+    let revokes' = revokes_at c era rules n db key v in
+    let mail : (w.mail ++ mails era.number db key (frames_of t.outs)) ++ sent n (calls' ++ revokes') ≡ w.mail ++ mails era.number db key (frames_of u.outs)
+    = list_more w.mail (mails era.number db key (frames_of t.outs)) _ ∙ ap (λ (m : List Mail). w.mail ++ m)
+    (ap (λ (m : List Mail). mails era.number db key (frames_of t.outs) ++ m) (sent_more n calls' revokes') ∙ sym (list_more (mails era.number db key (frames_of t.outs)) (sent n calls') (sent n revokes')) ∙ sym (resends_mail c era rules who calls n db key t r h)) in
     let untold : told n asks (calls' ++ revokes') ≡ [] = told_more n asks calls' revokes' (calls_untold n asks _ _) (revokes_untold n asks _ _) in
     record {
       world = ap (λ (x : Stepped). x.world) all ∙ (λ i. record { nodes = λ j. nodes j i; joined = λ _. true; mail = mail i });
@@ -281,7 +280,7 @@ resends_follow c rules who calls n pend db key w t member r h =
     }
 
 -- so the node goes on, after Calls and Revokes
-pub resends_go : (c : Config) (rules : Rules) (who : Callers) (calls n : ℕ) (pend : List PendingCall) (ws : ℕ → List ℕ → World) (t : Turn) → is_in n (everyone c) ≡ true → Retries_at c n → NodeStays c rules who calls n t.node →
-    Goes_on c rules who calls n pend ws t (resends_of c n t)
-resends_go c rules who calls n pend ws t member r h =
-    let k = resends_passes c rules who calls n pend t r h in (k.stays, (λ db key. (Resends n ∷ [], resends_follow c rules who calls n pend db key (ws db key) t member r h)), k.plain)
+pub resends_go : (c : Config) (era : Era) (rules : Rules) (who : Callers) (calls n : ℕ) (pend : List PendingCall) (ws : ℕ → List ℕ → World) (t : Turn) → is_in n era.members ≡ true → Retries_at c n → NodeStays c era rules who calls n t.node →
+    Goes_on c era rules who calls n pend ws t (resends_of c n t)
+resends_go c era rules who calls n pend ws t member r h =
+    let k = resends_passes c era rules who calls n pend t r h in (k.stays, (λ db key. (Resends n ∷ [], resends_follow c era rules who calls n pend db key (ws db key) t member r h)), k.plain)

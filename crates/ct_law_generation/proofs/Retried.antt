@@ -29,7 +29,7 @@ use Rattle.ct_cluster.specs.Cluster.{Sent}
 use Rattle.ct_cluster.specs.Steps.{frames_of}
 use Rattle.ct_cluster.specs.declared.step.PendingCall.{PendingCall}
 use Rattle.ct_law_record.specs.World.{view_of}
-use Rattle.ct_law_generation.specs.Shown.{scene, view, is_it, mails, told_by_all, heard, AllAsked, labels_of, Finds}
+use Rattle.ct_law_generation.specs.Shown.{Era, scene, view, is_it, mails, told_by_all, heard, AllAsked, labels_of, Finds}
 use Rattle.ct_law_generation.proofs.Weave.{it_is, true_or_false}
 use Rattle.ct_law_generation.proofs.Speaking.{Told}
 use Rattle.ct_law_generation.proofs.Wishing.{Wishful}
@@ -162,22 +162,22 @@ pub record Just_sends (c : Config) (n db : ℕ) (key : List ℕ) (part : Place �
   pub sound : AllByRecursion Is_sound_mail (sent n xs)
 
 -- from turn to turn each record is seen the same, nothing is told, and plain messages are sent
-pub record Passes (c : Config) (rules : Rules) (who : Callers) (calls n : ℕ) (pend : List PendingCall) (t u : Turn) : Type 0 where
-  pub stays : NodeStays c rules who calls n u.node
+pub record Passes (c : Config) (era : Era) (rules : Rules) (who : Callers) (calls n : ℕ) (pend : List PendingCall) (t u : Turn) : Type 0 where
+  pub stays : NodeStays c era rules who calls n u.node
   pub same : (db : ℕ) (key : List ℕ) → view db key u.node ≡ view db key t.node
   pub untold : (db : ℕ) (key : List ℕ) → told_by_all db key (labels_of n pend u.outs) ≡ told_by_all db key (labels_of n pend t.outs)
-  pub plain : (p : Msg → Bool) → AllPlain p (frames_of t.outs) → AllPlain p (frames_of u.outs)
+  pub plain : (p : Msg → Bool) → AllPlain era.number (frames_of t.outs) → AllPlain era.number (frames_of u.outs)
 
 grows_more : (xs : List Act) (o : Moving) → Grows o (more xs o)
 unfolding IsFront
 grows_more xs o = record { next = omega arith; floor = omega arith; spent = λ e. e; acts = (xs, refl) }
 
-just_sure : (c : Config) (rules : Rules) (who : Callers) (calls n db : ℕ) (key : List ℕ) (part : Place → Moving → Moving) (t : Turn) (xs : List Act) → NodeStays c rules who calls n t.node → Just_sends c n db key part t xs → Sure c rules who calls n db key part t
+just_sure : (c : Config) (era : Era) (rules : Rules) (who : Callers) (calls n db : ℕ) (key : List ℕ) (part : Place → Moving → Moving) (t : Turn) (xs : List Act) → NodeStays c era rules who calls n t.node → Just_sends c n db key part t xs → Sure c era rules who calls n db key part t
 unfolding node.view KnownAt state_at
-just_sure c rules who calls n db key part t xs h k = record {
+just_sure c era rules who calls n db key part t xs h k = record {
   has = k.there;
   grows = subst (λ (o : Moving). Grows (node.view db key t.node) o) (sym k.is) (grows_more xs (node.view db key t.node));
-  formed = subst (λ (o : Moving). Is_formed (scene c rules db key) n (view_of o)) (sym k.is) (h.formed db key);
+  formed = subst (λ (o : Moving). Is_formed (scene c era rules db key) n (view_of o)) (sym k.is) (h.formed db key);
   known = subst (λ (o : Moving). Wishful (Known who calls n db key) o.state.wish) (sym k.is) ((h.known.dbs db).records key);
 }
 
@@ -192,17 +192,17 @@ just_floor c n db0 db key0 part t xs h k = ⊎_elim
     (λ (ne : db ≢ db0). ap (λ (d : Database). d.floor) ((moves_at c n db0 key0 part t h).other_dbs db ne))
     (cases_eq db db0)
 
-just_own : (c : Config) (rules : Rules) (who : Callers) (calls n db : ℕ) (key : List ℕ) (part : Place → Moving → Moving) (t : Turn) (xs : List Act) → NodeStays c rules who calls n t.node → Just_sends c n db key part t xs → view db key (at_record c n db key part t).node ≡ view db key t.node
+just_own : (c : Config) (era : Era) (rules : Rules) (who : Callers) (calls n db : ℕ) (key : List ℕ) (part : Place → Moving → Moving) (t : Turn) (xs : List Act) → NodeStays c era rules who calls n t.node → Just_sends c n db key part t xs → view db key (at_record c n db key part t).node ≡ view db key t.node
 unfolding node.view
-just_own c rules who calls n db key part t xs h k =
-    seen_same c n db key part t (more xs (node.view db key t.node)) k.is h.known.order k.there (formed_blank (scene c rules db key) n (view db key t.node) (h.formed db key))
+just_own c era rules who calls n db key part t xs h k =
+    seen_same c n db key part t (more xs (node.view db key t.node)) k.is h.known.order k.there (formed_blank (scene c era rules db key) n (view db key t.node) (h.formed db key))
 
-just_same : (c : Config) (rules : Rules) (who : Callers) (calls n db0 db : ℕ) (key0 key : List ℕ) (part : Place → Moving → Moving) (t : Turn) (xs : List Act) → NodeStays c rules who calls n t.node → Just_sends c n db0 key0 part t xs →
+just_same : (c : Config) (era : Era) (rules : Rules) (who : Callers) (calls n db0 db : ℕ) (key0 key : List ℕ) (part : Place → Moving → Moving) (t : Turn) (xs : List Act) → NodeStays c era rules who calls n t.node → Just_sends c n db0 key0 part t xs →
     view db key (at_record c n db0 key0 part t).node ≡ view db key t.node
-just_same c rules who calls n db0 db key0 key part t xs h k = ⊎_elim
+just_same c era rules who calls n db0 db key0 key part t xs h k = ⊎_elim
     (λ (is : is_it db key db0 key0 ≡ true). (let p = it_is db db0 key key0 is in
     subst (λ (q : List ℕ). view db q (at_record c n db0 key0 part t).node ≡ view db q t.node) p.1
-    (subst (λ (d : ℕ). view d key0 (at_record c n db0 key0 part t).node ≡ view d key0 t.node) p.0 (just_own c rules who calls n db0 key0 part t xs h k))))
+    (subst (λ (d : ℕ). view d key0 (at_record c n db0 key0 part t).node ≡ view d key0 t.node) p.0 (just_own c era rules who calls n db0 key0 part t xs h k))))
     (λ (unlike : is_it db key db0 key0 ≡ false).
     let state = other_state c n db0 db key0 key part t h.known.order unlike in
     let next = just_next c n db0 key0 part t xs k in
@@ -230,99 +230,99 @@ just_untold c n db0 db key0 key part t xs pend k =
     (λ (unlike : is_it db key db0 key0 ≡ false). hear_other db db0 key key0 t.node.generation n pend nothing_asked xs unlike (finds_none db0 key0 n pend) asked)
     (true_or_false (is_it db key db0 key0))
 
-pub just_passes : (c : Config) (rules : Rules) (who : Callers) (calls n db : ℕ) (key : List ℕ) (part : Place → Moving → Moving) (t : Turn) (xs : List Act) (pend : List PendingCall) → NodeStays c rules who calls n t.node → Just_sends c n db key part t xs →
-    Passes c rules who calls n pend t (at_record c n db key part t)
+pub just_passes : (c : Config) (era : Era) (rules : Rules) (who : Callers) (calls n db : ℕ) (key : List ℕ) (part : Place → Moving → Moving) (t : Turn) (xs : List Act) (pend : List PendingCall) → NodeStays c era rules who calls n t.node → Just_sends c n db key part t xs →
+    Passes c era rules who calls n pend t (at_record c n db key part t)
 unfolding place_of
-just_passes c rules who calls n db0 key0 part t xs pend h k = record {
-  stays = stays_at c rules who calls n db0 key0 part t h (just_sure c rules who calls n db0 key0 part t xs h k);
-  same = λ db key. just_same c rules who calls n db0 db key0 key part t xs h k;
+just_passes c era rules who calls n db0 key0 part t xs pend h k = record {
+  stays = stays_at c era rules who calls n db0 key0 part t h (just_sure c era rules who calls n db0 key0 part t xs h k);
+  same = λ db key. just_same c era rules who calls n db0 db key0 key part t xs h k;
   untold = λ db key. (ap (λ (l : List _). told_by_all db key (labels_of n pend l)) (outs_are c n db0 key0 part t xs k)
       ∙ ap (λ (l : List _). told_by_all db key l) (labels_more n pend t.outs (map (out_of t.node.generation n db0 key0) xs))
       ∙ told_by_more db key (labels_of n pend t.outs) (labels_of n pend (map (out_of t.node.generation n db0 key0) xs))
       ∙ ap (λ (l : List law.Label). told_by_all db key (labels_of n pend t.outs) ++ l) (just_untold c n db0 db key0 key part t xs pend k)
       ∙ no_more (told_by_all db key (labels_of n pend t.outs)));
-  plain = λ p before. subst (λ (l : List _). AllPlain p (frames_of l)) (sym (outs_are c n db0 key0 part t xs k))
-      (subst (λ (l : List Sent). AllPlain p l) (sym (frames_more t.outs (map (out_of t.node.generation n db0 key0) xs)))
-      (plain_more p (frames_of t.outs) _ before (plain_sends p (place_of c n db0 key0 t.node) t.node.generation n xs k.about k.sound)));
+  plain = λ p before. subst (λ (l : List _). AllPlain era.number (frames_of l)) (sym (outs_are c n db0 key0 part t xs k))
+      (subst (λ (l : List Sent). AllPlain era.number l) (sym (frames_more t.outs (map (out_of t.node.generation n db0 key0) xs)))
+      (plain_more era.number (frames_of t.outs) _ before (plain_sends (place_of c n db0 key0 t.node) t.node.generation n xs k.about k.sound)));
 }
 
 -- its mail is the record's own
-mail_with : (c : Config) (n db0 db : ℕ) (key0 key : List ℕ) (part : Place → Moving → Moving) (t : Turn) (xs : List Act) → Just_sends c n db0 key0 part t xs →
-    mails db key (frames_of (at_record c n db0 key0 part t).outs) ≡ mails db key (frames_of t.outs) ++ mails db key (frames_of (map (out_of t.node.generation n db0 key0) xs))
-mail_with c n db0 db key0 key part t xs k =
-    ap (λ (l : List _). mails db key (frames_of l)) (outs_are c n db0 key0 part t xs k)
-    ∙ ap (λ (l : List Sent). mails db key l) (frames_more t.outs (map (out_of t.node.generation n db0 key0) xs))
-    ∙ mails_more db key (frames_of t.outs) _
+mail_with : (c : Config) (era : Era) (n db0 db : ℕ) (key0 key : List ℕ) (part : Place → Moving → Moving) (t : Turn) (xs : List Act) → Just_sends c n db0 key0 part t xs →
+    mails era.number db key (frames_of (at_record c n db0 key0 part t).outs) ≡ mails era.number db key (frames_of t.outs) ++ mails era.number db key (frames_of (map (out_of t.node.generation n db0 key0) xs))
+mail_with c era n db0 db key0 key part t xs k =
+    ap (λ (l : List _). mails era.number db key (frames_of l)) (outs_are c n db0 key0 part t xs k)
+    ∙ ap (λ (l : List Sent). mails era.number db key l) (frames_more t.outs (map (out_of t.node.generation n db0 key0) xs))
+    ∙ mails_more era.number db key (frames_of t.outs) _
 
-pub own_mail : (c : Config) (n db : ℕ) (key : List ℕ) (part : Place → Moving → Moving) (t : Turn) (xs : List Act) → Just_sends c n db key part t xs →
-    mails db key (frames_of (at_record c n db key part t).outs) ≡ mails db key (frames_of t.outs) ++ sent n xs
+pub own_mail : (c : Config) (era : Era) (n db : ℕ) (key : List ℕ) (part : Place → Moving → Moving) (t : Turn) (xs : List Act) → Just_sends c n db key part t xs →
+    mails era.number db key (frames_of (at_record c n db key part t).outs) ≡ mails era.number db key (frames_of t.outs) ++ sent n xs
 unfolding place_of
-own_mail c n db key part t xs k = mail_with c n db db key key part t xs k ∙ ap (λ (l : List Mail). mails db key (frames_of t.outs) ++ l) (mails_same (place_of c n db key t.node) t.node.generation n xs k.about)
+own_mail c era n db key part t xs k = mail_with c era n db db key key part t xs k ∙ ap (λ (l : List Mail). mails era.number db key (frames_of t.outs) ++ l) (mails_same (place_of c n db key t.node) t.node.generation n xs k.about)
 
-pub other_mail : (c : Config) (n db0 db : ℕ) (key0 key : List ℕ) (part : Place → Moving → Moving) (t : Turn) (xs : List Act) → Just_sends c n db0 key0 part t xs → is_it db key db0 key0 ≡ false →
-    mails db key (frames_of (at_record c n db0 key0 part t).outs) ≡ mails db key (frames_of t.outs)
+pub other_mail : (c : Config) (era : Era) (n db0 db : ℕ) (key0 key : List ℕ) (part : Place → Moving → Moving) (t : Turn) (xs : List Act) → Just_sends c n db0 key0 part t xs → is_it db key db0 key0 ≡ false →
+    mails era.number db key (frames_of (at_record c n db0 key0 part t).outs) ≡ mails era.number db key (frames_of t.outs)
 unfolding place_of
-other_mail c n db0 db key0 key part t xs k unlike = mail_with c n db0 db key0 key part t xs k ∙ ap (λ (l : List Mail). mails db key (frames_of t.outs) ++ l) (mails_other (place_of c n db0 key0 t.node) db key t.node.generation n xs unlike k.about) ∙ no_more _
+other_mail c era n db0 db key0 key part t xs k unlike = mail_with c era n db0 db key0 key part t xs k ∙ ap (λ (l : List Mail). mails era.number db key (frames_of t.outs) ++ l) (mails_other (place_of c n db0 key0 t.node) db key t.node.generation n xs unlike k.about) ∙ no_more _
 
 -- ---- the Call and the Revokes of one record
 
 -- the Call of a record, and its Revokes, as its world has them
-abbrev pub calls_at : Config → Rules → ℕ → ℕ → List ℕ → View → List Act
-calls_at c rules n db key v = calls_sent (place (scene c rules db key) n v) v.state.wish
+abbrev pub calls_at : Config → Era → Rules → ℕ → ℕ → List ℕ → View → List Act
+calls_at c era rules n db key v = calls_sent (place (scene c era rules db key) n v) v.state.wish
 
-abbrev pub revokes_at : Config → Rules → ℕ → ℕ → List ℕ → View → List Act
-revokes_at c rules n db key v = revokes_sent (place (scene c rules db key) n v) v.state.tracking.revoking
+abbrev pub revokes_at : Config → Era → Rules → ℕ → ℕ → List ℕ → View → List Act
+revokes_at c era rules n db key v = revokes_sent (place (scene c era rules db key) n v) v.state.tracking.revoking
 
 parts_all : (P : Mail → Type 0) (xs ys : List Mail) → AllByRecursion P (xs ++ ys) → AllByRecursion P xs × AllByRecursion P ys
 parts_all P [] ys h = (tt, h)
 parts_all P (x ∷ xs) ys h = (let p = parts_all P xs ys h.1 in ((h.0, p.0), p.1))
 
-both_sound : (c : Config) (rules : Rules) (n db : ℕ) (key : List ℕ) (v : View) → is_db db ≡ true → is_node n ≡ true → Is_formed (scene c rules db key) n v →
-    AllByRecursion Is_sound_mail (sent n (calls_at c rules n db key v)) × AllByRecursion Is_sound_mail (sent n (revokes_at c rules n db key v))
-both_sound c rules n db key v has node h =
-    let is = resend_is (place (scene c rules db key) n v) (starts v) in
-    parts_all Is_sound_mail (sent n (calls_at c rules n db key v)) (sent n (revokes_at c rules n db key v))
-    (subst (λ (l : List Mail). AllByRecursion Is_sound_mail l) (sent_more n (calls_at c rules n db key v) (revokes_at c rules n db key v))
-    (subst (λ (o : Moving). AllByRecursion Is_sound_mail (sent n o.acts)) is (sound_moves (scene c rules db key) n v event.Resend has node h tt refl (ap (λ (o : Moving). o.spent) is))))
+both_sound : (c : Config) (era : Era) (rules : Rules) (n db : ℕ) (key : List ℕ) (v : View) → is_db db ≡ true → is_node n ≡ true → Is_formed (scene c era rules db key) n v →
+    AllByRecursion Is_sound_mail (sent n (calls_at c era rules n db key v)) × AllByRecursion Is_sound_mail (sent n (revokes_at c era rules n db key v))
+both_sound c era rules n db key v has node h =
+    let is = resend_is (place (scene c era rules db key) n v) (starts v) in
+    parts_all Is_sound_mail (sent n (calls_at c era rules n db key v)) (sent n (revokes_at c era rules n db key v))
+    (subst (λ (l : List Mail). AllByRecursion Is_sound_mail l) (sent_more n (calls_at c era rules n db key v) (revokes_at c era rules n db key v))
+    (subst (λ (o : Moving). AllByRecursion Is_sound_mail (sent n o.acts)) is (sound_moves (scene c era rules db key) n v event.Resend has node h tt refl (ap (λ (o : Moving). o.spent) is))))
 
 -- what is known of the node
 pub record Retries_at (c : Config) (n : ℕ) : Type 0 where
   pub real : is_node n ≡ true
   pub small : (db : ℕ) → db < length c.dbs → is_db db ≡ true
 
-pub calls_just : (c : Config) (rules : Rules) (who : Callers) (calls n db : ℕ) (key : List ℕ) (t : Turn) → Retries_at c n → NodeStays c rules who calls n t.node → db < length c.dbs → Just_sends c n db key call_again t (calls_at c rules n db key (view db key t.node))
+pub calls_just : (c : Config) (era : Era) (rules : Rules) (who : Callers) (calls n db : ℕ) (key : List ℕ) (t : Turn) → Retries_at c n → NodeStays c era rules who calls n t.node → db < length c.dbs → Just_sends c n db key call_again t (calls_at c era rules n db key (view db key t.node))
 unfolding node.view Told
-calls_just c rules who calls n db key t r h l =
-    let at = place_is c rules n db key t.node h.members in
-    let is : call_again (place_of c n db key t.node) (node.view db key t.node) ≡ more (calls_at c rules n db key (view db key t.node)) (node.view db key t.node) =
-    ap (λ (p : Place). call_again p (node.view db key t.node)) at ∙ call_again_is (place (scene c rules db key) n (view db key t.node)) (node.view db key t.node) in record {
+calls_just c era rules who calls n db key t r h l =
+    let at = place_is c era rules n db key t.node h.members in
+    let is : call_again (place_of c n db key t.node) (node.view db key t.node) ≡ more (calls_at c era rules n db key (view db key t.node)) (node.view db key t.node) =
+    ap (λ (p : Place). call_again p (node.view db key t.node)) at ∙ call_again_is (place (scene c era rules db key) n (view db key t.node)) (node.view db key t.node) in record {
       there = subst (λ (k : ℕ). db < k) (sym h.size) l;
       is = is;
       about = subst (λ (o : Moving). Told (place_of c n db key t.node) o.acts) is (call_again_told (place_of c n db key t.node) (node.view db key t.node) tt);
       untold = calls_untold n nothing_asked _ _;
-      sound = (both_sound c rules n db key (view db key t.node) (r.small db l) r.real (h.formed db key)).0;
+      sound = (both_sound c era rules n db key (view db key t.node) (r.small db l) r.real (h.formed db key)).0;
     }
 
-pub revokes_just : (c : Config) (rules : Rules) (who : Callers) (calls n db : ℕ) (key : List ℕ) (t : Turn) → Retries_at c n → NodeStays c rules who calls n t.node → db < length c.dbs → Just_sends c n db key revoke_again t (revokes_at c rules n db key (view db key t.node))
+pub revokes_just : (c : Config) (era : Era) (rules : Rules) (who : Callers) (calls n db : ℕ) (key : List ℕ) (t : Turn) → Retries_at c n → NodeStays c era rules who calls n t.node → db < length c.dbs → Just_sends c n db key revoke_again t (revokes_at c era rules n db key (view db key t.node))
 unfolding node.view Told
-revokes_just c rules who calls n db key t r h l =
-    let at = place_is c rules n db key t.node h.members in
-    let is : revoke_again (place_of c n db key t.node) (node.view db key t.node) ≡ more (revokes_at c rules n db key (view db key t.node)) (node.view db key t.node) =
-    ap (λ (p : Place). revoke_again p (node.view db key t.node)) at ∙ revoke_again_is (place (scene c rules db key) n (view db key t.node)) (node.view db key t.node) in record {
+revokes_just c era rules who calls n db key t r h l =
+    let at = place_is c era rules n db key t.node h.members in
+    let is : revoke_again (place_of c n db key t.node) (node.view db key t.node) ≡ more (revokes_at c era rules n db key (view db key t.node)) (node.view db key t.node) =
+    ap (λ (p : Place). revoke_again p (node.view db key t.node)) at ∙ revoke_again_is (place (scene c era rules db key) n (view db key t.node)) (node.view db key t.node) in record {
       there = subst (λ (k : ℕ). db < k) (sym h.size) l;
       is = is;
       about = subst (λ (o : Moving). Told (place_of c n db key t.node) o.acts) is (revoke_again_told (place_of c n db key t.node) (node.view db key t.node) tt);
       untold = revokes_untold n nothing_asked _ _;
-      sound = (both_sound c rules n db key (view db key t.node) (r.small db l) r.real (h.formed db key)).1;
+      sound = (both_sound c era rules n db key (view db key t.node) (r.small db l) r.real (h.formed db key)).1;
     }
 
 -- ---- one record after the other
 
-pub passes_none : (c : Config) (rules : Rules) (who : Callers) (calls n : ℕ) (pend : List PendingCall) (t : Turn) → NodeStays c rules who calls n t.node → Passes c rules who calls n pend t t
-passes_none c rules who calls n pend t h = record { stays = h; same = λ db key. refl; untold = λ db key. refl; plain = λ p b. b }
+pub passes_none : (c : Config) (era : Era) (rules : Rules) (who : Callers) (calls n : ℕ) (pend : List PendingCall) (t : Turn) → NodeStays c era rules who calls n t.node → Passes c era rules who calls n pend t t
+passes_none c era rules who calls n pend t h = record { stays = h; same = λ db key. refl; untold = λ db key. refl; plain = λ p b. b }
 
-pub passes_more : (c : Config) (rules : Rules) (who : Callers) (calls n : ℕ) (pend : List PendingCall) (t u v : Turn) → Passes c rules who calls n pend t u → Passes c rules who calls n pend u v → Passes c rules who calls n pend t v
-passes_more c rules who calls n pend t u v a b = record {
+pub passes_more : (c : Config) (era : Era) (rules : Rules) (who : Callers) (calls n : ℕ) (pend : List PendingCall) (t u v : Turn) → Passes c era rules who calls n pend t u → Passes c era rules who calls n pend u v → Passes c era rules who calls n pend t v
+passes_more c era rules who calls n pend t u v a b = record {
   stays = b.stays;
   same = λ db key. b.same db key ∙ a.same db key;
   untold = λ db key. b.untold db key ∙ a.untold db key;
@@ -340,19 +340,19 @@ times [] m = []
 times (x ∷ xs) m = m ++ times xs m
 
 -- the part only sends this, at every record of the node
-abbrev pub Sends_each : Config → Rules → Callers → ℕ → ℕ → (Place → Moving → Moving) → (ℕ → List ℕ → View → List Act) → Type 0
-Sends_each c rules who calls n part what = (db : ℕ) (key : List ℕ) (t : Turn) → NodeStays c rules who calls n t.node → db < length c.dbs → Just_sends c n db key part t (what db key (view db key t.node))
+abbrev pub Sends_each : Config → Era → Rules → Callers → ℕ → ℕ → (Place → Moving → Moving) → (ℕ → List ℕ → View → List Act) → Type 0
+Sends_each c era rules who calls n part what = (db : ℕ) (key : List ℕ) (t : Turn) → NodeStays c era rules who calls n t.node → db < length c.dbs → Just_sends c n db key part t (what db key (view db key t.node))
 
 abbrev pub AllInside : Config → List Called → Type 0
 AllInside c xs = AllByRecursion (λ x. x.db < length c.dbs) xs
 
-pub all_passes : (c : Config) (rules : Rules) (who : Callers) (calls n : ℕ) (pend : List PendingCall) (part : Place → Moving → Moving) (what : ℕ → List ℕ → View → List Act) (xs : List Called) (t : Turn) → Sends_each c rules who calls n part what →
-    AllInside c xs → NodeStays c rules who calls n t.node → Passes c rules who calls n pend t (at_all c n part xs t)
+pub all_passes : (c : Config) (era : Era) (rules : Rules) (who : Callers) (calls n : ℕ) (pend : List PendingCall) (part : Place → Moving → Moving) (what : ℕ → List ℕ → View → List Act) (xs : List Called) (t : Turn) → Sends_each c era rules who calls n part what →
+    AllInside c xs → NodeStays c era rules who calls n t.node → Passes c era rules who calls n pend t (at_all c n part xs t)
 unfolding at_all
-all_passes c rules who calls n pend part what [] t s l h = passes_none c rules who calls n pend t h
-all_passes c rules who calls n pend part what (x ∷ xs) t s l h =
-    let one = just_passes c rules who calls n x.db x.key part t _ pend h (s x.db x.key t h l.0) in
-    passes_more c rules who calls n pend t (at_record c n x.db x.key part t) _ one (all_passes c rules who calls n pend part what xs (at_record c n x.db x.key part t) s l.1 one.stays)
+all_passes c era rules who calls n pend part what [] t s l h = passes_none c era rules who calls n pend t h
+all_passes c era rules who calls n pend part what (x ∷ xs) t s l h =
+    let one = just_passes c era rules who calls n x.db x.key part t _ pend h (s x.db x.key t h l.0) in
+    passes_more c era rules who calls n pend t (at_record c n x.db x.key part t) _ one (all_passes c era rules who calls n pend part what xs (at_record c n x.db x.key part t) s l.1 one.stays)
 
 and_both : (a b : Bool) → (a && b) ≡ true → (a ≡ true) × (b ≡ true)
 and_both true b e = (refl, e)
@@ -370,27 +370,27 @@ called_not db key x e = ⊎_elim
     (λ (f : is_it db key x.db x.key ≡ false). f)
     (true_or_false (is_it db key x.db x.key))
 
-pub all_mail : (c : Config) (rules : Rules) (who : Callers) (calls n : ℕ) (part : Place → Moving → Moving) (what : ℕ → List ℕ → View → List Act) (xs : List Called) (t : Turn) → Sends_each c rules who calls n part what →
-    AllInside c xs → NodeStays c rules who calls n t.node → (db : ℕ) (key : List ℕ) →
-    mails db key (frames_of (at_all c n part xs t).outs) ≡ mails db key (frames_of t.outs) ++ times (filter (is_called_at db key) xs) (sent n (what db key (view db key t.node)))
+pub all_mail : (c : Config) (era : Era) (rules : Rules) (who : Callers) (calls n : ℕ) (part : Place → Moving → Moving) (what : ℕ → List ℕ → View → List Act) (xs : List Called) (t : Turn) → Sends_each c era rules who calls n part what →
+    AllInside c xs → NodeStays c era rules who calls n t.node → (db : ℕ) (key : List ℕ) →
+    mails era.number db key (frames_of (at_all c n part xs t).outs) ≡ mails era.number db key (frames_of t.outs) ++ times (filter (is_called_at db key) xs) (sent n (what db key (view db key t.node)))
 unfolding at_all times
-all_mail c rules who calls n part what [] t s l h db key = sym (no_more _)
-all_mail c rules who calls n part what (x ∷ xs) t s l h db key =
+all_mail c era rules who calls n part what [] t s l h db key = sym (no_more _)
+all_mail c era rules who calls n part what (x ∷ xs) t s l h db key =
     let u = at_record c n x.db x.key part t in
     let k = s x.db x.key t h l.0 in
-    let one = just_passes c rules who calls n x.db x.key part t _ [] h k in
+    let one = just_passes c era rules who calls n x.db x.key part t _ [] h k in
     let more' : List Mail = times (filter (is_called_at db key) xs) (sent n (what db key (view db key t.node))) in
-    all_mail c rules who calls n part what xs u s l.1 one.stays db key
-    ∙ ap (λ (v : View). mails db key (frames_of u.outs) ++ times (filter (is_called_at db key) xs) (sent n (what db key v))) (one.same db key)
+    all_mail c era rules who calls n part what xs u s l.1 one.stays db key
+    ∙ ap (λ (v : View). mails era.number db key (frames_of u.outs) ++ times (filter (is_called_at db key) xs) (sent n (what db key v))) (one.same db key)
     ∙ decide (is_called_at db key x) refl
   where
     decide : (b : Bool) → is_called_at db key x ≡ b →
-        mails db key (frames_of (at_record c n x.db x.key part t).outs) ++ times (filter (is_called_at db key) xs) (sent n (what db key (view db key t.node)))
-        ≡ mails db key (frames_of t.outs) ++ times (cond b (x ∷ filter (is_called_at db key) xs) (filter (is_called_at db key) xs)) (sent n (what db key (view db key t.node)))
+        mails era.number db key (frames_of (at_record c n x.db x.key part t).outs) ++ times (filter (is_called_at db key) xs) (sent n (what db key (view db key t.node)))
+        ≡ mails era.number db key (frames_of t.outs) ++ times (cond b (x ∷ filter (is_called_at db key) xs) (filter (is_called_at db key) xs)) (sent n (what db key (view db key t.node)))
     decide true e = (let p = called_is db key x e in
         ap (λ (m : List Mail). m ++ times (filter (is_called_at db key) xs) (sent n (what db key (view db key t.node))))
-        (subst (λ (q : List ℕ). mails db q (frames_of (at_record c n x.db x.key part t).outs) ≡ mails db q (frames_of t.outs) ++ sent n (what db q (view db q t.node))) p.1
-        (subst (λ (d : ℕ). mails d x.key (frames_of (at_record c n x.db x.key part t).outs) ≡ mails d x.key (frames_of t.outs) ++ sent n (what d x.key (view d x.key t.node))) p.0
-        (own_mail c n x.db x.key part t _ (s x.db x.key t h l.0))))
-        ∙ list_more (mails db key (frames_of t.outs)) _ _)
-    decide false e = ap (λ (m : List Mail). m ++ times (filter (is_called_at db key) xs) (sent n (what db key (view db key t.node)))) (other_mail c n x.db db x.key key part t _ (s x.db x.key t h l.0) (called_not db key x e))
+        (subst (λ (q : List ℕ). mails era.number db q (frames_of (at_record c n x.db x.key part t).outs) ≡ mails era.number db q (frames_of t.outs) ++ sent n (what db q (view db q t.node))) p.1
+        (subst (λ (d : ℕ). mails era.number d x.key (frames_of (at_record c n x.db x.key part t).outs) ≡ mails era.number d x.key (frames_of t.outs) ++ sent n (what d x.key (view d x.key t.node))) p.0
+        (own_mail c era n x.db x.key part t _ (s x.db x.key t h l.0))))
+        ∙ list_more (mails era.number db key (frames_of t.outs)) _ _)
+    decide false e = ap (λ (m : List Mail). m ++ times (filter (is_called_at db key) xs) (sent n (what db key (view db key t.node)))) (other_mail c era n x.db db x.key key part t _ (s x.db x.key t h l.0) (called_not db key x e))

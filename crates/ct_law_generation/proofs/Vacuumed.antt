@@ -9,7 +9,6 @@ use Rattle.ct_msg.specs.declared.client.ClientOp.{ClientOp}
 use Rattle.ct_msg.specs.declared.config.Config.{Config}
 use Rattle.ct_frame.specs.Fields.{is_db, is_node}
 use Rattle.ct_frame.specs.declared.event.Event.TheVariants as node_event
-use Rattle.ct_frame.specs.declared.frame.Msg.{Msg}
 use Rattle.ct_call.specs.Rules.{Rules}
 use Rattle.ct_deleg.specs.Tracked.{Ascends, AscendsFrom, others}
 use Rattle.ct_deleg.proofs.Nodes.{ascends_others}
@@ -37,7 +36,7 @@ use Rattle.ct_register.specs.Legal.{db_of, key_of}
 use Rattle.ct_register.specs.Words.{is_in}
 use Rattle.ct_law_record.specs.World.{Scene, View, World, Vacuums, happens, put, last, trace, place, starts, own_call, waiting_call}
 use Rattle.ct_law_record.specs.World as law
-use Rattle.ct_law_generation.specs.Shown.{scene, view, is_it, heard, told_by_all, labels_of, project, amid, Finds, Follows, Schedules}
+use Rattle.ct_law_generation.specs.Shown.{Era, scene, view, is_it, heard, told_by_all, labels_of, project, amid, Finds, Follows, Schedules}
 use Rattle.ct_law_generation.proofs.Weave.{it_is, true_or_false}
 use Rattle.ct_law_generation.proofs.Wishing.{Wishful, vacuum_wish}
 use Rattle.ct_law_generation.proofs.Hearing.{heard_more}
@@ -57,10 +56,10 @@ list_more [] ys zs = refl
 list_more (x ∷ xs) ys zs = ap (λ (l : List _). x ∷ l) (list_more xs ys zs)
 
 -- the world of a record follows both
-pub follows_more : (s : Scene) (n : ℕ) (w : World) (calls : List PendingCall) (t u v : Turn) → Follows s n w calls t u → Follows s n w calls u v → Follows s n w calls t v
-follows_more s n w calls t u v f g =
-    let a = amid s.db s.key n w t in
-    let b = amid s.db s.key n w u in
+pub follows_more : (g : ℕ) (s : Scene) (n : ℕ) (w : World) (calls : List PendingCall) (t u v : Turn) → Follows g s n w calls t u → Follows g s n w calls u v → Follows g s n w calls t v
+follows_more g s n w calls t u v f g =
+    let a = amid g s.db s.key n w t in
+    let b = amid g s.db s.key n w u in
     let told = told_by_all s.db s.key (labels_of n calls t.outs) in
     let both : heard (trace s a (f.0 ++ g.0)) ≡ heard (trace s a f.0) ++ heard (trace s b g.0) =
     ap heard (trace_more s a f.0 g.0) ∙ heard_more (trace s a f.0) (trace s (last s a f.0) g.0) ∙ ap (λ (x : World). heard (trace s a f.0) ++ heard (trace s x g.0)) f.1.world in (
@@ -71,18 +70,18 @@ follows_more s n w calls t u v f g =
       },
     )
 
-pub goes_more : (c : Config) (rules : Rules) (who : Callers) (calls n : ℕ) (pend : List PendingCall) (ws : ℕ → List ℕ → World) (t u v : Turn) →
-    Goes_on c rules who calls n pend ws t u → Goes_on c rules who calls n pend ws u v → Goes_on c rules who calls n pend ws t v
-goes_more c rules who calls n pend ws t u v f g = (g.0, λ db key. follows_more (scene c rules db key) n (ws db key) pend t u v (f.1 db key) (g.1 db key), λ p before. g.2 p (f.2 p before))
+pub goes_more : (c : Config) (era : Era) (rules : Rules) (who : Callers) (calls n : ℕ) (pend : List PendingCall) (ws : ℕ → List ℕ → World) (t u v : Turn) →
+    Goes_on c era rules who calls n pend ws t u → Goes_on c era rules who calls n pend ws u v → Goes_on c era rules who calls n pend ws t v
+goes_more c era rules who calls n pend ws t u v f g = (g.0, λ db key. follows_more era.number (scene c era rules db key) n (ws db key) pend t u v (f.1 db key) (g.1 db key), λ p before. g.2 p (f.2 p before))
 
 -- nothing happens
-pub goes_nowhere : (c : Config) (rules : Rules) (who : Callers) (calls n : ℕ) (pend : List PendingCall) (ws : ℕ → List ℕ → World) (t : Turn) → NodeStays c rules who calls n t.node → Goes_on c rules who calls n pend ws t t
+pub goes_nowhere : (c : Config) (era : Era) (rules : Rules) (who : Callers) (calls n : ℕ) (pend : List PendingCall) (ws : ℕ → List ℕ → World) (t : Turn) → NodeStays c era rules who calls n t.node → Goes_on c era rules who calls n pend ws t t
 unfolding heard
-goes_nowhere c rules who calls n pend ws t h = (h, (λ db key. ([], record { world = refl; labels = sym (append-nil _) })), λ p before. before)
+goes_nowhere c era rules who calls n pend ws t h = (h, (λ db key. ([], record { world = refl; labels = sym (append-nil _) })), λ p before. before)
 
 -- what was reached before a step leads to what is reached amid it
-pub reached_on : (s : Scene) (n : ℕ) (w : World) (calls : List PendingCall) (t u : Turn) → Reached s (amid s.db s.key n w t) → Follows s n w calls t u → Reached s (amid s.db s.key n w u)
-reached_on s n w calls t u r f = (r.0 ++ f.0, last_more s law.opening r.0 f.0 ∙ ap (λ (x : World). last s x f.0) r.1 ∙ f.1.world)
+pub reached_on : (g : ℕ) (s : Scene) (n : ℕ) (w : World) (calls : List PendingCall) (t u : Turn) → Reached s (amid g s.db s.key n w t) → Follows g s n w calls t u → Reached s (amid g s.db s.key n w u)
+reached_on g s n w calls t u r f = (r.0 ++ f.0, last_more s law.opening r.0 f.0 ∙ ap (λ (x : World). last s x f.0) r.1 ∙ f.1.world)
 
 -- ---- the members but this one
 
@@ -95,9 +94,9 @@ not_there : (n : ℕ) (ns : List ℕ) → ¬ (Contains (others n ns) n)
 not_there n ns h = (let p : not (nat_eq n n) ≡ true = All-contains (λ m. not (nat_eq m n) ≡ true) (others n ns) n (filter_passes (λ m. not (nat_eq m n)) ns) h in
     let q = eq-eqb n n refl in absurd (let r = ap not q in let z = sym r ∙ p in cc))
 
-pub others_come : (c : Config) (n : ℕ) → Ascends (without n (everyone c)) × ¬ (Contains (without n (everyone c)) n)
+pub others_come : (c : Config) (era : Era) (n : ℕ) → Ascends (without n era.members) × ¬ (Contains (without n era.members) n)
 unfolding without everyone
-others_come c n = (ascends_others n 0 (numbers 0 c.nodes) (ascends_numbers 0 c.nodes), not_there n (numbers 0 c.nodes))
+others_come c era n = (ascends_others n 0 (numbers 0 c.nodes) (ascends_numbers 0 c.nodes), not_there n (numbers 0 c.nodes))
 
 -- ---- the calls that wait
 
@@ -144,19 +143,19 @@ kept_wish P s h = grind (arith, h)
 abbrev pub vacuumed : ℕ → Turn → Place → Moving → Moving
 vacuumed n t at o = vacuum at (without n t.node.members) o
 
-vacuums_happen : (c : Config) (rules : Rules) (n db : ℕ) (key : List ℕ) (t : Turn) (w : World) → t.node.members ≡ everyone c →
-    happens (scene c rules db key) (amid db key n w t) (Vacuums n) ≡ put (scene c rules db key) (amid db key n w t) n (waiting_call (state_at db key t.node).wish) (left_by c n db key (vacuumed n t) t)
+vacuums_happen : (c : Config) (era : Era) (rules : Rules) (n db : ℕ) (key : List ℕ) (t : Turn) (w : World) → t.node.members ≡ era.members →
+    happens (scene c era rules db key) (amid era.number db key n w t) (Vacuums n) ≡ put (scene c era rules db key) (amid era.number db key n w t) n (waiting_call (state_at db key t.node).wish) (left_by c n db key (vacuumed n t) t)
 unfolding node.view without
-vacuums_happen c rules n db key t w h =
-    ap (λ (v : View). put (scene c rules db key) (amid db key n w t) n (waiting_call v.state.wish) (vacuum (place (scene c rules db key) n v) (others n (everyone c)) (starts v))) (self db key n w t)
-    ∙ ap (λ (p : Place). put (scene c rules db key) (amid db key n w t) n (waiting_call (state_at db key t.node).wish) (vacuum p (others n (everyone c)) (starts (view db key t.node)))) (sym (place_is c rules n db key t.node h))
-    ∙ ap (λ (ms : List ℕ). put (scene c rules db key) (amid db key n w t) n (waiting_call (state_at db key t.node).wish) (vacuum (place_of c n db key t.node) (others n ms) (starts (view db key t.node)))) (sym h)
+vacuums_happen c era rules n db key t w h =
+    ap (λ (v : View). put (scene c era rules db key) (amid era.number db key n w t) n (waiting_call v.state.wish) (vacuum (place (scene c era rules db key) n v) (others n era.members) (starts v))) (self era.number db key n w t)
+    ∙ ap (λ (p : Place). put (scene c era rules db key) (amid era.number db key n w t) n (waiting_call (state_at db key t.node).wish) (vacuum p (others n era.members) (starts (view db key t.node)))) (sym (place_is c era rules n db key t.node h))
+    ∙ ap (λ (ms : List ℕ). put (scene c era rules db key) (amid era.number db key n w t) n (waiting_call (state_at db key t.node).wish) (vacuum (place_of c n db key t.node) (others n ms) (starts (view db key t.node)))) (sym h)
 
 -- the calls that wait are found after the step
-waited_on : (c : Config) (rules : Rules) (who : Callers) (calls n db : ℕ) (key : List ℕ) (pend : List PendingCall) (t : Turn) → NodeStays c rules who calls n t.node → db < length t.node.dbs →
+waited_on : (c : Config) (era : Era) (rules : Rules) (who : Callers) (calls n db : ℕ) (key : List ℕ) (pend : List PendingCall) (t : Turn) → NodeStays c era rules who calls n t.node → db < length t.node.dbs →
     AllWaited db n pend t.node → AllWaited db n pend (at_record c n db key (vacuumed n t) t).node
 unfolding node.view
-waited_on c rules who calls n db key pend t h there all k = ⊎_elim
+waited_on c era rules who calls n db key pend t h there all k = ⊎_elim
     (λ (is : is_it db k db key ≡ true). (let p = it_is db db k key is in
     subst (λ (j : List ℕ). Wishful (Waited db j n pend) (state_at db j (at_record c n db key (vacuumed n t) t).node).wish) p.1
     (subst (λ (s : RecState). Wishful (Waited db key n pend) s.wish) (sym ((moves_at c n db key (vacuumed n t) t h.known.order).seen there))
@@ -164,21 +163,21 @@ waited_on c rules who calls n db key pend t h there all k = ⊎_elim
     (λ (unlike : is_it db k db key ≡ false). subst (λ (s : RecState). Wishful (Waited db k n pend) s.wish) (sym (other_state c n db db key k (vacuumed n t) t h.known.order unlike)) (all k))
     (true_or_false (is_it db k db key))
 
-vacuum_goes : (c : Config) (rules : Rules) (who : Callers) (calls n db : ℕ) (key : List ℕ) (pend : List PendingCall) (ws : ℕ → List ℕ → World) (t : Turn) → list_all is_node (everyone c) ≡ true → is_in n (everyone c) ≡ true → is_db db ≡ true →
-    NodeStays c rules who calls n t.node → db < length t.node.dbs → AllWaited db n pend t.node → Reached (scene c rules db key) (amid db key n (ws db key) t) → (at_record c n db key (vacuumed n t) t).spent ≡ false →
-    Goes_on c rules who calls n pend ws t (at_record c n db key (vacuumed n t) t)
+vacuum_goes : (c : Config) (era : Era) (rules : Rules) (who : Callers) (calls n db : ℕ) (key : List ℕ) (pend : List PendingCall) (ws : ℕ → List ℕ → World) (t : Turn) → list_all is_node era.members ≡ true → is_in n era.members ≡ true → is_db db ≡ true →
+    NodeStays c era rules who calls n t.node → db < length t.node.dbs → AllWaited db n pend t.node → Reached (scene c era rules db key) (amid era.number db key n (ws db key) t) → (at_record c n db key (vacuumed n t) t).spent ≡ false →
+    Goes_on c era rules who calls n pend ws t (at_record c n db key (vacuumed n t) t)
 unfolding KnownAt state_at node.view
-vacuum_goes c rules who calls n db key pend ws t real member small h there all reached spent =
-    follows c rules who calls n db key (event.Vacuum (without n t.node.members)) t pend (waiting_call (state_at db key t.node).wish) ws (Vacuums n) real member h (record {
+vacuum_goes c era rules who calls n db key pend ws t real member small h there all reached spent =
+    follows c era rules who calls n db key (event.Vacuum (without n t.node.members)) t pend (waiting_call (state_at db key t.node).wish) ws (Vacuums n) real member h (record {
       has = small;
       there = there;
-      may = subst (λ (ms : List ℕ). Ascends (without n ms) × ¬ (Contains (without n ms) n)) (sym h.members) (others_come c n);
+      may = subst (λ (ms : List ℕ). Ascends (without n ms) × ¬ (Contains (without n ms) n)) (sym h.members) (others_come c era n);
       from = refl;
       whole = whole_part c n db key (vacuumed n t) t spent;
       known = vacuum_wish (Known who calls n db key) (place_of c n db key t.node) (without n t.node.members) (node.view db key t.node) ((h.known.dbs db).records key);
       finds = waited_finds db key n pend (state_at db key t.node).wish (all key);
       reached = reached;
-      is_event = vacuums_happen c rules n db key t (ws db key) h.members;
+      is_event = vacuums_happen c era rules n db key t (ws db key) h.members;
     })
 
 -- ---- at every record of the database
@@ -194,17 +193,17 @@ whole_before c n db [] t e = e
 whole_before c n db (x ∷ m) t e = either_whole t.spent (left_by c n db x.0 (vacuumed n t) t).spent (whole_before c n db m (at_record c n db x.0 (vacuumed n t) t) e)
 
 -- from a turn t0 on, from which the step came to t
-all_go : (c : Config) (rules : Rules) (who : Callers) (calls n db : ℕ) (m : Pairs RecState) (pend : List PendingCall) (ws : ℕ → List ℕ → World) (t0 t : Turn) → list_all is_node (everyone c) ≡ true → is_in n (everyone c) ≡ true → is_db db ≡ true →
-    db < length c.dbs → ((key : List ℕ) → Reached (scene c rules db key) (amid db key n (ws db key) t0)) → AllWaited db n pend t.node → Goes_on c rules who calls n pend ws t0 t → (vacuum_all c n db m t).spent ≡ false →
-    Goes_on c rules who calls n pend ws t0 (vacuum_all c n db m t)
+all_go : (c : Config) (era : Era) (rules : Rules) (who : Callers) (calls n db : ℕ) (m : Pairs RecState) (pend : List PendingCall) (ws : ℕ → List ℕ → World) (t0 t : Turn) → list_all is_node era.members ≡ true → is_in n era.members ≡ true → is_db db ≡ true →
+    db < length c.dbs → ((key : List ℕ) → Reached (scene c era rules db key) (amid era.number db key n (ws db key) t0)) → AllWaited db n pend t.node → Goes_on c era rules who calls n pend ws t0 t → (vacuum_all c n db m t).spent ≡ false →
+    Goes_on c era rules who calls n pend ws t0 (vacuum_all c n db m t)
 unfolding vacuum_all
-all_go c rules who calls n db [] pend ws t0 t real member small inside reached all g spent = g
-all_go c rules who calls n db (x ∷ m) pend ws t0 t real member small inside reached all g spent =
+all_go c era rules who calls n db [] pend ws t0 t real member small inside reached all g spent = g
+all_go c era rules who calls n db (x ∷ m) pend ws t0 t real member small inside reached all g spent =
     let there : db < length t.node.dbs = subst (λ (l : ℕ). db < l) (sym g.0.size) inside in
     let u = at_record c n db x.0 (vacuumed n t) t in
-    let step = vacuum_goes c rules who calls n db x.0 pend ws t real member small g.0 there all
-    (reached_on (scene c rules db x.0) n (ws db x.0) pend t0 t (reached x.0) (g.1 db x.0)) (whole_before c n db m u spent) in
-    all_go c rules who calls n db m pend ws t0 u real member small inside reached (waited_on c rules who calls n db x.0 pend t g.0 there all) (goes_more c rules who calls n pend ws t0 t u g step) spent
+    let step = vacuum_goes c era rules who calls n db x.0 pend ws t real member small g.0 there all
+    (reached_on era.number (scene c era rules db x.0) n (ws db x.0) pend t0 t (reached x.0) (g.1 db x.0)) (whole_before c n db m u spent) in
+    all_go c era rules who calls n db m pend ws t0 u real member small inside reached (waited_on c era rules who calls n db x.0 pend t g.0 there all) (goes_more c era rules who calls n pend ws t0 t u g step) spent
 
 past_db : (ds : List Database) (db : ℕ) → nat_lt db (length ds) ≡ false → or_untouched (slice_get ds db) ≡ untouched
 unfolding or_untouched
@@ -218,39 +217,39 @@ unfolding db_at vacuum_all untouched
 no_records c n db t e = ap (λ (d : Database). vacuum_all c n db d.records t) (past_db t.node.dbs db e)
 
 -- A vacuum of a database: the node stays as it was, and the world of every record follows.
-pub vacuums_follow : (c : Config) (rules : Rules) (who : Callers) (w : Cluster) (n db : ℕ) → list_all is_node (everyone c) ≡ true → ((d : ℕ) → d < length c.dbs → is_db d ≡ true) → is_in n (everyone c) ≡ true →
-    NodeStays c rules who w.calls n (node_at n w) → ((key : List ℕ) → Finds db key n (pending w) (waiting_call (state_at db key (node_at n w)).wish)) → ((key : List ℕ) → Reached (scene c rules db key) (project db key w)) →
+pub vacuums_follow : (c : Config) (era : Era) (rules : Rules) (who : Callers) (w : Cluster) (n db : ℕ) → list_all is_node era.members ≡ true → ((d : ℕ) → d < length c.dbs → is_db d ≡ true) → is_in n era.members ≡ true →
+    NodeStays c era rules who w.calls n (node_at n w) → ((key : List ℕ) → Finds db key n (pending w) (waiting_call (state_at db key (node_at n w)).wish)) → ((key : List ℕ) → Reached (scene c era rules db key) (project era.number db key w)) →
     (vacuums c n db (begins (node_at n w))).spent ≡ false →
-    Goes_on c rules who w.calls n (pending w) (λ db key. project db key w) (begins (node_at n w)) (vacuums c n db (begins (node_at n w)))
+    Goes_on c era rules who w.calls n (pending w) (λ db key. project era.number db key w) (begins (node_at n w)) (vacuums c n db (begins (node_at n w)))
 unfolding vacuums
-vacuums_follow c rules who w n db real small member h finds reached spent =
+vacuums_follow c era rules who w n db real small member h finds reached spent =
     let t = begins (node_at n w) in
-    let ws : ℕ → List ℕ → World = λ db key. project db key w in
-    let same = goes_nowhere c rules who w.calls n (pending w) ws t h in
-    cond_both (is_serving t.node.phase) (vacuum_all c n db (db_at db t.node).records t) t (λ (u : Turn). u.spent ≡ false → Goes_on c rules who w.calls n (pending w) ws t u)
+    let ws : ℕ → List ℕ → World = λ db key. project era.number db key w in
+    let same = goes_nowhere c era rules who w.calls n (pending w) ws t h in
+    cond_both (is_serving t.node.phase) (vacuum_all c n db (db_at db t.node).records t) t (λ (u : Turn). u.spent ≡ false → Goes_on c era rules who w.calls n (pending w) ws t u)
     (λ _ whole. ⊎_elim
     (λ (is : nat_lt db (length t.node.dbs) ≡ true). (let inside : db < length c.dbs = subst (λ (l : ℕ). db < l) h.size (ltb-true db (length t.node.dbs) is) in
-    all_go c rules who w.calls n db (db_at db t.node).records (pending w) ws t t real member (small db inside) inside
-    (λ key. ((reached key).0, (reached key).1 ∙ begun db key n w)) (λ key. finds_waited db key n (pending w) (state_at db key t.node).wish (finds key)) same whole))
-    (λ (not_so : nat_lt db (length t.node.dbs) ≡ false). subst (λ (u : Turn). Goes_on c rules who w.calls n (pending w) ws t u) (sym (no_records c n db t not_so)) same)
+    all_go c era rules who w.calls n db (db_at db t.node).records (pending w) ws t t real member (small db inside) inside
+    (λ key. ((reached key).0, (reached key).1 ∙ begun era.number db key n w)) (λ key. finds_waited db key n (pending w) (state_at db key t.node).wish (finds key)) same whole))
+    (λ (not_so : nat_lt db (length t.node.dbs) ≡ false). subst (λ (u : Turn). Goes_on c era rules who w.calls n (pending w) ws t u) (sym (no_records c n db t not_so)) same)
     (true_or_false (nat_lt db (length t.node.dbs))))
     (λ _ whole. same) spent
 
 -- and the cluster goes on
-pub vacuums_goes : (c : Config) (rules : Rules) (p : Msg → Bool) (who : Callers) (w : Cluster) (n db : ℕ) (labels : List Label) (es : ℕ → List ℕ → List law.Event) → list_all is_node (everyone c) ≡ true → ((d : ℕ) → d < length c.dbs → is_db d ≡ true) →
-    ClusterStays c rules p who w → Schedules c rules w labels es → is_up n w ≡ true → (vacuums c n db (begins (node_at n w))).spent ≡ false →
-    Cluster_goes c rules p who (steps.put n (vacuums c n db (begins (node_at n w))) [] w).cluster (labels ++ labels_of n (pending w) (vacuums c n db (begins (node_at n w))).outs)
-vacuums_goes c rules p who w n db labels es real small h sched up spent =
+pub vacuums_goes : (c : Config) (era : Era) (rules : Rules) (who : Callers) (w : Cluster) (n db : ℕ) (labels : List Label) (es : ℕ → List ℕ → List law.Event) → list_all is_node era.members ≡ true → ((d : ℕ) → d < length c.dbs → is_db d ≡ true) →
+    ClusterStays c era rules who w → Schedules c era rules w labels es → is_up n w ≡ true → (vacuums c n db (begins (node_at n w))).spent ≡ false →
+    Cluster_goes c era rules who (steps.put n (vacuums c n db (begins (node_at n w))) [] w).cluster (labels ++ labels_of n (pending w) (vacuums c n db (begins (node_at n w))).outs)
+vacuums_goes c era rules who w n db labels es real small h sched up spent =
     let t = h.up n up in
-    put_goes c rules p who w n (vacuums c n db (begins (node_at n w))) labels es t h sched
-    (vacuums_follow c rules who w n db real small (is_member c n t) (h.nodes n t) (λ key. finds_waiting who w.calls n db key w (all_known c rules p who w h)) (λ key. (es db key, (sched db key).0)) spent)
+    put_goes c era rules who w n (vacuums c n db (begins (node_at n w))) labels es t h sched
+    (vacuums_follow c era rules who w n db real small (is_member c era n t) (h.nodes n t) (λ key. finds_waiting who w.calls n db key w (all_known c era rules who w h)) (λ key. (es db key, (sched db key).0)) spent)
 
 -- the vacuum is given to a node that runs, and the step is taken
-pub vacuum_fed : (c : Config) (rules : Rules) (p : Msg → Bool) (who : Callers) (w : Cluster) (n db : ℕ) (labels : List Label) (es : ℕ → List ℕ → List law.Event) (x : steps.Stepped) → list_all is_node (everyone c) ≡ true → ((d : ℕ) → d < length c.dbs → is_db d ≡ true) →
-    ClusterStays c rules p who w → Schedules c rules w labels es → is_up n w ≡ true → steps.fed c rules n (node_event.Vacuum db) [] w ≡ Ok x →
-    Cluster_goes c rules p who x.cluster (labels ++ labels_of n (pending w) (vacuums c n db (begins (node_at n w))).outs)
+pub vacuum_fed : (c : Config) (era : Era) (rules : Rules) (who : Callers) (w : Cluster) (n db : ℕ) (labels : List Label) (es : ℕ → List ℕ → List law.Event) (x : steps.Stepped) → list_all is_node era.members ≡ true → ((d : ℕ) → d < length c.dbs → is_db d ≡ true) →
+    ClusterStays c era rules who w → Schedules c era rules w labels es → is_up n w ≡ true → steps.fed c rules n (node_event.Vacuum db) [] w ≡ Ok x →
+    Cluster_goes c era rules who x.cluster (labels ++ labels_of n (pending w) (vacuums c n db (begins (node_at n w))).outs)
 unfolding node_steps.happens
-vacuum_fed c rules p who w n db labels es x real small h sched up ok =
+vacuum_fed c era rules who w n db labels es x real small h sched up ok =
     let f = fed_is c rules n (node_event.Vacuum db) [] w x ok in
-    subst (λ (y : steps.Stepped). Cluster_goes c rules p who y.cluster (labels ++ labels_of n (pending w) (vacuums c n db (begins (node_at n w))).outs)) (sym f.1)
-    (vacuums_goes c rules p who w n db labels es real small h sched up f.0)
+    subst (λ (y : steps.Stepped). Cluster_goes c era rules who y.cluster (labels ++ labels_of n (pending w) (vacuums c n db (begins (node_at n w))).outs)) (sym f.1)
+    (vacuums_goes c era rules who w n db labels es real small h sched up f.0)
