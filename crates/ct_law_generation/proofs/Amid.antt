@@ -88,9 +88,10 @@ labels_after db key n calls outs more xs e =
 
 -- ---- the record of the step
 
--- what is asked of the step at a record: the node is a member and has the database, its records are in order, no number
+-- what is asked of the step at a record: the node is a member of the generation, in which it is, and has the database, its records are in order, no number
 -- reaches its limit, the state stays where it is blank, what is sent speaks of the record, and the answers are of calls
 pub record Fair (c : Config) (era : Era) (n db : ℕ) (key : List ℕ) (part : Place → Moving → Moving) (t : Turn) (calls : List PendingCall) (asks : ℕ → Option ClientOp) : Type 0 where
+  pub generation : t.node.generation ≡ era.number
   pub members : t.node.members ≡ era.members
   pub member : is_in n era.members ≡ true
   pub order : NodeAscends t.node
@@ -113,7 +114,7 @@ own_step c era rules n db key part t calls asks w e f h =
     let seen = seen_same c n db key part t o refl f.order f.has f.blank in
     let nodes : (k : ℕ) → cond (nat_eq k n) (view_of o) (cond (nat_eq k n) (view db key t.node) (w.nodes k)) ≡ cond (nat_eq k n) (view db key (at_record c n db key part t).node) (w.nodes k)
     = λ k. if_same (nat_eq k n) (view_of o) (view db key t.node) (w.nodes k) ∙ ap (λ (v : View). cond (nat_eq k n) v (w.nodes k)) (sym seen) in
-    let mail = mail_after era.number db key w.mail t.outs (map (out_of t.node.generation n db key) o.acts) (sent n o.acts) (mails_same (place_of c n db key t.node) t.node.generation n o.acts f.sends) in
+    let mail = mail_after era.number db key w.mail t.outs (map (out_of t.node.generation n db key) o.acts) (sent n o.acts) (subst (λ (g : ℕ). mails g db key (frames_of (map (out_of t.node.generation n db key) o.acts)) ≡ sent n o.acts) f.generation (mails_same (place_of c n db key t.node) t.node.generation n o.acts f.sends)) in
     record {
       world = ap (λ (x : Stepped). x.world) all ∙ (λ i. record { nodes = λ k. nodes k i; joined = λ _. true; mail = mail i });
       labels = labels_after db key n calls t.outs (map (out_of t.node.generation n db key) o.acts) _ (hear_same db key t.node.generation n calls asks o.acts f.finds f.asked)
@@ -188,7 +189,7 @@ other_step c era rules n db0 db key0 key part t calls asks w f e =
     let seen = risen c era n db0 db key0 key part t calls asks f e in
     let nodes : (k : ℕ) → cond (nat_eq k n) (view_of (rises db key t u)) (cond (nat_eq k n) (view db key t.node) (w.nodes k)) ≡ cond (nat_eq k n) (view db key u.node) (w.nodes k)
     = λ k. if_same (nat_eq k n) (view_of (rises db key t u)) (view db key t.node) (w.nodes k) ∙ ap (λ (v : View). cond (nat_eq k n) v (w.nodes k)) seen in
-    let mail = mail_after era.number db key w.mail t.outs (map (out_of t.node.generation n db0 key0) o.acts) [] (mails_other (place_of c n db0 key0 t.node) db key t.node.generation n o.acts e f.sends) in
+    let mail = mail_after era.number db key w.mail t.outs (map (out_of t.node.generation n db0 key0) o.acts) [] (mails_other era.number (place_of c n db0 key0 t.node) db key t.node.generation n o.acts e f.sends) in
     record {
       world = ap (λ (x : Stepped). x.world) all ∙ (λ i. record { nodes = λ k. nodes k i; joined = λ _. true; mail = mail i });
       labels = labels_after db key n calls t.outs (map (out_of t.node.generation n db0 key0) o.acts) _ (hear_other db db0 key key0 t.node.generation n calls asks o.acts e f.finds f.asked)

@@ -25,14 +25,14 @@ use Rattle.ct_cluster.specs.Traces.{answered}
 use Rattle.ct_cluster.specs.declared.step.PendingCall.{PendingCall}
 use Rattle.ct_register.specs.Legal.{db_of, key_of}
 use Rattle.ct_register.specs.Words.{is_in}
-use Rattle.ct_law_record.specs.World.{Event, Wants, Stores, Unlocks, happens, put, place, own_call, may_want}
+use Rattle.ct_law_record.specs.World.{World, Event, Wants, Stores, Unlocks, happens, put, place, own_call, may_want}
 use Rattle.ct_law_generation.specs.Shown.{Era, scene, view, project, amid, Finds}
 use Rattle.ct_law_generation.proofs.Wishing.{Wishful, want_wish, store_wish, unlock_wish}
 use Rattle.ct_law_generation.proofs.Pending.{Callers, Known, KnownAt}
 use Rattle.ct_law_generation.proofs.Forming.{may_want_comes}
 use Rattle.ct_law_generation.proofs.Staying.{NodeStays}
 use Rattle.ct_law_generation.proofs.Events.{wants_happen, stores_happen, unlocks_happen}
-use Rattle.ct_law_generation.proofs.Following.{Reached, Goes_on, follows}
+use Rattle.ct_law_generation.proofs.Following.{Asks, IsEra, Goes_on, follows}
 use Rattle.ct_law_generation.proofs.Delivering.{begun, whole_part}
 
 -- the call that comes, before those that wait
@@ -53,7 +53,7 @@ finds_own n db call key asked calls d k = record {
 
 -- what is known when a call comes to a record of the node: it is the call of its number
 pub record Calls_at (c : Config) (era : Era) (rules : Rules) (who : Callers) (calls n db call : ℕ) (key : List ℕ) (asked : ClientOp) (w : Cluster) : Type 0 where
-  pub real : list_all is_node era.members ≡ true
+  pub real : IsEra c era
   pub small : is_db db ≡ true
   pub member : is_in n era.members ≡ true
   pub stays : NodeStays c era rules who calls n (node_at n w)
@@ -62,7 +62,7 @@ pub record Calls_at (c : Config) (era : Era) (rules : Rules) (who : Callers) (ca
   pub counted : call ≤ calls
   pub of_db : db_of asked ≡ db
   pub of_key : key_of asked ≡ key
-  pub reached : Reached (scene c era rules db key) (project era.number db key w)
+  pub lawful : Asks (scene c era rules db key) (project era.number db key w)
 
 -- the node stays as it was, and the world of every record follows
 abbrev pub Goes : Config → Era → Rules → Callers → ℕ → ℕ → ℕ → ClientOp → Cluster → Turn → Type 0
@@ -84,7 +84,7 @@ at_call c era rules who calls n db call key asked w e ev h may from known is spe
       whole = whole_part c n db key (λ at o. move at rules e o) (makes call (begins (node_at n w))) spent;
       known = known;
       finds = finds_own n db call key asked (pending w) h.of_db h.of_key;
-      reached = (h.reached.0, h.reached.1 ∙ begun era.number db key n w);
+      lawful = subst (λ (v : World). Asks (scene c era rules db key) v) (begun era.number db key n w) h.lawful;
       is_event = is;
     })
 
@@ -100,7 +100,7 @@ unfolding node.view Known
 wants_follows c era rules who calls n db call key asked w h may spent =
     at_call c era rules who calls n db call key asked w (event.Want call asked) (Wants n call asked) h (may_want_comes (scene c era rules db key) n call (view db key (node_at n w)) asked may) refl
     (want_wish (Known who calls n db key) (place_of c n db key (node_at n w)) rules call asked (node.view db key (node_at n w)) (h.own, h.counted, h.of_db, h.of_key) (wished_before c era rules who calls n db call key asked w h))
-    (wants_happen c era rules n db call key asked (begins (node_at n w)) (project era.number db key w) h.stays.members may) spent
+    (wants_happen c era rules n db call key asked (begins (node_at n w)) (project era.number db key w) h.stays.knows may) spent
 
 -- a store
 pub stores_follows : (c : Config) (era : Era) (rules : Rules) (who : Callers) (calls n db call : ℕ) (key v : List ℕ) (w : Cluster) → Calls_at c era rules who calls n db call key (op.Store db key v) w →
@@ -110,7 +110,7 @@ unfolding node.view
 stores_follows c era rules who calls n db call key v w h locked spent =
     at_call c era rules who calls n db call key (op.Store db key v) w (event.Store call v) (Stores n call v) h locked refl
     (store_wish (Known who calls n db key) call v (node.view db key (node_at n w)) (wished_before c era rules who calls n db call key (op.Store db key v) w h))
-    (stores_happen c era rules n db call key v (begins (node_at n w)) (project era.number db key w) h.stays.members locked) spent
+    (stores_happen c era rules n db call key v (begins (node_at n w)) (project era.number db key w) h.stays.knows locked) spent
 
 -- an unlock
 pub unlocks_follows : (c : Config) (era : Era) (rules : Rules) (who : Callers) (calls n db call : ℕ) (key : List ℕ) (w : Cluster) → Calls_at c era rules who calls n db call key (op.Unlock db key) w →
@@ -120,4 +120,4 @@ unfolding node.view
 unlocks_follows c era rules who calls n db call key w h locked spent =
     at_call c era rules who calls n db call key (op.Unlock db key) w (event.Unlock call) (Unlocks n call) h locked refl
     (unlock_wish (Known who calls n db key) (place_of c n db key (node_at n w)) call (node.view db key (node_at n w)) (wished_before c era rules who calls n db call key (op.Unlock db key) w h))
-    (unlocks_happen c era rules n db call key (begins (node_at n w)) (project era.number db key w) h.stays.members locked) spent
+    (unlocks_happen c era rules n db call key (begins (node_at n w)) (project era.number db key w) h.stays.knows locked) spent

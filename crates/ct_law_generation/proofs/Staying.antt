@@ -1,7 +1,7 @@
--- What holds of every node in the first generation stays so over a step at one record.
+-- What holds of every node in a generation stays so over a step at one record.
 use Rattle.std.proofs.Common.{◌≡◌, ◌≢◌, ℕ, ◌<◌, ◌^◌, Bool, true, false, List, length, Option, refl, sym, ◌∙◌, arith, subst, ⊎_elim}
 use Rattle.std.specs.Prelude.{bytes_eq}
-use Rattle.std.proofs.lemmas.Bool.{cases_eq}
+use Rattle.std.proofs.lemmas.Bool.{cases_eq, and_parts, eqb-true}
 use Rattle.std.proofs.lemmas.List.{length-set}
 use Rattle.std.proofs.lemmas.Slice.Eq.{bytes_eq-Decides}
 use Rattle.ct_msg.specs.declared.config.Config.{Config}
@@ -11,13 +11,14 @@ use Rattle.ct_rules.specs.Laws.{Grows}
 use Rattle.ct_rules.specs.Parts.{Moving}
 use Rattle.ct_rules.specs.declared.event.Place.{Place}
 use Rattle.ct_rules.specs.declared.state.RecState.{RecState}
-use Rattle.ct_rules_node.specs.Node.{Node, Database, Serving, Nothing, db_at, with_db, or_nothing}
+use Rattle.ct_rules_node.specs.Node.{Node, Database, is_present_in, db_at, with_db, or_nothing}
 use Rattle.ct_rules_node.specs.Turn.{Turn}
 use Rattle.ct_rules_node.specs.Records as node
 use Rattle.ct_rules_node.specs.Records.{kept, put_back, acted, at_record, place_of}
 use Rattle.ct_rules_node.specs.Laws.{unless_blank, left_by}
 use Rattle.ct_rules_node.proofs.AtRecord.{moves_at, at_set, at_ascends}
 use Rattle.ct_rules_node.proofs.Keys.{kept_seen, kept_others}
+use Rattle.ct_promise.specs.Born.{has_pushed}
 use Rattle.ct_law_record.specs.World.{View, view_of}
 use Rattle.ct_law_generation.specs.Shown.{Era, scene, view, is_it}
 use Rattle.ct_law_generation.proofs.Weave.{it_is, true_or_false}
@@ -26,14 +27,23 @@ use Rattle.ct_law_generation.proofs.Pending.{Callers, Known, KnownAt, DatabaseKn
 use Rattle.ct_law_generation.proofs.Forming.{Is_formed, formed_rises, formed_blank}
 use Rattle.ct_law_generation.proofs.Amid.{seen_same, other_state, floor_own, next_grows}
 
--- what holds of a node while no generation follows the first one
+-- what holds of a member while no generation follows
 pub record NodeStays (c : Config) (era : Era) (rules : Rules) (who : Callers) (calls n : ℕ) (x : Node) : Type 0 where
-  pub serving : x.phase ≡ Serving
-  pub members : x.members ≡ era.members
-  pub leads : x.lead ≡ Nothing
+  pub present : is_present_in era.number x ≡ true
+  pub knows : x.members ≡ era.members
+  pub promise : x.promise ≡ era.number
+  pub lead : has_pushed era.number x.lead ≡ true
   pub size : length x.dbs ≡ length c.dbs
   pub known : NodeKnown who calls n x
   pub formed : (db : ℕ) (key : List ℕ) → Is_formed (scene c era rules db key) n (view db key x)
+
+-- who is present in a generation is in it
+pub number_of : (g : ℕ) (x : Node) → is_present_in g x ≡ true → x.generation ≡ g
+unfolding is_present_in
+number_of g x e = eqb-true _ _ (and_parts _ _ e).1
+
+pub of_era : (c : Config) (era : Era) (rules : Rules) (who : Callers) (calls n : ℕ) (x : Node) → NodeStays c era rules who calls n x → x.generation ≡ era.number
+of_era c era rules who calls n x h = number_of era.number x h.present
 
 -- what is asked of a step at a record so that this stays
 pub record Sure (c : Config) (era : Era) (rules : Rules) (who : Callers) (calls n db : ℕ) (key : List ℕ) (part : Place → Moving → Moving) (t : Turn) : Type 0 where
@@ -98,11 +108,12 @@ all_formed c era rules who calls n db0 key0 part t h s db key = ⊎_elim
 -- all of it stays
 pub stays_at : (c : Config) (era : Era) (rules : Rules) (who : Callers) (calls n db0 : ℕ) (key0 : List ℕ) (part : Place → Moving → Moving) (t : Turn) → NodeStays c era rules who calls n t.node → Sure c era rules who calls n db0 key0 part t →
     NodeStays c era rules who calls n (at_record c n db0 key0 part t).node
-unfolding at_record acted put_back with_db
+unfolding at_record acted put_back with_db is_present_in
 stays_at c era rules who calls n db0 key0 part t h s = record {
-  serving = h.serving;
-  members = h.members;
-  leads = h.leads;
+  present = h.present;
+  knows = h.knows;
+  promise = h.promise;
+  lead = h.lead;
   size = length-set t.node.dbs db0 _ ∙ h.size;
   known = record { order = (moves_at c n db0 key0 part t h.known.order).order; dbs = database_known c era rules who calls n db0 key0 part t h.known s };
   formed = all_formed c era rules who calls n db0 key0 part t h s;
