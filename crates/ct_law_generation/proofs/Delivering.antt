@@ -5,18 +5,18 @@ use Rattle.std.specs.List.{list_all}
 use Rattle.std.proofs.lemmas.Bool.{cond_both, eqb-true, and_parts, and_from, eq-eqb}
 use Rattle.ct_msg.specs.declared.config.Config.{Config}
 use Rattle.ct_msg.specs.declared.config.DbDecl.{DbDecl}
-use Rattle.ct_frame.specs.Fields.{is_db, is_node}
+use Rattle.ct_frame.specs.Fields.{is_db}
 use Rattle.ct_frame.specs.declared.frame.Frame.{Frame}
 use Rattle.ct_call.specs.Rules.{Rules}
 use Rattle.ct_rules.specs.Moves.{arrive}
 use Rattle.ct_rules.specs.Parts.{Moving}
 use Rattle.ct_rules.specs.declared.event.MoveEvent.TheVariants as event
 use Rattle.ct_rules.specs.declared.event.Place.{Place}
-use Rattle.ct_rules_node.specs.Node.{state_at, has_records, kind_at, kind_in, Node, is_present_in}
+use Rattle.ct_rules_node.specs.Node.{state_at, has_records, kind_at, kind_in, Node, is_present_in, is_among}
 use Rattle.ct_rules_node.specs.Turn.{Turn, begins}
 use Rattle.ct_rules_node.specs.Records as node
 use Rattle.ct_rules_node.specs.Records.{acted, at_record, place_of}
-use Rattle.ct_rules_node.specs.Admission.{record_in, is_current}
+use Rattle.ct_rules_node.specs.Admission.{record_in, is_current, named_in}
 use Rattle.ct_rules_node.specs.Steps.{arrives}
 use Rattle.ct_rules_node.specs.Laws.{left_by}
 use Rattle.ct_cluster.specs.Cluster.{Cluster, Sent, node_at, pending}
@@ -27,7 +27,7 @@ use Rattle.ct_law_generation.specs.Shown.{Era, scene, view, mail_of, mails, proj
 use Rattle.ct_law_generation.proofs.Weave.{it_is_itself}
 use Rattle.ct_law_generation.proofs.Wishing.{arrive_wish}
 use Rattle.ct_law_generation.proofs.Pending.{Callers, Known, KnownAt, NodeKnown}
-use Rattle.ct_law_generation.proofs.Forming.{Is_sound_mail, mail_comes}
+use Rattle.ct_law_generation.proofs.Forming.{mail_comes}
 use Rattle.ct_law_generation.proofs.Staying.{NodeStays, number_of, of_era}
 use Rattle.ct_law_generation.proofs.Events.{arrives_at, comes_happen}
 use Rattle.ct_law_generation.proofs.Following.{Goes_on, follows, finds_waiting, IsEra, Asks}
@@ -95,7 +95,9 @@ whole_part c n db key part t e = second t.spent (left_by c n db key part t).spen
 -- one that is followed is of the generation
 pub current_here : (c : Config) (era : Era) (rules : Rules) (who : Callers) (calls n : ℕ) (f : Frame) (x : Node) → NodeStays c era rules who calls n x → is_current f x ≡ true → f.generation ≡ era.number
 unfolding is_current
-current_here c era rules who calls n f x h e = sym (number_of f.generation x (and_parts (is_present_in f.generation x) _ e).0) ∙ of_era c era rules who calls n x h
+current_here c era rules who calls n f x h e =
+    let both = and_parts (is_present_in f.generation x && is_among f.sender x.members) (list_all (λ m. is_among m x.members) (named_in f.msg)) e in
+    sym (number_of f.generation x (and_parts (is_present_in f.generation x) (is_among f.sender x.members) both.0).0) ∙ of_era c era rules who calls n x h
 
 -- A message of a record that was sent comes to its receiver, which follows it: the receiver stays as it was, and the world of
 -- every record follows.

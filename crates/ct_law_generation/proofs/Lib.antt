@@ -13,3 +13,11 @@ pub mod Staying
 pub mod Following
 pub mod Delivering
 pub mod Calling
+pub mod Putting
+pub mod Clusters
+pub mod Coming
+pub mod Counting
+pub mod Called
+pub mod Admitted
+pub mod Served
+pub mod Clients

@@ -1,5 +1,5 @@
 -- No message that was sent is of a newer generation, and those of records in this one keep the rules of their fields.
-use Rattle.std.proofs.Common.{◌≡◌, ℕ, ◌≤◌, zero, suc, Bool, true, List, [], ◌∷◌, ◌++◌, map, Some, set, subst}
+use Rattle.std.proofs.Common.{◌≡◌, ℕ, ◌≤◌, zero, suc, List, [], ◌∷◌, ◌++◌, map, Some, set, subst}
 use Rattle.std.specs.Prelude.{slice_get}
 use Rattle.std.specs.List.{AllByRecursion}
 use Rattle.ct_frame.specs.declared.frame.Frame.{Frame}

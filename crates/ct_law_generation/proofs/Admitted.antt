@@ -1,0 +1,61 @@
+-- What a call that is not refused may do.
+use Rattle.std.proofs.Common.{◌≡◌, ℕ, true, List, ◌∷◌, Option, Some, None, refl, arith}
+use Rattle.std.specs.Prelude.{is_some}
+use Rattle.ct_msg.specs.declared.client.ClientOp.{ClientOp}
+use Rattle.ct_msg.specs.declared.client.ClientOp.TheVariants as op
+use Rattle.ct_msg.specs.declared.client.Why.{Why}
+use Rattle.ct_msg.specs.declared.config.Config.{Config}
+use Rattle.ct_call.specs.Rules.{Rules}
+use Rattle.ct_rules.specs.Form.{is_wanting}
+use Rattle.ct_rules.specs.State.{is_read_op}
+use Rattle.ct_rules_node.specs.Node.{Node, state_at}
+use Rattle.ct_rules_node.specs.Clients.{refusal, first_of, refused_if, call_pending, pending_of, already_locked, not_locked, no_such_db, wrong_kind, wants_record, wants_change, is_read, is_under_lock, is_commit, is_locked, db_of, key_of}
+use Rattle.ct_law_record.specs.World.{may_want}
+
+first_none : (x : Option Why) (xs : List (Option Why)) → first_of (x ∷ xs) ≡ None → x ≡ None
+unfolding first_of
+first_none None xs e = refl
+first_none (Some w) xs e = e
+
+rest_none : (x : Option Why) (xs : List (Option Why)) → first_of (x ∷ xs) ≡ None → first_of xs ≡ None
+unfolding first_of
+rest_none None xs e = e
+rest_none (Some w) xs e = absurd (cc)
+
+-- the refusals that matter to records do not hold
+pub record Admits (c : Config) (n : Node) (o : ClientOp) : Type 0 where
+  pub db : no_such_db c o ≡ None
+  pub kind : wrong_kind c o ≡ None
+  pub wish : call_pending n o ≡ None
+  pub lock : already_locked n o ≡ None
+  pub under : not_locked c n o ≡ None
+
+pub admits : (c : Config) (rules : Rules) (n : Node) (o : ClientOp) → refusal c rules n o ≡ None → Admits c n o
+unfolding refusal
+admits c rules n o e =
+    let a = rest_none _ _ e in let b = rest_none _ _ a in let d = rest_none _ _ b in let f = rest_none _ _ d in let g = rest_none _ _ f in let h = rest_none _ _ g in
+    record { db = first_none _ _ e; kind = first_none _ _ a; wish = first_none _ _ d; lock = first_none _ _ g; under = first_none _ _ h }
+
+pub may_lock : (c : Config) (n : Node) (db : ℕ) (key : List ℕ) → Admits c n (op.Lock db key) → may_want (state_at db key n) (op.Lock db key) ≡ true
+unfolding may_want call_pending already_locked wants_record wants_change is_read is_locked pending_of refused_if is_wanting is_read_op db_of key_of
+may_lock c n db key h = (let a = h.wish in let b = h.lock in grind arith)
+
+pub may_read : (c : Config) (n : Node) (db : ℕ) (key : List ℕ) → Admits c n (op.Read db key) → may_want (state_at db key n) (op.Read db key) ≡ true
+unfolding may_want call_pending already_locked wants_record wants_change is_read is_locked pending_of refused_if is_wanting is_read_op db_of key_of
+may_read c n db key h = (let a = h.wish in let b = h.lock in grind arith)
+
+pub may_write : (c : Config) (n : Node) (db : ℕ) (key v : List ℕ) → Admits c n (op.Write db key v) → may_want (state_at db key n) (op.Write db key v) ≡ true
+unfolding may_want call_pending already_locked wants_record wants_change is_read is_locked pending_of refused_if is_wanting is_read_op db_of key_of
+may_write c n db key v h = (let a = h.wish in let b = h.lock in grind arith)
+
+pub may_apply : (c : Config) (n : Node) (db f : ℕ) (key arg : List ℕ) → Admits c n (op.Apply db key f arg) → may_want (state_at db key n) (op.Apply db key f arg) ≡ true
+unfolding may_want call_pending already_locked wants_record wants_change is_read is_locked pending_of refused_if is_wanting is_read_op db_of key_of
+may_apply c n db f key arg h = (let a = h.wish in let b = h.lock in grind arith)
+
+pub may_store : (c : Config) (n : Node) (db : ℕ) (key v : List ℕ) → Admits c n (op.Store db key v) → is_some (state_at db key n).locked ≡ true
+unfolding not_locked is_under_lock is_locked is_commit refused_if db_of key_of
+may_store c n db key v h = (let a = h.under in grind arith)
+
+pub may_unlock : (c : Config) (n : Node) (db : ℕ) (key : List ℕ) → Admits c n (op.Unlock db key) → is_some (state_at db key n).locked ≡ true
+unfolding not_locked is_under_lock is_locked is_commit refused_if db_of key_of
+may_unlock c n db key h = (let a = h.under in grind arith)
