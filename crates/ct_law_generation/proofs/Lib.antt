@@ -16,8 +16,16 @@ pub mod Calling
 pub mod Putting
 pub mod Clusters
 pub mod Coming
+pub mod Opening
 pub mod Counting
 pub mod Called
 pub mod Admitted
 pub mod Served
 pub mod Clients
+pub mod Lining
+pub mod Refusing
+pub mod Refused
+pub mod Fed
+pub mod Delivered
+pub mod Configured
+pub mod Locked

@@ -11,7 +11,7 @@ use Rattle.ct_rules.specs.Laws.{Grows}
 use Rattle.ct_rules.specs.Parts.{Moving}
 use Rattle.ct_rules.specs.declared.event.Place.{Place}
 use Rattle.ct_rules.specs.declared.state.RecState.{RecState}
-use Rattle.ct_rules_node.specs.Node.{Node, Database, is_present_in, db_at, with_db, or_nothing}
+use Rattle.ct_rules_node.specs.Node.{Node, Database, is_present, is_present_in, db_at, with_db, or_nothing}
 use Rattle.ct_rules_node.specs.Turn.{Turn}
 use Rattle.ct_rules_node.specs.Records as node
 use Rattle.ct_rules_node.specs.Records.{kept, put_back, acted, at_record, place_of}
@@ -41,6 +41,10 @@ pub record NodeStays (c : Config) (era : Era) (rules : Rules) (who : Callers) (c
 pub number_of : (g : ℕ) (x : Node) → is_present_in g x ≡ true → x.generation ≡ g
 unfolding is_present_in
 number_of g x e = eqb-true _ _ (and_parts _ _ e).1
+
+pub phase_of : (g : ℕ) (x : Node) → is_present_in g x ≡ true → is_present x.phase ≡ true
+unfolding is_present_in
+phase_of g x e = (and_parts _ _ e).0
 
 pub of_era : (c : Config) (era : Era) (rules : Rules) (who : Callers) (calls n : ℕ) (x : Node) → NodeStays c era rules who calls n x → x.generation ≡ era.number
 of_era c era rules who calls n x h = number_of era.number x h.present
