@@ -1,8 +1,10 @@
 -- Each part of the rule keeps the invariant: what is sent, told, given, revoked, granted, drained.
 use Rattle.std.proofs.Common.{◌≡◌, ◌≢◌, ◌⊎◌, ℕ, ◌<◌, ◌≤◌, Bool, true, false, Option, Some, None, List, [], ◌∷◌, ◌++◌, length, length-append, refl, sym, ap, ◌∙◌, inl, inr, ⊎_elim, arith, append_assoc, subst, not, ◌&&◌, ◌||◌, ◌==◌, le_of_eq}
 use Rattle.std.proofs.lemmas.Bool.{and_parts, not-true, cond_both, cases_eq, eqb-false, lt-leb, le-leb, ne_eqb, eq-eqb}
-use Rattle.ct_law_record.proofs.Invariant.{Waits, readers_of, is_revoking, Ghost, RevokeAt, Says, BodyAt, Recalled, NodeInv, MasterFacts, MasterInv, GlobalInv, Good, Holds, Kept}
+use Rattle.ct_law_record.proofs.Invariant.{span_of, Goes, Start, Waits, readers_of, is_revoking, Ghost, RevokeAt, Says, BodyAt, Recalled, NodeInv, MasterFacts, MasterInv, GlobalInv, Good, Holds, Kept}
 use Rattle.ct_law_record.proofs.Nodes.{and_frame, NodeInv-frame, given, NodeInv-given, rank_of, NodeInv-nowish, NodeInv-recalls, seeing, NodeInv-seeing}
+use Rattle.ct_law_record.proofs.Markings.{grows_none, goes_on, goes_told}
+use Rattle.ct_law_record.specs.Marked.{is_removal, is_removed}
 use Rattle.ct_law_record.proofs.Holder.{Change, Shift, Own, NodeInv-shift, NodeInv-own}
 use Rattle.ct_law_record.proofs.Parts.{accepts_one_more, idle_none, nil_none, has-track, has-track_new, rank-with_value, here-with_value, value-with_value, reading-append, nobody_has, readers_idle, quiet, NodeInv-quiet, tracks, change_tracks, global_tracks, shift_to, granted_to, granted_end, shift_register, registers, grown, grown_below, change_grown, global_grown}
 use Rattle.std.specs.Prelude.{Result, Ok, Err, List}
@@ -25,7 +27,7 @@ use Rattle.ct_law_record.specs.Labels.{Label, Told, AcceptsLabel, AcceptsAll}
 use Rattle.ct_law_record.proofs.Rule.{applies, read_here, Body, Copy, Done, Frame, Give, Grant, Node, Out, Revoke, Wish, drain, end_vacuum, give, grant, has_node, is_free, is_here, is_idle, is_wish, rank, reads_op, revoke, revoke_again, rsn_of, satisfy, send, send_all, tell, value_of, with_node, with_value, yield_record}
 use Rattle.ct_law_record.proofs.Small.{given_is, read_accepted, reads_is_read, changed_me, changed_other}
 
-module _ (rules : Rules) (ps : List ℕ) (m me : ℕ) (nodes : ℕ → Node) (frames : List Frame) (r : Register) where
+module _ (rules : Rules) (ps : List ℕ) (m me : ℕ) (nodes : ℕ → Node) (frames : List Frame) (r : Start) where
   pub send_holds : (to : ℕ) (b : Body) (g : Ghost) (o : Out) → ((q rsn : ℕ) (value : List ℕ) → b ≡ Grant q rsn value → g.revoking ≡ false) → Holds rules ps m me nodes frames r g o → BodyAt g me o.node me to b → ((n : ℕ) → n ≢ me → BodyAt g n (nodes n) me to b)
       → Holds rules ps m me nodes frames r (and_frame (record { from = me; to = to; body = b }) g) (send me to b o)
   unfolding send
@@ -33,6 +35,7 @@ module _ (rules : Rules) (ps : List ℕ) (m me : ℕ) (nodes : ℕ → Node) (fr
       let f : Frame = record { from = me; to = to; body = b } in record {
         sent = ap (λ fs. fs ++ (f ∷ [])) h.sent ∙ append_assoc frames o.frames (f ∷ []);
         told = h.told;
+        went = h.went;
         good = record {
           all = h.good.all;
           mine = NodeInv-frame g me o.node f still mine h.good.mine;
@@ -49,6 +52,7 @@ module _ (rules : Rules) (ps : List ℕ) (m me : ℕ) (nodes : ℕ → Node) (fr
   node_holds node g o same h mine master = record {
     sent = h.sent;
     told = h.told;
+    went = h.went;
     good = record { all = h.good.all; mine = mine; others = h.good.others; master = master; joined = same ∙ h.good.joined; master_other = h.good.master_other };
   }
 
@@ -66,35 +70,46 @@ module _ (rules : Rules) (ps : List ℕ) (m me : ℕ) (nodes : ℕ → Node) (fr
     master = master;
     joined = d.fresh ∙ h.good.joined;
     master_other = λ ne. (let k = h.good.master_other ne in record {
-      entry = subst (λ (e : Entry). ((nodes m).entry ≡ Some e) ⊎ (((nodes m).entry ≡ None) × (e ≡ record { holder = m; least = (nodes m).floor; request = 0; value = [] }) × ((nodes m).copy ≡ None))) (sym c.entry) k.entry;
+      entry = ⊎_elim
+          (λ (e : (nodes m).entry ≡ Some g.entry). inl (e ∙ ap Some (sym c.entry)))
+          (λ p. absurd (ne ((h.good.mine.here here).0 ∙ ap (λ (x : Entry). x.holder) p.1))) k.entry;
       queue = k.queue ∙ sym c.queue;
       vacuum = k.vacuum ∙ sym (same ne);
     });
   }
+
+  -- where a node is holder there are marks
+  pub has_marks : (g : Ghost) (o : Out) → is_here o.node.copy ≡ true → Holds rules ps m me nodes frames r g o → g.base < g.top
+  has_marks g o here h = (let low = (h.good.mine.here here).1 in let under = h.good.mine.under in let first = h.good.all.marks.first in omega arith)
+
+  own_went : (g g' : Ghost) (o : Out) → is_here o.node.copy ≡ true → Change g g' → Holds rules ps m me nodes frames r g o → Goes (is_removed o.labels) r.span (span_of g')
+  own_went g g' o here c h = goes_on (is_removed o.labels) r.span (span_of g) (span_of g') (λ _ l. (let some = has_marks g o here h in omega arith)) c.span h.went
 
   pub own_holds : (g g' : Ghost) (o : Out) (node : Node) → is_here o.node.copy ≡ true → GlobalInv ps m g' → Change g g' → Own g g' me o.node node → Others g g' → (me ≡ m → MasterInv m g' node) → (me ≢ m → g'.vacuum ≡ g.vacuum) →
       g'.register ≡ g.register → Holds rules ps m me nodes frames r g o → Holds rules ps m me nodes frames r g' (with_node node o)
   unfolding with_node
   own_holds g g' o node here all c d others master same reg h = record {
     sent = c.sent ∙ h.sent;
-    told = subst (λ (x : Register). AcceptsAll rules r o.labels x) (sym reg) h.told;
+    told = subst (λ (x : Register). AcceptsAll rules r.register o.labels x) (sym reg) h.told;
+    went = own_went g g' o here c h;
     good = own_good g g' o node here all c d others master same h;
   }
 
   -- the same with a label
   pub act_holds : (l : Label) (g g' : Ghost) (o : Out) (node : Node) → is_here o.node.copy ≡ true → GlobalInv ps m g' → Change g g' → Own g g' me o.node node → Others g g' → (me ≡ m → MasterInv m g' node) → (me ≢ m → g'.vacuum ≡ g.vacuum) →
-      AcceptsLabel rules g.register l g'.register → Holds rules ps m me nodes frames r g o → Holds rules ps m me nodes frames r g' (tell l (with_node node o))
+      is_removal l ≡ false → AcceptsLabel rules g.register l g'.register → Holds rules ps m me nodes frames r g o → Holds rules ps m me nodes frames r g' (tell l (with_node node o))
   unfolding with_node tell
-  act_holds l g g' o node here all c d others master same accepts h = record {
+  act_holds l g g' o node here all c d others master same keeps accepts h = record {
     sent = c.sent ∙ h.sent;
-    told = accepts_one_more rules r g.register g'.register o.labels l h.told accepts;
+    told = accepts_one_more rules r.register g.register g'.register o.labels l h.told accepts;
+    went = goes_told o.labels l r.span (span_of g') keeps (own_went g g' o here c h);
     good = own_good g g' o node here all c d others master same h;
   }
 
   -- the master's part, where the copy and no part of the master changes
-  pub master_copy : (g : Ghost) (o : Out) (copy : Option Copy) → is_here o.node.copy ≡ true → Holds rules ps m me nodes frames r g o → me ≡ m → MasterFacts m g.entry g.queue g.vacuum o.node.entry o.node.queue copy o.node.vacuum o.node.floor
+  pub master_copy : (g : Ghost) (o : Out) (copy : Option Copy) (base top : ℕ) → is_here o.node.copy ≡ true → Holds rules ps m me nodes frames r g o → me ≡ m → MasterFacts m g.entry g.queue g.vacuum base top o.node.entry o.node.queue copy o.node.vacuum o.node.floor
   unfolding is_here
-  master_copy g o copy here h e = record {
+  master_copy g o copy base top here h e = record {
     entry = ⊎_elim (λ (k : o.node.entry ≡ Some g.entry). inl k) (λ k. absurd (let c = ap is_here k.2 in cc)) (h.good.master e).entry;
     queue = (h.good.master e).queue;
     vacuum = (h.good.master e).vacuum;
@@ -114,8 +129,9 @@ module _ (rules : Rules) (ps : List ℕ) (m me : ℕ) (nodes : ℕ → Node) (fr
   quiet_holds g o calm h = record {
     sent = h.sent;
     told = h.told;
+    went = h.went;
     good = record {
-      all = (let k = h.good.all in record { rises = k.rises; whole = k.whole; within = k.within; absent = k.absent; vacuum = λ v e. absurd (cc) });
+      all = (let k = h.good.all in record { rises = k.rises; whole = k.whole; within = k.within; absent = k.absent; vacuum = λ v e. absurd (cc); marks = k.marks });
       mine = NodeInv-quiet g me o.node h.good.mine;
       others = λ n ne. NodeInv-quiet g n (nodes n) (h.good.others n ne);
       master = λ e. (let k = h.good.master e in record { entry = k.entry; queue = k.queue; vacuum = refl });
@@ -133,7 +149,7 @@ module _ (rules : Rules) (ps : List ℕ) (m me : ℕ) (nodes : ℕ → Node) (fr
       let same = rank_of o.node.copy here in (
         _,
         send_holds m (Give (rsn_of o.node.copy) (value_of o.node.copy)) g (with_node (given o.node) o) (λ q s v is. absurd (cc))
-            (node_holds (given o.node) g o refl h (NodeInv-given g me o.node here unlocked untracked idle calm h.good.mine) (master_copy g o _ here h))
+            (node_holds (given o.node) g o refl h (NodeInv-given g me o.node here unlocked untracked idle calm h.good.mine) (master_copy g o _ g.base g.top here h))
             (λ p. record { below = omega arith; held = λ _ _. refl })
             (λ n ne p. absurd (ne (sym p))),
       ))
@@ -207,11 +223,12 @@ module _ (rules : Rules) (ps : List ℕ) (m me : ℕ) (nodes : ℕ → Node) (fr
   -- a node reads: it has seen all versions
   pub see_holds : (g : Ghost) (o : Out) → rank o.node.copy ≡ g.top → ((n : ℕ) → g.register.owner ≡ Some n → n ≡ me) → (asked : ClientOp) → is_read_op asked ≡ true → (value : List ℕ) → value ≡ reading g.register.versions →
       Holds rules ps m me nodes frames r g o → Holds rules ps m me nodes frames r (seeing (changed me (length g.register.versions) g.register.seen) g) (tell (Told me asked (answer.Read value)) o)
-  unfolding tell changed
+  unfolding tell changed is_removal
   see_holds g o top owner asked is value new h =
       let whole = h.good.all.whole (rank o.node.copy) (omega arith) in record {
         sent = h.sent;
-        told = accepts_one_more rules r g.register _ o.labels (Told me asked (answer.Read value)) h.told (read_accepted rules g.register me asked is owner value new);
+        told = accepts_one_more rules r.register g.register _ o.labels (Told me asked (answer.Read value)) h.told (read_accepted rules g.register me asked is owner value new);
+        went = goes_told o.labels (Told me asked (answer.Read value)) r.span (span_of g) refl h.went;
         good = record {
           all = h.good.all;
           mine = NodeInv-seeing g me o.node _ (rw (eq-eqb me me refl) (le_of_eq (sym whole))) h.good.mine;
@@ -264,11 +281,11 @@ module _ (rules : Rules) (ps : List ℕ) (m me : ℕ) (nodes : ℕ → Node) (fr
       (cases_eq (rank (nodes n).copy) g.top)
 
   -- the holder writes
-  pub grow_holds : (v : List ℕ) (l : Label) (owner : Option ℕ) (g : Ghost) (o : Out) → is_here o.node.copy ≡ true → o.node.tracked ≡ [] → o.node.revoking ≡ None → g.vacuum ≡ None →
+  pub grow_holds : (v : List ℕ) (l : Label) (owner : Option ℕ) (g : Ghost) (o : Out) → is_here o.node.copy ≡ true → o.node.tracked ≡ [] → o.node.revoking ≡ None → g.vacuum ≡ None → is_removal l ≡ false →
       AcceptsLabel rules g.register l (grown v owner me g).register → (o.node.locked ≡ true → owner ≡ Some me) → (owner ≡ Some me → o.node.locked ≡ true) → ((n : ℕ) → n ≢ me → owner ≢ Some n) →
       Holds rules ps m me nodes frames r g o → Holds rules ps m me nodes frames r (grown v owner me g) (tell l (with_node (record o.node { copy = with_value v o.node.copy }) o))
   unfolding Others changed
-  grow_holds v l owner g o here untracked idle calm accepts own1 own2 others h =
+  grow_holds v l owner g o here untracked idle calm keeps accepts own1 own2 others h =
       let at = h.good.mine.here here in
       let up = (h.good.mine.holds at.0 at.1).0 in
       let low = at.1 in
@@ -279,54 +296,54 @@ module _ (rules : Rules) (ps : List ℕ) (m me : ℕ) (nodes : ℕ → Node) (fr
       (here-with_value v _ ∙ here) same (value-with_value v _ here ∙ sym (reading-append g.register.versions v)) own1 own2
       (let u = changed_me me (length (g.register.versions ++ (v ∷ []))) g.register.seen in let e = length-append g.register.versions (v ∷ []) in rw (le-leb g.top (rank (with_value v o.node.copy)) (omega arith)) (omega arith)) h.good.mine.unwished h.good.mine)
       (λ n ne. (let b = below_top g o here untracked idle h n ne in let f = h.good.others n ne in
-      shift_register g _ _ n (nodes n) none (others n ne) (f.value ∙ sym (grown_below ps m g v (rank (nodes n).copy) h.good.all b))
+      shift_register g _ _ _ n (nodes n) none (others n ne) (f.value ∙ sym (grown_below ps m g v (rank (nodes n).copy) h.good.all b))
       (rw (ne_eqb n me ne, lt-leb g.top (rank (nodes n).copy) b) f.seen) (rw (lt-leb g.top (rank (nodes n).copy) b) (omega arith)) f))
-      (λ e. (let k = master_copy g o (with_value v o.node.copy) here h e in record { entry = k.entry; queue = k.queue; vacuum = k.vacuum })) (λ _. refl) accepts h
+      (λ e. (let k = master_copy g o (with_value v o.node.copy) g.base g.top here h e in record { entry = k.entry; queue = k.queue; vacuum = k.vacuum })) (λ _. refl) keeps accepts h
 
   -- the lock changes
-  pub lock_holds : (locked : Bool) (l : Label) (owner : Option ℕ) (seen : ℕ → ℕ) (g : Ghost) (o : Out) → is_here o.node.copy ≡ true → o.node.tracked ≡ [] → o.node.revoking ≡ None → g.vacuum ≡ None →
+  pub lock_holds : (locked : Bool) (l : Label) (owner : Option ℕ) (seen : ℕ → ℕ) (g : Ghost) (o : Out) → is_here o.node.copy ≡ true → o.node.tracked ≡ [] → o.node.revoking ≡ None → g.vacuum ≡ None → is_removal l ≡ false →
       AcceptsLabel rules g.register l (record g.register { owner = owner; seen = seen }) → (locked ≡ true → owner ≡ Some me) → (owner ≡ Some me → locked ≡ true) → ((n : ℕ) → n ≢ me → owner ≢ Some n) →
       (locked ≡ true → o.node.wish ≡ None) → seen me ≤ length g.register.versions → ((n : ℕ) → n ≢ me → seen n ≡ g.register.seen n) →
-      Holds rules ps m me nodes frames r g o → Holds rules ps m me nodes frames r (registers (record g.register { owner = owner; seen = seen }) g.place g) (tell l (with_node (record o.node { locked = locked }) o))
+      Holds rules ps m me nodes frames r g o → Holds rules ps m me nodes frames r (registers (record g.register { owner = owner; seen = seen }) g.place g.mark g) (tell l (with_node (record o.node { locked = locked }) o))
   unfolding Others changed
-  lock_holds locked l owner seen g o here untracked idle calm accepts own1 own2 others unwished mine seens h =
+  lock_holds locked l owner seen g o here untracked idle calm keeps accepts own1 own2 others unwished mine seens h =
       let at = h.good.mine.here here in
       let holds = h.good.mine.holds at.0 at.1 in
       let up = holds.0 in
       let whole = h.good.all.whole (rank o.node.copy) (omega arith) in
       let none : g.readers ≡ [] = (readers_idle g me o.node here idle h.good.mine).0 ∙ untracked in
-      let g' = registers (record g.register { owner = owner; seen = seen }) g.place g in
+      let g' = registers (record g.register { owner = owner; seen = seen }) g.place g.mark g in
       act_holds l g g' o (record o.node { locked = locked }) here h.good.all
-      (record { entry = refl; queue = refl; sent = refl; birth = refl; top = inr (refl, λ a. a); empty = λ a b c. c; joined = λ a b c. c })
+      (record { entry = refl; queue = refl; sent = refl; birth = refl; top = inr (refl, λ a. a); empty = λ a b c. c; joined = λ a b c. c; span = grows_none (span_of g) })
       (own_register g g' o o.node.copy locked here untracked idle calm refl refl refl refl here refl holds.1 own1 own2 (omega arith) unwished h.good.mine)
-      (λ n ne. (let f = h.good.others n ne in let s = f.seen in let e = seens n ne in shift_register g _ g.place n (nodes n) none (others n ne) f.value (omega arith) (omega arith) f))
-      h.good.master (λ _. refl) accepts h
+      (λ n ne. (let f = h.good.others n ne in let s = f.seen in let e = seens n ne in shift_register g _ g.place g.mark n (nodes n) none (others n ne) f.value (omega arith) (omega arith) f))
+      h.good.master (λ _. refl) keeps accepts h
 
   applies_holds : (db : ℕ) (key : List ℕ) (f : ℕ) (arg : List ℕ) (g : Ghost) (o : Out) (x : Result (List ℕ) CallFault) → applied f (reading g.register.versions) arg rules ≡ x → is_here o.node.copy ≡ true → o.node.locked ≡ false → o.node.tracked ≡ [] → o.node.revoking ≡ None → g.vacuum ≡ None → Holds rules ps m me nodes frames r g o → Kept rules ps m me nodes frames r (applies me (op.Apply db key f arg) o x)
-  unfolding applies tell
+  unfolding applies tell is_removal
   applies_holds db key f arg g o (Err (fault.TooLong n)) is here unlocked untracked idle calm h =
       let none = owner_none g o.node h.good here unlocked g.register.owner refl in
-      (g, record { sent = h.sent; told = accepts_one_more rules r g.register g.register o.labels (Told me (op.Apply db key f arg) (answer.Refused (why.TooLong n))) h.told (none, is, refl); good = h.good })
+      (g, record { sent = h.sent; told = accepts_one_more rules r.register g.register g.register o.labels (Told me (op.Apply db key f arg) (answer.Refused (why.TooLong n))) h.told (none, is, refl); went = goes_told o.labels (Told me (op.Apply db key f arg) (answer.Refused (why.TooLong n))) r.span (span_of g) refl h.went; good = h.good })
   applies_holds db key f arg g o (Err fault.NoSuchCall) is here unlocked untracked idle calm h =
-      (g, record { sent = h.sent; told = accepts_one_more rules r g.register g.register o.labels (Told me (op.Apply db key f arg) (answer.Refused why.NoSuchCall)) h.told refl; good = h.good })
+      (g, record { sent = h.sent; told = accepts_one_more rules r.register g.register g.register o.labels (Told me (op.Apply db key f arg) (answer.Refused why.NoSuchCall)) h.told refl; went = goes_told o.labels (Told me (op.Apply db key f arg) (answer.Refused why.NoSuchCall)) r.span (span_of g) refl h.went; good = h.good })
   applies_holds db key f arg g o (Err fault.NoMemory) is here unlocked untracked idle calm h = (g, h)
   applies_holds db key f arg g o (Ok v) is here unlocked untracked idle calm h =
       let none = owner_none g o.node h.good here unlocked g.register.owner refl in
-      (_, grow_holds v (Told me (op.Apply db key f arg) (answer.Applied v)) g.register.owner g o here untracked idle calm (none, is, refl) (λ a. absurd (cc)) (λ a. absurd (cc)) (λ n ne e. absurd (cc)) h)
+      (_, grow_holds v (Told me (op.Apply db key f arg) (answer.Applied v)) g.register.owner g o here untracked idle calm refl (none, is, refl) (λ a. absurd (cc)) (λ a. absurd (cc)) (λ n ne e. absurd (cc)) h)
 
   pub satisfy_holds : (asked : ClientOp) (g : Ghost) (o : Out) → o.node.wish ≡ None → is_here o.node.copy ≡ true → o.node.locked ≡ false → o.node.tracked ≡ [] → o.node.revoking ≡ None → g.vacuum ≡ None → Holds rules ps m me nodes frames r g o → Kept rules ps m me nodes frames r (satisfy rules me asked o)
-  unfolding satisfy is_read_op
+  unfolding satisfy is_read_op is_removal
   satisfy_holds (op.Lock db key) g o free here unlocked untracked idle calm h =
       let none = owner_none g o.node h.good here unlocked g.register.owner refl in
       let at = h.good.mine.here here in
       let value = (h.good.mine.holds at.0 at.1).1 in (
         _,
-        lock_holds true (Told me (op.Lock db key) (answer.Locked (value_of o.node.copy))) (Some me) (changed me (length g.register.versions) g.register.seen) g o here untracked idle calm (none, value, refl) (λ _. refl) (λ _. refl) (λ n ne e. absurd (ne (grind arith))) (λ _. free)
+        lock_holds true (Told me (op.Lock db key) (answer.Locked (value_of o.node.copy))) (Some me) (changed me (length g.register.versions) g.register.seen) g o here untracked idle calm refl (none, value, refl) (λ _. refl) (λ _. refl) (λ n ne e. absurd (ne (grind arith))) (λ _. free)
             (changed_me me _ _) (λ n ne. changed_other me n _ _ ne) h,
       )
   satisfy_holds (op.Write db key v) g o free here unlocked untracked idle calm h =
       let none = owner_none g o.node h.good here unlocked g.register.owner refl in
-      (_, grow_holds v (Told me (op.Write db key v) answer.Written) g.register.owner g o here untracked idle calm (none, refl) (λ a. absurd (cc)) (λ a. absurd (cc)) (λ n ne e. absurd (cc)) h)
+      (_, grow_holds v (Told me (op.Write db key v) answer.Written) g.register.owner g o here untracked idle calm refl (none, refl) (λ a. absurd (cc)) (λ a. absurd (cc)) (λ n ne e. absurd (cc)) h)
   satisfy_holds (op.Read db key) g o free here unlocked untracked idle calm h =
       let at = h.good.mine.here here in
       let k = h.good.mine.holds at.0 at.1 in

@@ -5,11 +5,12 @@ use Rattle.ct_rules.specs.declared.state.Wish.{Wish}
 use Rattle.ct_law_record.proofs.Rule
 use Rattle.ct_law_record.proofs.Rule.{Kind, Copy, Node, Frame, Body, Out}
 use Rattle.ct_law_record.proofs.Likeness.{copy_of, frames_of, kind_at, node_of}
-use Rattle.ct_law_record.proofs.Invariant.{Sent, Ghost, Asked, Waits, Emptied, readers_of, is_revoking, Facts, MasterFacts, NodeInv}
+use Rattle.ct_law_record.proofs.Invariant.{Past, Marking, Sent, Ghost, Asked, Waits, Emptied, readers_of, is_revoking, Facts, MasterFacts, NodeInv}
 use Rattle.std.specs.List.{list_all}
 use Rattle.ct_frame.specs.Fields.{is_node}
 use Rattle.ct_register.specs.Register.{reading, newborn}
 use Rattle.ct_law_record.specs.World.{Scene, AreDrawn, born_state, born, SeesAtMost, IsBornAsOneRegister}
+use Rattle.ct_law_record.proofs.Nodes.{past_top, past_none}
 use Rattle.ct_law_record.proofs.Worlds.{WorldInv, member_real}
 use Rattle.ct_law_record.proofs.Law.{leads, drawn_low}
 use Rattle.ct_rules_node.specs.Rounds.{installed_state, copy_from, row_master, or_nobody, entry_from}
@@ -20,10 +21,10 @@ use Rattle.ct_register.specs.Words.{is_in}
 use Rattle.ct_rules.specs.declared.state.RecState.{RecState}
 
 -- the places: the whole list from the row's RSN on, and nothing below it
-abbrev born_place : ℕ → ℕ → ℕ → ℕ
+abbrev pub born_place : ℕ → ℕ → ℕ → ℕ
 born_place rsn count a = cond (leb (rsn + 1) a) count 0
 
-abbrev born_ghost : TableRow → ℕ → List (List ℕ) → (ℕ → ℕ) → Ghost
+abbrev pub born_ghost : TableRow → ℕ → List (List ℕ) → (ℕ → ℕ) → Ghost
 born_ghost row master versions seen = record {
   entry = record { holder = master; least = row.rsn + 1; request = 0; value = row.value };
   queue = [];
@@ -34,6 +35,9 @@ born_ghost row master versions seen = record {
   top = row.rsn + 2;
   place = born_place row.rsn (length versions);
   vacuum = None;
+  base = row.rsn;
+  joint = row.rsn + 1;
+  mark = born_place row.rsn (length versions);
 }
 
 whole_born : (rsn a : ℕ) (versions : List (List ℕ)) → rsn + 1 ≤ a → reading versions ≡ reading (take (born_place rsn (length versions) a) versions)
@@ -54,6 +58,7 @@ record Bornly (inside : Bool) (rsn master : ℕ) (versions : List (List ℕ)) (c
   value : Rule.value_of c ≡ reading (take (born_place rsn (length versions) (Rule.rank c)) versions)
   seen : count ≤ born_place rsn (length versions) (Rule.rank c)
   full : inside ≡ true → (length versions ≤ born_place rsn (length versions) (Rule.rank c)) × (1 ≤ length versions → 1 ≤ Rule.rank c)
+  marked : Past (rsn + 1) c
 
 born_master : (rsn master count : ℕ) (versions : List (List ℕ)) (value : List ℕ) → value ≡ reading versions → count ≤ length versions → Bornly true rsn master versions count master (Some (record { rsn = rsn + 1; kind = Rule.Here; value = value }))
 unfolding Rule.is_here Rule.is_kind_here Rule.is_reading Rule.is_kind_reading Rule.is_odd Rule.is_kind_odd Rule.rank Rule.value_of
@@ -67,6 +72,7 @@ born_master rsn master count versions value is few = record {
   value = is ∙ whole_born rsn (rsn + 1 + 1) versions (omega arith);
   seen = rw (le-leb (rsn + 1) (rsn + 1 + 1) (omega arith)) few;
   full = λ _. (rw (le-leb (rsn + 1) (rsn + 1 + 1) (omega arith)) (omega arith), λ _. omega arith);
+  marked = past_top (rsn + 1) _ (omega arith);
 }
 
 born_other : (rsn master count n : ℕ) (versions : List (List ℕ)) (value : List ℕ) → n ≢ master → value ≡ reading versions → count ≤ length versions → Bornly true rsn master versions count n (Some (record { rsn = rsn; kind = Rule.Stale; value = value }))
@@ -81,6 +87,7 @@ born_other rsn master count n versions value ne is few = record {
   value = is ∙ whole_born rsn (rsn + 1) versions (omega arith);
   seen = rw (le-leb (rsn + 1) (rsn + 1) (omega arith)) few;
   full = λ _. (rw (le-leb (rsn + 1) (rsn + 1) (omega arith)) (omega arith), λ _. omega arith);
+  marked = past_top (rsn + 1) _ (omega arith);
 }
 
 born_outside : (rsn master n : ℕ) (versions : List (List ℕ)) (count : ℕ) → n ≢ master → count ≤ 0 → Bornly false rsn master versions count n None
@@ -95,6 +102,7 @@ born_outside rsn master n versions count ne few = record {
   value = none_born rsn versions;
   seen = omega arith;
   full = λ e. absurd (cc);
+  marked = past_none (rsn + 1) None refl;
 }
 
 -- the copy that a row makes at a member
@@ -138,18 +146,19 @@ facts_born inside joined row master versions seen n number c w is some low b = r
   asked = λ a s. elim s [ ];
   waits = λ x s. elim s [ ];
   frames = λ f s. elim s [ ];
+  marked = b.marked;
 }
 
-born_holds : (s : Scene) (row : TableRow) (joined : ℕ → Bool) (versions : List (List ℕ)) (seen : ℕ → ℕ) (number : ℕ → ℕ) (wish : ℕ → Option Wish) →
+pub born_holds : (s : Scene) (row : TableRow) (joined : ℕ → Bool) (versions : List (List ℕ)) (seen : ℕ → ℕ) (number : ℕ → ℕ) (wish : ℕ → Option Wish) →
     list_all is_node s.members ≡ true → is_in s.lmaster s.members ≡ true → is_in (row_master row) s.members ≡ true → row.value ≡ reading versions → SeesAtMost s seen (length versions) → AreDrawn number wish →
     WorldInv s (born s row joined number wish) (record (newborn versions) { seen = seen }) (born_ghost row (row_master row) versions seen)
 unfolding born_state installed_state copy_from entry_from frames_of Emptied Sent copy_of
 born_holds s row joined versions seen number wish real lmaster member is sees drawn = record {
   frames = refl;
   register = refl;
-  all = record { rises = rises; whole = λ a l. rw (le-leb (row.rsn + 1) a (omega arith)) refl; within = within; absent = sym (none_born row.rsn versions); vacuum = λ v e. absurd (cc) };
+  all = record { rises = rises; whole = λ a l. rw (le-leb (row.rsn + 1) a (omega arith)) refl; within = within; absent = sym (none_born row.rsn versions); vacuum = λ v e. absurd (cc); marks = marks };
   nodes = nodes;
-  master = subst (λ (b : Bool). MasterFacts s.lmaster g.entry g.queue g.vacuum (cond b (inside s.lmaster) (beside s.lmaster)).entry (cond b (inside s.lmaster) (beside s.lmaster)).queue (copy_of s.lmaster (cond b (inside s.lmaster) (beside s.lmaster)).copy) (cond b (inside s.lmaster) (beside s.lmaster)).vacuum 0) (sym lmaster)
+  master = subst (λ (b : Bool). MasterFacts s.lmaster g.entry g.queue g.vacuum g.base g.top (cond b (inside s.lmaster) (beside s.lmaster)).entry (cond b (inside s.lmaster) (beside s.lmaster)).queue (copy_of s.lmaster (cond b (inside s.lmaster) (beside s.lmaster)).copy) (cond b (inside s.lmaster) (beside s.lmaster)).vacuum 0) (sym lmaster)
       (record { entry = inl (rw (eq-eqb s.lmaster s.lmaster refl) refl); queue = refl; vacuum = refl });
   outside = λ n e. subst (λ (b : Bool). (cond b (inside n) (beside n)).copy ≡ None) (sym e) refl;
   senders = λ f h. elim h [ ];
@@ -172,6 +181,20 @@ born_holds s row joined versions seen number wish real lmaster member is sees dr
 
     within : (a : ℕ) → born_place row.rsn (length versions) a ≤ length versions
     within a = grind arith
+
+    marks : Marking row.rsn (row.rsn + 1) (row.rsn + 2) (row.rsn + 1) (born_place row.rsn (length versions)) (born_place row.rsn (length versions)) versions row.value
+    marks = record {
+      rises = rises;
+      whole = λ a l. rw (le-leb (row.rsn + 1) a (omega arith)) refl;
+      agrees = λ a l. refl;
+      low = omega arith;
+      near = omega arith;
+      fits = λ l. omega arith;
+      under = omega arith;
+      first = omega arith;
+      entry = is ∙ whole_born row.rsn (row.rsn + 1) versions (omega arith);
+      none = λ l. absurd (omega arith);
+    }
 
     nodes : (n : ℕ) → NodeInv g n (record (node_of n s.readonly (cond (is_in n s.members) (inside n) (beside n)) (number n) 0) { fresh = is_in n s.members && not (joined n) })
     nodes n = cond_both (is_in n s.members) (inside n) (beside n) (λ (x : RecState). NodeInv g n (record (node_of n s.readonly x (number n) 0) { fresh = is_in n s.members && not (joined n) }))

@@ -29,14 +29,15 @@ says_granted g n copy next now s v ne at met from to (VStored rsn) k = λ p. (le
 says_granted g n copy next now s v ne at met from to (VDeleted rsn) k = λ p. (let r = k p in let b = r.below in record { below = r.below; past = past_top (rsn + 2) _ (omega arith) })
 says_granted g n copy next now s v ne at met from to _ k = k
 
-pub NodeInv-granted : (ps : List ℕ) (m : ℕ) (g : Ghost) (n : ℕ) (node : Node) (rsn : ℕ) (value : List ℕ) → node.fresh ≡ false → GlobalInv ps m g → n ≢ g.entry.holder → rsn + 1 ≡ g.top → is_here node.copy ≡ false → has_node n g.readers ≡ true → value ≡ reading g.register.versions →
+pub NodeInv-granted : (ps : List ℕ) (m : ℕ) (g : Ghost) (n : ℕ) (node : Node) (rsn : ℕ) (value : List ℕ) → node.fresh ≡ false → GlobalInv ps m g → n ≢ g.entry.holder → rsn + 1 ≡ g.top → g.base < g.top → is_here node.copy ≡ false → has_node n g.readers ≡ true → value ≡ reading g.register.versions →
     (Ungranted g.frames n node.wish → ⊥) → NodeInv g n node → NodeInv g n (granted rsn value node)
 unfolding rank is_here is_kind_here is_odd is_kind_odd value_of is_reading is_kind_reading
-NodeInv-granted ps m g n node rsn value joined all ne at away has new met h =
+NodeInv-granted ps m g n node rsn value joined all ne at some away has new met h =
+    let marked : Past g.joint (Some (record { rsn = rsn; kind = For_reading; value = value })) = past_top g.joint _ (let f = all.marks.fits some in omega arith) in
     let whole = whole_reading ps m g (rsn + 1) all (omega arith) in
     let seen : g.register.seen n ≤ g.place (rsn + 1) = (let s = h.seen in let a = all.within (rank node.copy) in let b = all.whole (rsn + 1) (omega arith) in omega arith) in
     let vac = λ (v : Vacuuming) (e : g.vacuum ≡ Some v). (let k = (all.vacuum v e).above in let y : VacuumAt v n (Some (record { rsn = rsn; kind = For_reading; value = value })) = vacuum_top v n _ (omega arith) in y) in
-    grind (arith, says_granted g n node.copy node.next node.wish rsn value ne at met, whole, seen, vac)
+    grind (arith, says_granted g n node.copy node.next node.wish rsn value ne at met, whole, seen, vac, marked)
 
 -- VStore and VDelete: a copy of a low rank, that is no data master's, becomes another such, which stands for at least as much
 abbrev pub touched : Option Copy → Node → Node
@@ -112,6 +113,7 @@ NodeInv-touched g n node d joined away t h =
       asked = h.asked;
       waits = h.waits;
       frames = λ f s. says_touched g n node.copy d node.next node.wish under t f.from f.to f.body (h.frames f s);
+      marked = touch_past g node.copy d g.joint t h.marked;
     }
 
 raise_is : (rsn : ℕ) (l : Bool) (c : Option Copy) → (raise_copy rsn l c ≡ c) ⊎ ((1 ≤ rank c) × (rank c ≤ rsn) × (is_here c ≡ false) × (raise_copy rsn l c ≡ Some (record { rsn = rsn; kind = Stale; value = [] })))

@@ -22,9 +22,9 @@ use Rattle.ct_rules.specs.Frames
 use Rattle.ct_law_record.proofs.Likewise.{like_called, like_recalled, like_want}
 use Rattle.ct_rules.specs.Moves
 use Rattle.ct_rules_node.specs.Rounds
-use Rattle.ct_register.specs.Register.{Register}
 use Rattle.ct_law_record.proofs.Coming.{greater_like, like_on_give_of, like_on_pass, like_on_refuse_of, like_on_grant, like_on_done_of, like_on_revoke_of, like_on_revokeack, like_on_vstore, like_on_vdelete, like_on_vstored_of, like_on_vdeleted_of, like_vacuum, like_store, like_release, like_unlock, like_call_again, like_revoke_again}
-use Rattle.ct_law_record.proofs.Invariant.{Recalled, Sent, Ghost, Says, NodeInv, Holds, Kept}
+use Rattle.ct_law_record.proofs.Invariant.{Start, Recalled, Sent, Ghost, Says, NodeInv, Holds, Kept}
+use Rattle.ct_law_record.specs.Marked.{is_removed}
 use Rattle.ct_law_record.proofs.Acts.{node_holds, revoke_again_holds}
 use Rattle.ct_law_record.proofs.Revoking.{Came, on_ack_holds, on_revoke_holds, on_grant_holds}
 use Rattle.ct_law_record.proofs.Receive.{on_call_holds, on_recall_holds, on_give_holds, on_pass_holds, on_refuse_holds, on_done_holds, want_holds, store_holds, release_holds, unlock_holds, retry_holds}
@@ -79,7 +79,7 @@ recalled : (n to least node q : ℕ) (k : CallKind) (g : Ghost) → Sent (record
 unfolding Recalled
 recalled n to least node q k g s = (_, s, refl)
 
-module _ (at : Place) (asks : ℕ → Option ClientOp) (ne : at.me ≢ nobody) (rules : Rules) (ps : List ℕ) (nodes : ℕ → Node) (frames : List Frame) (r : Register) where
+module _ (at : Place) (asks : ℕ → Option ClientOp) (ne : at.me ≢ nobody) (rules : Rules) (ps : List ℕ) (nodes : ℕ → Node) (frames : List Frame) (r : Start) where
   abbrev pub Goes : Moving → Type 0
   Goes o = Kept rules ps at.lmaster at.me nodes frames r (out_of at asks o)
 
@@ -103,31 +103,31 @@ module _ (at : Place) (asks : ℕ → Option ClientOp) (ne : at.me ≢ nobody) (
 
   -- a message comes
   pub arrive_holds : (n : ℕ) (m : Msg) (g : Ghost) (o : Moving) → n ≢ nobody → ((w : Wish) → o.state.wish ≡ Some w → asks w.call ≡ Some w.op) → (at.me ≡ at.lmaster → Apart rules ps at.lmaster at.me nodes frames r) →
-      Sent (record { from = n; to = at.me; body = body_of m }) g.frames → CameTo g o n m → Stands g o → Goes (Moves.arrive at rules n m o)
+      Sent (record { from = n; to = at.me; body = body_of m }) g.frames → CameTo g o n m → is_removed (out_of at asks o).labels ≡ false → Stands g o → Goes (Moves.arrive at rules n m o)
   unfolding Moves.arrive body_of Says Frames.on_call Frames.on_recall Frames.on_give Frames.on_refuse Frames.on_done Frames.on_revoke Frames.on_vstored Frames.on_vdeleted
-  arrive_holds n (msg.Call db key q k) g o real waits apart sent came h = home_goes o _ (g, h) (λ home. cond_both (Frames.is_misplaced at k) _ _ Goes (λ _. (g, h))
-      (λ _. goes (Frames.called at n q k (Parts.end_vacuum (Parts.opened at o))) _ (like_called at asks ne n q k o home) (on_call_holds rules ps at.lmaster at.me nodes frames r n q k g (out_of at asks o) home came h)))
-  arrive_holds n (msg.Recall db key least node q k) g o real waits apart sent came h = from_goes n o _ (g, h) (λ home. cond_both (Frames.is_misplaced at k || (nat_eq at.me at.lmaster && is_none o.state.entry)) _ _ Goes (λ _. (g, h))
+  arrive_holds n (msg.Call db key q k) g o real waits apart sent came kept h = home_goes o _ (g, h) (λ home. cond_both (Frames.is_misplaced at k) _ _ Goes (λ _. (g, h))
+      (λ _. goes (Frames.called at n q k (Parts.end_vacuum (Parts.opened at o))) _ (like_called at asks ne n q k o home) (on_call_holds rules ps at.lmaster at.me nodes frames r n q k g (out_of at asks o) home came kept h)))
+  arrive_holds n (msg.Recall db key least node q k) g o real waits apart sent came kept h = from_goes n o _ (g, h) (λ home. cond_both (Frames.is_misplaced at k || (nat_eq at.me at.lmaster && is_none o.state.entry)) _ _ Goes (λ _. (g, h))
       (λ _. goes (Frames.recalled at (record { least = least; node = node; request = q; kind = k }) o) _ (like_recalled at asks ne (record { least = least; node = node; request = q; kind = k }) o (record { even = h.good.mine.even; waits = waits })) (on_recall_holds rules ps at.lmaster at.me nodes frames r (record { least = least; node = node; request = q; kind = k }) g (out_of at asks o) (recalled n at.me least node q k g sent) h)))
-  arrive_holds n (msg.Give db key rsn value) g o real waits apart sent came h = home_goes o _ (g, h) (λ home. goes (Frames.on_give_of at n rsn value o o.state.entry) _ (like_on_give_of at asks ne n rsn value o o.state.entry home) (on_give_holds rules ps at.lmaster at.me nodes frames r n rsn value g (out_of at asks o) o.state.entry refl home came h))
-  arrive_holds n (msg.Pass db key q rsn value) g o real waits apart sent came h = from_goes n o _ (g, h) (λ _. goes (Frames.on_pass at rules q rsn value o) _ (like_on_pass at asks ne rules q rsn value o (record { even = h.good.mine.even; waits = waits })) (on_pass_holds rules ps at.lmaster at.me nodes frames r q rsn value g (out_of at asks o) (came.0 refl) h))
-  arrive_holds n (msg.Refuse db key q rsn) g o real waits apart sent came h = home_goes o _ (g, h) (λ home. goes (Frames.on_refuse_of at n q rsn o o.state.entry) _ (like_on_refuse_of at asks ne n q rsn o o.state.entry home) (on_refuse_holds rules ps at.lmaster at.me nodes frames r n q rsn g (out_of at asks o) o.state.entry refl home came h))
-  arrive_holds n (msg.Grant db key q rsn value) g o real waits apart sent came h = goes (Frames.on_grant at n q rsn value o) _ (like_on_grant at asks ne n q rsn value o (came.0 refl).apart real (record { even = h.good.mine.even; waits = waits })) (on_grant_holds rules ps at.lmaster at.me nodes frames r n q rsn value g (out_of at asks o) sent came.0 h)
-  arrive_holds n (msg.Done db key node q) g o real waits apart sent came h = home_goes o _ (g, h) (λ home. goes (Frames.on_done_of at node q o o.state.queue) _ (like_on_done_of at asks ne node q o o.state.queue) (on_done_holds rules ps at.lmaster at.me nodes frames r node q g (out_of at asks o) o.state.queue refl home h))
-  arrive_holds n (msg.Revoke db key rsn) g o real waits apart sent came h = goes (Frames.on_revoke_of at n rsn o o.state.wish) _ (like_on_revoke_of at asks ne n rsn o o.state.wish h.good.mine.even) (on_revoke_holds rules ps at.lmaster at.me nodes frames r n rsn g (out_of at asks o) (wish_of at.readonly o.state.wish) refl came.0 h)
-  arrive_holds n (msg.RevokeAck db key rsn) g o real waits apart sent came h = goes (Frames.on_revokeack at rules n rsn o) _ (like_on_revokeack at asks ne rules n rsn o (λ v is. mastered_like at.me o.state.copy h.good.mine.even ∙ (h.good.mine.runs v is).0) (record { even = h.good.mine.even; waits = waits }))
+  arrive_holds n (msg.Give db key rsn value) g o real waits apart sent came kept h = home_goes o _ (g, h) (λ home. goes (Frames.on_give_of at n rsn value o o.state.entry) _ (like_on_give_of at asks ne n rsn value o o.state.entry home) (on_give_holds rules ps at.lmaster at.me nodes frames r n rsn value g (out_of at asks o) o.state.entry refl home came kept h))
+  arrive_holds n (msg.Pass db key q rsn value) g o real waits apart sent came kept h = from_goes n o _ (g, h) (λ _. goes (Frames.on_pass at rules q rsn value o) _ (like_on_pass at asks ne rules q rsn value o (record { even = h.good.mine.even; waits = waits })) (on_pass_holds rules ps at.lmaster at.me nodes frames r q rsn value g (out_of at asks o) (came.0 refl) kept h))
+  arrive_holds n (msg.Refuse db key q rsn) g o real waits apart sent came kept h = home_goes o _ (g, h) (λ home. goes (Frames.on_refuse_of at n q rsn o o.state.entry) _ (like_on_refuse_of at asks ne n q rsn o o.state.entry home) (on_refuse_holds rules ps at.lmaster at.me nodes frames r n q rsn g (out_of at asks o) o.state.entry refl home came kept h))
+  arrive_holds n (msg.Grant db key q rsn value) g o real waits apart sent came kept h = goes (Frames.on_grant at n q rsn value o) _ (like_on_grant at asks ne n q rsn value o (came.0 refl).apart real (record { even = h.good.mine.even; waits = waits })) (on_grant_holds rules ps at.lmaster at.me nodes frames r n q rsn value g (out_of at asks o) sent came.0 h)
+  arrive_holds n (msg.Done db key node q) g o real waits apart sent came kept h = home_goes o _ (g, h) (λ home. goes (Frames.on_done_of at node q o o.state.queue) _ (like_on_done_of at asks ne node q o o.state.queue) (on_done_holds rules ps at.lmaster at.me nodes frames r node q g (out_of at asks o) o.state.queue refl home h))
+  arrive_holds n (msg.Revoke db key rsn) g o real waits apart sent came kept h = goes (Frames.on_revoke_of at n rsn o o.state.wish) _ (like_on_revoke_of at asks ne n rsn o o.state.wish h.good.mine.even) (on_revoke_holds rules ps at.lmaster at.me nodes frames r n rsn g (out_of at asks o) (wish_of at.readonly o.state.wish) refl came.0 h)
+  arrive_holds n (msg.RevokeAck db key rsn) g o real waits apart sent came kept h = goes (Frames.on_revokeack at rules n rsn o) _ (like_on_revokeack at asks ne rules n rsn o (λ v is. mastered_like at.me o.state.copy h.good.mine.even ∙ (h.good.mine.runs v is).0) (record { even = h.good.mine.even; waits = waits }))
       (on_ack_holds rules ps at.lmaster at.me nodes frames r n rsn g (out_of at asks o) o.state.tracking.revoking refl came h)
-  arrive_holds n (msg.VStore db key rsn) g o real waits apart sent came h = from_goes n o _ (g, h) (λ _. goes (Frames.on_vstore at n rsn o) _ (like_on_vstore at asks ne n rsn o came.0.apart real h.good.mine.even) (on_vstore_holds rules ps at.lmaster at.me nodes frames r n rsn g (out_of at asks o) came.0 h))
-  arrive_holds n (msg.VStored db key rsn) g o real waits apart sent came h = home_goes o _ (g, h) (λ home. goes (Frames.on_vstored_of at n rsn o o.state.vacuum) _ (like_on_vstored_of at asks ne n rsn o o.state.vacuum) (on_vstored_holds rules ps at.lmaster at.me nodes frames r n rsn g (out_of at asks o) o.state.vacuum refl home (apart home) came h))
-  arrive_holds n (msg.VDelete db key rsn) g o real waits apart sent came h = from_goes n o _ (g, h) (λ _. goes (Frames.on_vdelete at n rsn o) _ (like_on_vdelete at asks ne n rsn o h.good.mine.even) (on_vdelete_holds rules ps at.lmaster at.me nodes frames r n rsn g (out_of at asks o) came.0 h))
-  arrive_holds n (msg.VDeleted db key rsn) g o real waits apart sent came h = home_goes o _ (g, h) (λ home. goes (Frames.on_vdeleted_of n rsn o o.state.vacuum) _ (like_on_vdeleted_of at asks ne n rsn o o.state.vacuum) (on_vdeleted_holds rules ps at.lmaster at.me nodes frames r n rsn g (out_of at asks o) o.state.vacuum refl home came h))
-  arrive_holds n _ g o real waits apart sent came h = (g, h)
+  arrive_holds n (msg.VStore db key rsn) g o real waits apart sent came kept h = from_goes n o _ (g, h) (λ _. goes (Frames.on_vstore at n rsn o) _ (like_on_vstore at asks ne n rsn o came.0.apart real h.good.mine.even) (on_vstore_holds rules ps at.lmaster at.me nodes frames r n rsn g (out_of at asks o) came.0 h))
+  arrive_holds n (msg.VStored db key rsn) g o real waits apart sent came kept h = home_goes o _ (g, h) (λ home. goes (Frames.on_vstored_of at n rsn o o.state.vacuum) _ (like_on_vstored_of at asks ne n rsn o o.state.vacuum) (on_vstored_holds rules ps at.lmaster at.me nodes frames r n rsn g (out_of at asks o) o.state.vacuum refl home (apart home) came h))
+  arrive_holds n (msg.VDelete db key rsn) g o real waits apart sent came kept h = from_goes n o _ (g, h) (λ _. goes (Frames.on_vdelete at n rsn o) _ (like_on_vdelete at asks ne n rsn o h.good.mine.even) (on_vdelete_holds rules ps at.lmaster at.me nodes frames r n rsn g (out_of at asks o) came.0 h))
+  arrive_holds n (msg.VDeleted db key rsn) g o real waits apart sent came kept h = home_goes o _ (g, h) (λ home. goes (Frames.on_vdeleted_of n rsn o o.state.vacuum) _ (like_on_vdeleted_of at asks ne n rsn o o.state.vacuum) (on_vdeleted_holds rules ps at.lmaster at.me nodes frames r n rsn g (out_of at asks o) o.state.vacuum refl home came h))
+  arrive_holds n _ g o real waits apart sent came kept h = (g, h)
 
   -- the client calls
-  pub wants_holds : (call : ℕ) (asked : ClientOp) (g : Ghost) (o : Moving) → asks call ≡ Some asked → o.state.wish ≡ None → (is_read_op asked ≡ false → is_some o.state.locked ≡ false) → Stands g o → Goes (Parts.want at rules call asked o)
+  pub wants_holds : (call : ℕ) (asked : ClientOp) (g : Ghost) (o : Moving) → asks call ≡ Some asked → o.state.wish ≡ None → (is_read_op asked ≡ false → is_some o.state.locked ≡ false) → is_removed (out_of at asks o).labels ≡ false → Stands g o → Goes (Parts.want at rules call asked o)
   unfolding wish_of
-  wants_holds call asked g o is none free h = goes (Parts.want at rules call asked o) _ (like_want at asks ne rules call asked o is h.good.mine.even)
-      (want_holds rules ps at.lmaster at.me nodes frames r (record { real = asked; readonly = at.readonly }) g (out_of at asks o) (ap (wish_of at.readonly) none) free h)
+  wants_holds call asked g o is none free kept h = goes (Parts.want at rules call asked o) _ (like_want at asks ne rules call asked o is h.good.mine.even)
+      (want_holds rules ps at.lmaster at.me nodes frames r (record { real = asked; readonly = at.readonly }) g (out_of at asks o) (ap (wish_of at.readonly) none) free kept h)
 
   pub stores_holds : (call : ℕ) (v : List ℕ) (g : Ghost) (o : Moving) → asks call ≡ Some (op.Store at.db at.key v) → is_some o.state.locked ≡ true → Stands g o → Goes (Moves.store call v o)
   stores_holds call v g o is locked h = goes (Moves.store call v o) _ (like_store at asks ne call v o is) (store_holds rules ps at.lmaster at.me nodes frames r at.db at.key v g (out_of at asks o) locked h)
@@ -149,10 +149,10 @@ module _ (at : Place) (asks : ℕ → Option ClientOp) (ne : at.me ≢ nobody) (
       let o' = Moves.call_again_of at o o.state.wish in
       goes (Moves.revoke_again_of at o' o'.state.tracking.revoking) _ (like_revoke_again at asks ne o' o'.state.tracking.revoking) (revoke_again_holds rules ps at.lmaster at.me nodes frames r o'.state.tracking.revoking p.0 (out_of at asks o') refl p.1)
 
-  pub thaws_holds : (g : Ghost) (o : Moving) (wish : Option Wish) → o.state.wish ≡ wish → ((w : Wish) → o.state.wish ≡ Some w → asks w.call ≡ Some w.op) → Stands g o → Goes (Rounds.want_again_of at rules o wish)
+  pub thaws_holds : (g : Ghost) (o : Moving) (wish : Option Wish) → o.state.wish ≡ wish → ((w : Wish) → o.state.wish ≡ Some w → asks w.call ≡ Some w.op) → is_removed (out_of at asks o).labels ≡ false → Stands g o → Goes (Rounds.want_again_of at rules o wish)
   unfolding Rounds.want_again_of Parts.keeps Rule.with_node wish_of
-  thaws_holds g o None is waits h = (g, h)
-  thaws_holds g o (Some w) is waits h = wants_holds w.call w.op g (Parts.keeps (record o.state { wish = None }) o) (waits w is) refl (λ _. false_from_ne_true _ (λ t. wish_some at.readonly o.state.wish w is (h.good.mine.unwished t)))
+  thaws_holds g o None is waits kept h = (g, h)
+  thaws_holds g o (Some w) is waits kept h = wants_holds w.call w.op g (Parts.keeps (record o.state { wish = None }) o) (waits w is) refl (λ _. false_from_ne_true _ (λ t. wish_some at.readonly o.state.wish w is (h.good.mine.unwished t))) kept
       (node_holds rules ps at.lmaster at.me nodes frames r (record (out_of at asks o).node { wish = None }) g (out_of at asks o) refl h (NodeInv-nowish g at.me (out_of at asks o).node h.good.mine) h.good.master)
 
   -- other records raise the numbers

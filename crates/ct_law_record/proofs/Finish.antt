@@ -1,20 +1,22 @@
 -- FINISH: the versions, the copies and the entry are gone, and the floor is above all that was.
 use Rattle.std.proofs.Common.{length, ap, ◌≡◌, ◌≢◌, ℕ, ◌+◌, ◌<◌, ◌≤◌, true, false, Option, Some, None, List, [], take, refl, sym, ◌∙◌, inr, arith, subst}
 use Rattle.std.proofs.lemmas.Bool.{false_from_ne_true}
-use Rattle.ct_law_record.proofs.Invariant.{Ghost, Emptied, Joined, Says, Facts, NodeInv, Holds, Kept, default_entry}
+use Rattle.ct_law_record.proofs.Invariant.{span_of, Start, Ghost, Emptied, Joined, Says, Facts, NodeInv, Holds, Kept, default_entry}
 use Rattle.ct_law_record.proofs.Nodes.{past_none}
+use Rattle.ct_law_record.specs.Marked.{is_removal, is_removed}
+use Rattle.ct_law_record.proofs.Markings.{goes_removed, goes_top}
 use Rattle.ct_law_record.proofs.Parts.{nobody_has, readers_idle, accepts_one_more}
 use Rattle.ct_law_record.proofs.Acts.{owner_none}
 use Rattle.std.specs.Prelude.{List}
 use Rattle.ct_call.specs.Rules.{Rules}
 use Rattle.ct_deleg.specs.Tracked.{Revocation}
-use Rattle.ct_register.specs.Register.{Register, reading, emptied}
+use Rattle.ct_register.specs.Register.{reading, emptied}
 use Rattle.ct_law_record.specs.Labels.{Vacuumed}
 use Rattle.ct_law_record.proofs.Rule
 use Rattle.ct_law_record.proofs.Rule.{is_odd, Body, Call, Copy, Done, Frame, Give, Grant, Node, Out, Pass, Recalls, Refuse, Revoke, RevokeAck, VDelete, VDeleted, VStore, VStored, Wish, greater, has_node, is_here, is_reading, rank, reads_op, tell, value_of, with_node}
 
 abbrev pub finished : ℕ → ℕ → Ghost → Ghost
-finished m floor g = record { entry = default_entry m floor; queue = g.queue; frames = g.frames; register = emptied g.register; readers = []; revoking = false; top = g.top; place = λ _. 0; vacuum = None }
+finished m floor g = record { entry = default_entry m floor; queue = g.queue; frames = g.frames; register = emptied g.register; readers = []; revoking = false; top = g.top; place = λ _. 0; vacuum = None; base = g.top; joint = g.top + 1; mark = λ _. 0 }
 
 empty_reading : reading (take 0 []) ≡ []
 unfolding reading
@@ -69,6 +71,7 @@ NodeInv-finished m floor g n node up top none idle unowned unlocked unrevoked un
   vacuum = λ v e. absurd (cc);
   asked = h.asked;
   waits = h.waits;
+  marked = past_none (g.top + 1) None refl;
   frames = λ f s. says_finished m floor g n node.copy node.next node.wish up top none idle unmet f.from f.to f.body (h.frames f s);
 }
 
@@ -85,7 +88,7 @@ unfolding is_here
 absent_here None e h = cc
 absent_here (Some c) e h = cc
 
-module _ (rules : Rules) (ps : List ℕ) (m me : ℕ) (nodes : ℕ → Node) (frames : List Frame) (r : Register) where
+module _ (rules : Rules) (ps : List ℕ) (m me : ℕ) (nodes : ℕ → Node) (frames : List Frame) (r : Start) where
   -- no revocation runs where there is no copy
   still : (g : Ghost) (n : ℕ) (node : Node) → node.copy ≡ None → NodeInv g n node → (node.locked ≡ false) × (node.revoking ≡ None) × (node.tracked ≡ [])
   still g n node absent h = (false_from_ne_true _ (λ t. absent_here node.copy absent (h.locked t).0), go node.revoking refl, h.away (false_from_ne_true _ (λ t. absent_here node.copy absent t)))
@@ -96,7 +99,7 @@ module _ (rules : Rules) (ps : List ℕ) (m me : ℕ) (nodes : ℕ → Node) (fr
 
   pub finish_holds : (rsn : ℕ) (g : Ghost) (o : Out) → me ≡ m → is_here o.node.copy ≡ true → o.node.locked ≡ false → o.node.tracked ≡ [] → o.node.revoking ≡ None → value_of o.node.copy ≡ [] → g.top ≤ rsn + 2 →
       ((n : ℕ) → n ≢ me → (nodes n).copy ≡ None) → Holds rules ps m me nodes frames r g o → Kept rules ps m me nodes frames r (Rule.finish me rsn o)
-  unfolding Rule.finish tell with_node Emptied
+  unfolding Rule.finish tell with_node Emptied is_removal
   finish_holds rsn g o at here unlocked untracked idle value top gone h =
       let floor = greater o.node.floor (rsn + 2) in
       let high = greater_right o.node.floor (rsn + 2) in
@@ -110,15 +113,23 @@ module _ (rules : Rules) (ps : List ℕ) (m me : ℕ) (nodes : ℕ → Node) (fr
         finished m floor g,
         record {
           sent = h.sent;
-          told = accepts_one_more rules r g.register _ o.labels (Vacuumed me) h.told (unowned, sym holds.1 ∙ value, refl);
+          told = accepts_one_more rules r.register g.register _ o.labels (Vacuumed me) h.told (unowned, sym holds.1 ∙ value, refl);
+          went = goes_removed o.labels (Vacuumed me) r.span (span_of (finished m floor g)) refl (record { none = omega arith; top = goes_top (is_removed o.labels) r.span (span_of g) h.went });
           good = record {
-            all = record { rises = λ a b l. omega arith; whole = λ a l. refl; within = λ a. omega arith; absent = empty_reading; vacuum = λ v e. absurd (cc) };
+            all = record {
+              rises = λ a b l. omega arith;
+              whole = λ a l. refl;
+              within = λ a. omega arith;
+              absent = empty_reading;
+              vacuum = λ v e. absurd (cc);
+              marks = record { rises = λ a b l. omega arith; whole = λ a l. refl; agrees = λ a l. refl; low = omega arith; near = omega arith; fits = λ l. absurd (omega arith); under = omega arith; first = omega arith; entry = sym empty_reading; none = λ l. refl };
+            };
             mine = NodeInv-finished m floor g me o.node (omega arith) (omega arith) none readers.1 unowned unlocked idle untracked (λ e. absurd (let j = h.good.joined in cc))
                 (λ w e l a nz same. (let k = h.good.mine.own w e a nz same l in omega arith)) h.good.mine;
             others = λ n ne. (let f = h.good.others n ne in let s = still g n (nodes n) (gone n ne) f in
                 subst (λ (c : Option Copy). Facts (finished m floor g) n c (nodes n).wish (nodes n).next (nodes n).locked (nodes n).recalls (nodes n).tracked (nodes n).revoking (nodes n).fresh) (sym (gone n ne))
                 (NodeInv-finished m floor g n (nodes n) (omega arith) (omega arith) none readers.1 unowned s.0 s.1 s.2 (λ _. absent_rank (nodes n).copy (gone n ne)) (λ w e l a. absurd (ne (a ∙ sym is.0))) f));
-            master = λ e. record { entry = inr (refl, refl, refl); queue = (h.good.master e).queue; vacuum = refl };
+            master = λ e. record { entry = inr (refl, refl, refl, omega arith); queue = (h.good.master e).queue; vacuum = refl };
             joined = h.good.joined;
             master_other = λ ne. absurd (ne at);
           };

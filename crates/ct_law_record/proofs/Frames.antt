@@ -1,9 +1,11 @@
 -- Each client call, and what the location master does, keeps the invariant.
 use Rattle.std.proofs.Common.{◌≡◌, ◌≢◌, ℕ, ◌+◌, ◌≤◌, Bool, true, false, Option, Some, None, List, [], ◌∷◌, refl, sym, ap, ◌∙◌, inl, inr, ⊎_elim, arith, subst, ◌&&◌, ◌||◌, cond}
 use Rattle.std.proofs.lemmas.Bool.{and_parts, cond_both, false_from_ne_true, or_cases}
-use Rattle.ct_law_record.proofs.Invariant.{Asked, readers_of, is_revoking, Ghost, RefuseAt, Says, Holds, Kept}
+use Rattle.ct_law_record.proofs.Invariant.{span_of, Start, Asked, readers_of, is_revoking, Ghost, RefuseAt, Says, Holds, Kept}
 use Rattle.ct_law_record.proofs.Nodes.{NodeInv-called, called}
 use Rattle.ct_law_record.proofs.Holder.{NodeInv-shift, NodeInv-holding, held, holding}
+use Rattle.ct_law_record.specs.Marked.{is_removed}
+use Rattle.ct_law_record.proofs.Markings.{grows_top, goes_on, marking_top}
 use Rattle.ct_law_record.proofs.Parts.{idle_none, nil_none, tracks, change_tracks, global_tracks, granted_to, granted_end, shift_to, nobody_has}
 use Rattle.ct_law_record.proofs.Acts.{send_holds, node_holds, own_holds, Others, owner_me, see_holds, satisfy_holds, revoke_holds}
 use Rattle.ct_law_record.proofs.Small.{reads_is_read}
@@ -15,12 +17,11 @@ use Rattle.ct_deleg.specs.Tracked.{Revocation}
 use Rattle.ct_rules.specs.State.{is_nil, is_read_op, kind_of}
 use Rattle.ct_rules.specs.declared.state.Entry.{Entry}
 use Rattle.ct_rules.specs.declared.state.Waiter.{Waiter}
-use Rattle.ct_register.specs.Register.{Register}
 use Rattle.ct_law_record.specs.Labels.{Told}
 use Rattle.ct_law_record.proofs.Rule
 use Rattle.ct_law_record.proofs.Rule.{wait_for_copies, Body, Call, Copy, Done, Frame, Give, Grant, Here, Kind, Node, Op, Out, Pass, Recalls, Refuse, Revoke, RevokeAck, Wish, become, drain, has_node, is_here, is_idle, is_read, is_reading, rank, reads_op, rsn_of, satisfy, send, tell, value_of, with_node, with_value}
 
-module _ (rules : Rules) (ps : List ℕ) (m me : ℕ) (nodes : ℕ → Node) (frames : List Frame) (r : Register) where
+module _ (rules : Rules) (ps : List ℕ) (m me : ℕ) (nodes : ℕ → Node) (frames : List Frame) (r : Start) where
   pub call_holds : (op : Op) (g : Ghost) (o : Out) → is_here o.node.copy ≡ false → Holds rules ps m me nodes frames r g o → Kept rules ps m me nodes frames r (Rule.call me m op o)
   unfolding Rule.call with_node Says
   call_holds op g o away h = (
@@ -113,21 +114,22 @@ module _ (rules : Rules) (ps : List ℕ) (m me : ℕ) (nodes : ℕ → Node) (fr
   -- the node that the entry names becomes holder
   pub become_holds : (wish : Option Wish) (g : Ghost) (o : Out) → me ≡ g.entry.holder → rank o.node.copy ≤ g.entry.least →
       ((w : Wish) → wish ≡ Some w → (o.node.wish ≡ Some w) × (w.request ≡ g.entry.request → w.request ≢ 0 → reads_op w.op ≡ false → ⊥)) →
-      ((q rsn : ℕ) → RefuseAt g.entry me o.node.next o.node.wish (rank o.node.copy) q rsn → g.entry.request ≢ q) → (me ≡ m → o.node.entry ≡ Some g.entry) →
+      ((q rsn : ℕ) → RefuseAt g.entry me o.node.next o.node.wish (rank o.node.copy) q rsn → g.entry.request ≢ q) → (me ≡ m → o.node.entry ≡ Some g.entry) → is_removed o.labels ≡ false →
       Holds rules ps m me nodes frames r g o → Holds rules ps m me nodes frames r (held g) (with_node (holding g.entry wish o.node) o)
   unfolding with_node
-  become_holds wish g o is small wishes unasked entry h =
+  become_holds wish g o is small wishes unasked entry kept h =
       let away : is_here o.node.copy ≡ false = false_from_ne_true _ (λ t. (let up = (h.good.mine.here t).1 in omega arith)) in
       let none = h.good.mine.nobody is away in
       let pass = h.good.mine.passing is small in
       let top = pass.0 in record {
         sent = h.sent;
         told = h.told;
+        went = goes_on (is_removed o.labels) r.span (span_of g) (span_of (held g)) (λ e. absurd (let z = kept in cc)) (grows_top g.base g.top (g.entry.least + 1) g.mark (omega arith)) h.went;
         good = record {
-          all = (let k = h.good.all in record { rises = k.rises; whole = λ a l. k.whole a (omega arith); within = k.within; absent = k.absent; vacuum = λ v e. absurd (let z = none.2 in cc) });
+          all = (let k = h.good.all in record { rises = k.rises; whole = λ a l. k.whole a (omega arith); within = k.within; absent = k.absent; vacuum = λ v e. absurd (let z = none.2 in cc); marks = marking_top g.base g.joint g.top g.entry.least g.mark g.place g.register.versions g.entry.value (g.entry.least + 1) (omega arith) k.marks });
           mine = NodeInv-holding ps m g me o.node wish h.good.joined h.good.all is small wishes unasked h.good.mine;
           others = λ n ne. NodeInv-shift g (held g) n (nodes n) (λ e. ne (e ∙ sym is))
-              (record { entry = refl; queue = refl; sent = refl; birth = refl; top = inl (omega arith); empty = λ a b c. c; joined = λ a b c. c })
+              (record { entry = refl; queue = refl; sent = refl; birth = refl; top = inl (omega arith); empty = λ a b c. c; joined = λ a b c. c; span = grows_top g.base g.top (g.entry.least + 1) g.mark (omega arith) })
               (let f = h.good.others n ne in record {
                 owner = λ a. a;
                 reader = λ _ a. absurd (nobody_has n g.readers none.0 a);
@@ -137,22 +139,27 @@ module _ (rules : Rules) (ps : List ℕ) (m me : ℕ) (nodes : ℕ → Node) (fr
                 seen = f.seen;
                 kept = omega arith;
                 vacuum = f.vacuum;
+                marked = f.marked;
               }) (h.good.others n ne);
           master = λ e. (let k = h.good.master e in record { entry = inl (entry e); queue = k.queue; vacuum = k.vacuum });
           joined = h.good.joined;
-          master_other = h.good.master_other;
+          master_other = λ ne. (let k = h.good.master_other ne in record {
+            entry = ⊎_elim (λ (e : (nodes m).entry ≡ Some g.entry). inl e) (λ p. absurd (ne (is ∙ ap (λ (x : Entry). x.holder) p.1))) k.entry;
+            queue = k.queue;
+            vacuum = k.vacuum;
+          });
         };
       }
 
   -- Open and Keep: who was no holder tracked nobody
   pub keeps_holds : (g : Ghost) (o : Out) → me ≡ g.entry.holder → rank o.node.copy ≤ g.entry.least →
       ((w : Wish) → o.node.wish ≡ Some w → w.request ≡ g.entry.request → w.request ≢ 0 → reads_op w.op ≡ false → ⊥) →
-      ((q rsn : ℕ) → RefuseAt g.entry me o.node.next o.node.wish (rank o.node.copy) q rsn → g.entry.request ≢ q) → (me ≡ m → o.node.entry ≡ Some g.entry) →
+      ((q rsn : ℕ) → RefuseAt g.entry me o.node.next o.node.wish (rank o.node.copy) q rsn → g.entry.request ≢ q) → (me ≡ m → o.node.entry ≡ Some g.entry) → is_removed o.labels ≡ false →
       Holds rules ps m me nodes frames r g o → Holds rules ps m me nodes frames r (held g) (Rule.become g.entry.least g.entry.value o)
   unfolding Rule.become with_node
-  keeps_holds g o is small unmet unasked entry h =
+  keeps_holds g o is small unmet unasked entry kept h =
       let away : is_here o.node.copy ≡ false = false_from_ne_true _ (λ t. (let up = (h.good.mine.here t).1 in omega arith)) in
       let none = h.good.mine.away away in
       let idle = h.good.mine.quiet none in
       subst (λ (x : List ℕ × Option Revocation). Holds rules ps m me nodes frames r (held g) (with_node (record o.node { copy = Some (record { rsn = g.entry.least; kind = Here; value = g.entry.value }); tracked = x.0; revoking = x.1 }) o))
-      (λ i. (sym none i, sym idle i)) (become_holds o.node.wish g o is small (λ w e. (e, unmet w e)) unasked entry h)
+      (λ i. (sym none i, sym idle i)) (become_holds o.node.wish g o is small (λ w e. (e, unmet w e)) unasked entry kept h)

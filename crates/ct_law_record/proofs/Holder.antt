@@ -1,7 +1,7 @@
 -- The node that the entry names becomes holder; and what the holder changes: for the other nodes, and for itself.
 use Rattle.std.proofs.Common.{length, ap, ◌≡◌, ◌≢◌, ◌⊎◌, ℕ, ◌+◌, ◌<◌, ◌≤◌, true, false, ◌||◌, Option, Some, None, [], refl, sym, ◌∙◌, ⊎_elim, arith, subst, take}
 use Rattle.std.proofs.lemmas.Bool.{false_from_ne_true}
-use Rattle.ct_law_record.proofs.Invariant.{Sent, Asked, Waits, Recalled, readers_of, is_revoking, Ghost, PassAt, GiveAt, RefuseAt, Ungranted, Emptied, Joined, VacuumAt, Says, NodeInv, GlobalInv}
+use Rattle.ct_law_record.proofs.Invariant.{span_of, Grows, Past, Sent, Asked, Waits, Recalled, readers_of, is_revoking, Ghost, PassAt, GiveAt, RefuseAt, Ungranted, Emptied, Joined, VacuumAt, Says, NodeInv, GlobalInv}
 use Rattle.ct_law_record.proofs.Nodes.{kind_eq, past_more, past_top, vacuum_top}
 use Rattle.ct_law_record.proofs.Copies.{whole_reading}
 use Rattle.std.specs.Prelude.{List}
@@ -84,6 +84,7 @@ NodeInv-holding ps m g n node wish joined all is small wishes unasked h =
       asked = h.asked;
       waits = h.waits;
       frames = λ f s. says_holding g n node.copy node.next node.wish wish is small pass.0 none.0 (λ w e. (wishes w e).0) unasked f.from f.to f.body (h.frames f s);
+      marked = past_top g.joint _ (let n = all.marks.near in omega arith);
     }
 
 -- the ghost changes by what the holder does, and the entry stays
@@ -95,6 +96,7 @@ pub record Change (g g' : Ghost) : Type 0 where
   pub top : (g.top < g'.top) ⊎ ((g.top ≡ g'.top) × (g.revoking ≡ true → g'.revoking ≡ true))
   pub empty : (a : ℕ) → a < g.top → Emptied g.place g.register.versions a → Emptied g'.place g'.register.versions a
   pub joined : (a : ℕ) → a < g.top → Joined g.place a → Joined g'.place a
+  pub span : Grows (span_of g) (span_of g')
 
 -- who reads or may read goes on, and nothing that it reads changed
 abbrev pub Same : Ghost → Ghost → ℕ → Type 0
@@ -113,6 +115,7 @@ pub record Shift (g g' : Ghost) (k : ℕ) (copy : Option Copy) (wish : Option Wi
   pub seen : g'.register.seen k ≤ g'.place (rank copy)
   pub kept : g.place (rank copy) ≤ g'.place (rank copy)
   pub vacuum : (v : Vacuuming) → g'.vacuum ≡ Some v → VacuumAt v k copy
+  pub marked : Past g'.joint copy
 
 -- what an old revocation says
 running_to : (g g' : Ghost) (rsn : ℕ) → Change g g' → rsn + 1 ≤ g.top → (rsn + 1 ≡ g.top → g.revoking ≡ true) → rsn + 1 ≡ g'.top → (rsn + 1 ≡ g.top) × (g'.revoking ≡ true)
@@ -178,6 +181,7 @@ NodeInv-shift g g' k node ne c d h = record {
   asked = λ a s. h.asked a (subst (λ q. Asked a q) c.queue s);
   waits = λ r s. subst (λ fs. Recalled r fs) (sym c.sent) (h.waits r s);
   frames = λ f s. (let s' : Sent f g.frames = subst (λ fs. Sent f fs) c.sent s in says_shift g g' k node.copy node.next node.wish c d.granted f s' f.from f.to refl f.body refl (h.frames f s'));
+  marked = d.marked;
 }
 
 -- for the holder itself
@@ -294,4 +298,5 @@ NodeInv-own ps m g g' n node node' joined all here c d h =
           (λ (x : node.wish ≡ Some w). x)
           (λ (x : (w.request ≡ 0) × (reads_op w.op ≡ false)). absurd (let y = x.1 in cc)) (d.wishes w e))
           c d.granted f s' f.from f.to refl f.body refl (h.frames f s')));
+      marked = past_top g'.joint node'.copy (let low = at.1 in let first = all.marks.first in let f = all.marks.fits (omega arith) in omega arith);
     }

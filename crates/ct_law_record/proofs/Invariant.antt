@@ -8,6 +8,7 @@ use Rattle.ct_rules.specs.declared.state.RecallNote.{RecallNote}
 use Rattle.ct_rules.specs.declared.state.Waiter.{Waiter}
 use Rattle.ct_register.specs.Register.{Register, reading}
 use Rattle.ct_law_record.specs.Labels.{AcceptsAll}
+use Rattle.ct_law_record.specs.Marked.{is_removed}
 use Rattle.ct_law_record.proofs.Rule.{is_odd, Body, Call, Copy, Done, Frame, Give, Given, Grant, Node, Out, Pass, Recalls, Refuse, Revoke, RevokeAck, VDelete, VDeleted, VStore, VStored, Wish, has_node, is_here, is_reading, is_storing, rank, reads_op, value_of}
 
 -- the frame was sent
@@ -35,7 +36,8 @@ is_revoking None = false
 is_revoking (Some v) = true
 
 -- the master's entry, queue and vacuum, all frames, the register; of the holder the readers, whether it revokes, and a
--- bound of all ranks; and how many versions a copy of each rank stands for, an absent one having rank 0
+-- bound of all ranks; how many versions a copy of each rank stands for, an absent one having rank 0; and the marks: each rank
+-- above `base` up to the top has one, with the place `mark`, which is that of copies from the rank `joint` on
 pub record Ghost : Type 0 where
   pub entry : Entry
   pub queue : List Waiter
@@ -46,6 +48,39 @@ pub record Ghost : Type 0 where
   pub top : ℕ
   pub place : ℕ → ℕ
   pub vacuum : Option Vacuuming
+  pub base : ℕ
+  pub joint : ℕ
+  pub mark : ℕ → ℕ
+
+-- the ranks that have marks, and their places
+pub record Span : Type 0 where
+  pub base : ℕ
+  pub top : ℕ
+  pub mark : ℕ → ℕ
+
+abbrev pub span_of : Ghost → Span
+span_of g = record { base = g.base; top = g.top; mark = g.mark }
+
+-- the span goes on: ranks below its top keep their marks, that of the top may rise, and more may follow
+pub record Grows (a c : Span) : Type 0 where
+  pub base : c.base ≡ a.base
+  pub top : a.top ≤ c.top
+  pub same : (x : ℕ) → x < a.top → c.mark x ≡ a.mark x
+  pub raised : a.mark a.top ≤ c.mark a.top
+
+-- or nothing is left of it
+pub record Empties (a c : Span) : Type 0 where
+  pub none : c.top ≤ c.base
+  pub top : a.top ≤ c.top
+
+unfoldable pub Goes : (is_removed : Bool) → Span → Span → Type 0
+Goes true a c = Empties a c
+Goes false a c = Grows a c
+
+-- what a step begins with
+pub record Start : Type 0 where
+  pub register : Register
+  pub span : Span
 
 pub record PassAt (e : Entry) (n next : ℕ) (wish : Option Wish) (q rsn : ℕ) (value : List ℕ) : Type 0 where
   pub low : q < next
@@ -174,6 +209,7 @@ pub record Facts (g : Ghost) (n : ℕ) (copy : Option Copy) (now : Option Wish) 
   pub asked : (a : Waiter) → Asked a g.queue → a.node ≡ n → (a.request < number) × (a.request ≢ 0)
   pub waits : (r : RecallNote) → Waits r recalls_now → Recalled r g.frames
   pub frames : (f : Frame) → Sent f g.frames → Says g n copy number now f.from f.to f.body
+  pub marked : Past g.joint copy
 
 abbrev pub NodeInv : Ghost → ℕ → Node → Type 0
 NodeInv g n node = Facts g n node.copy node.wish node.next node.locked node.recalls node.tracked node.revoking node.fresh
@@ -182,14 +218,14 @@ NodeInv g n node = Facts g n node.copy node.wish node.next node.locked node.reca
 abbrev pub default_entry : ℕ → ℕ → Entry
 default_entry m floor = record { holder = m; least = floor; request = 0; value = [] }
 
--- the master's own part of the ghost; without an entry the next OPEN is on its way
-pub record MasterFacts (m : ℕ) (e : Entry) (all_asks : List Waiter) (running : Option Vacuuming) (entry_now : Option Entry) (asks : List Waiter) (copy : Option Copy) (vacuum_now : Option Vacuuming) (floor : ℕ) : Type 0 where
-  pub entry : (entry_now ≡ Some e) ⊎ ((entry_now ≡ None) × (e ≡ default_entry m floor) × (copy ≡ None))
+-- the master's own part of the ghost; without an entry the next OPEN is on its way, and there are no marks
+pub record MasterFacts (m : ℕ) (e : Entry) (all_asks : List Waiter) (running : Option Vacuuming) (base top : ℕ) (entry_now : Option Entry) (asks : List Waiter) (copy : Option Copy) (vacuum_now : Option Vacuuming) (floor : ℕ) : Type 0 where
+  pub entry : (entry_now ≡ Some e) ⊎ ((entry_now ≡ None) × (e ≡ default_entry m floor) × (copy ≡ None) × (top ≤ base))
   pub queue : asks ≡ all_asks
   pub vacuum : vacuum_now ≡ running
 
 abbrev pub MasterInv : ℕ → Ghost → Node → Type 0
-MasterInv m g node = MasterFacts m g.entry g.queue g.vacuum node.entry node.queue node.copy node.vacuum node.floor
+MasterInv m g node = MasterFacts m g.entry g.queue g.vacuum g.base g.top node.entry node.queue node.copy node.vacuum node.floor
 
 -- what holds while a vacuum runs
 pub record Emptying (ps : List ℕ) (m holder top : ℕ) (versions : List (List ℕ)) (place : ℕ → ℕ) (readers : List ℕ) (revoking : Bool) (v : Vacuuming) : Type 0 where
@@ -204,16 +240,30 @@ pub record Emptying (ps : List ℕ) (m holder top : ℕ) (versions : List (List 
   pub nobody : readers ≡ []
   pub idle : revoking ≡ false
 
+-- of the marks: they rise with the rank, and from the top on they are the whole list; and of the entry: its value is that of its least's place
+pub record Marking (base joint top least : ℕ) (mark place : ℕ → ℕ) (versions : List (List ℕ)) (value : List ℕ) : Type 0 where
+  pub rises : (a b : ℕ) → a ≤ b → mark a ≤ mark b
+  pub whole : (a : ℕ) → top ≤ a → mark a ≡ length versions
+  pub agrees : (a : ℕ) → joint ≤ a → place a ≡ mark a
+  pub low : base < joint
+  pub near : joint ≤ top + 1
+  pub fits : base < top → joint ≤ top
+  pub under : base ≤ top
+  pub first : base ≤ least
+  pub entry : value ≡ reading (take (mark least) versions)
+  pub none : top ≤ base → length versions ≡ 0
+
 -- of the places: they rise with the rank, from the top on they are the whole list, and absent copies stand for an empty reading
-pub record Global (ps : List ℕ) (m holder top : ℕ) (versions : List (List ℕ)) (place : ℕ → ℕ) (readers : List ℕ) (revoking : Bool) (running : Option Vacuuming) : Type 0 where
+pub record Global (ps : List ℕ) (m holder top least base joint : ℕ) (versions : List (List ℕ)) (value : List ℕ) (place mark : ℕ → ℕ) (readers : List ℕ) (revoking : Bool) (running : Option Vacuuming) : Type 0 where
   pub rises : (a b : ℕ) → a ≤ b → place a ≤ place b
   pub whole : (a : ℕ) → top ≤ a → place a ≡ length versions
   pub within : (a : ℕ) → place a ≤ length versions
   pub absent : Emptied place versions 0
   pub vacuum : (v : Vacuuming) → running ≡ Some v → Emptying ps m holder top versions place readers revoking v
+  pub marks : Marking base joint top least mark place versions value
 
 abbrev pub GlobalInv : List ℕ → ℕ → Ghost → Type 0
-GlobalInv ps m g = Global ps m g.entry.holder g.top g.register.versions g.place g.readers g.revoking g.vacuum
+GlobalInv ps m g = Global ps m g.entry.holder g.top g.entry.least g.base g.joint g.register.versions g.entry.value g.place g.mark g.readers g.revoking g.vacuum
 
 -- a node is in the middle of a step, the others as they were
 pub record Good (ps : List ℕ) (m me : ℕ) (nodes : ℕ → Node) (g : Ghost) (node : Node) : Type 0 where
@@ -225,10 +275,11 @@ pub record Good (ps : List ℕ) (m me : ℕ) (nodes : ℕ → Node) (g : Ghost) 
   pub master_other : me ≢ m → MasterInv m g (nodes m)
 
 -- the state in the middle of a step: what was sent and told so far leads to the ghost
-pub record Holds (rules : Rules) (ps : List ℕ) (m me : ℕ) (nodes : ℕ → Node) (frames : List Frame) (r : Register) (g : Ghost) (o : Out) : Type 0 where
+pub record Holds (rules : Rules) (ps : List ℕ) (m me : ℕ) (nodes : ℕ → Node) (frames : List Frame) (r : Start) (g : Ghost) (o : Out) : Type 0 where
   pub sent : g.frames ≡ frames ++ o.frames
-  pub told : AcceptsAll rules r o.labels g.register
+  pub told : AcceptsAll rules r.register o.labels g.register
+  pub went : Goes (is_removed o.labels) r.span (span_of g)
   pub good : Good ps m me nodes g o.node
 
-abbrev pub Kept : Rules → List ℕ → ℕ → ℕ → (ℕ → Node) → List Frame → Register → Out → Type 0
+abbrev pub Kept : Rules → List ℕ → ℕ → ℕ → (ℕ → Node) → List Frame → Start → Out → Type 0
 Kept rules ps m me nodes frames r o = (g : Ghost) × Holds rules ps m me nodes frames r g o

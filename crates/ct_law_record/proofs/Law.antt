@@ -13,6 +13,7 @@ use Rattle.ct_law_record.specs.World.{Scene, World, Event, peers, last, HasCopy,
 use Rattle.std.specs.List.{list_all}
 use Rattle.ct_frame.specs.Fields.{is_node}
 use Rattle.ct_law_record.proofs.Parts.{nobody_has}
+use Rattle.ct_law_record.proofs.Nodes.{past_none}
 use Rattle.ct_law_record.proofs.Worlds.{nodes_at, WorldInv, run_holds}
 
 no_owner : (owner : Option ℕ) → ((n : ℕ) → owner ≢ Some n) → owner ≡ None
@@ -39,7 +40,7 @@ unread : (s : Scene) (w : World) (r : Register) (g : Ghost) (j : ℕ) → WorldI
 unfolding readers_of
 unread s w r g j h own = (let l = (h.nodes j).locked ((h.nodes j).owner own) in ((h.nodes j).mirror l.0).0 ∙ ap (readers_of (nodes_at s w j).tracked) l.3 ∙ l.2)
 
-stands : (s : Scene) (w : World) (r : Register) (g : Ghost) → WorldInv s w r g → Stands w r
+pub stands : (s : Scene) (w : World) (r : Register) (g : Ghost) → WorldInv s w r g → Stands w r
 stands s w r g h = subst (λ (x : Register). Stands w x) h.register (record {
   locks = λ n. ((λ a. ((h.nodes n).locked a).1), (λ a. (h.nodes n).owner a));
   newest = λ n c has is. (let k = (h.nodes n).here (here_at s w r g n c h has is) in sym (value_at s w n c has) ∙ ((h.nodes n).holds k.0 k.1).1);
@@ -55,12 +56,12 @@ unfolding Rule.rank Rule.value_of copy_of
 stands_for ps m g n None all v s = s
 stands_for ps m g n (Some c) all v s = (v, s, all.rises 0 (c.header.rsn + 1) (omega arith))
 
-kept_all : (s : Scene) (w : World) (r : Register) (g : Ghost) → WorldInv s w r g → NothingIsLost w r
+pub kept_all : (s : Scene) (w : World) (r : Register) (g : Ghost) → WorldInv s w r g → NothingIsLost w r
 unfolding Emptied
 kept_all s w r g h = subst (λ (x : Register). NothingIsLost w x) h.register
     (g.place 0, (λ a. g.place (a + 1)), h.all.absent, (λ a b le. h.all.rises (a + 1) (b + 1) (omega arith)), (λ a. h.all.within (a + 1)), λ n. stands_for (peers s s.lmaster) s.lmaster g n (w.nodes n).state.copy h.all (h.nodes n).value (h.nodes n).seen)
 
-parent : (w : World) (r : Register) → NothingIsLost w r → Parent w r
+pub parent : (w : World) (r : Register) → NothingIsLost w r → Parent w r
 parent w r h who = ((λ n c is most. (h.1 c.header.rsn, (own n c is).0, λ k t. each k (h.1 c.header.rsn) (own n c is).2 (λ d e. h.3 d.header.rsn c.header.rsn (most k d t e)))), λ none. (h.0, h.2, λ k t. absent k (none k t)))
   where
     own : (n : ℕ) (c : RecCopy) → (w.nodes n).state.copy ≡ Some c → StandsFor r h.0 h.1 n (Some c)
@@ -82,8 +83,8 @@ leads s w r g events real h =
     let all = kept_all s (last s w events) k.0 k.1 k.3 in
     (k.0, k.2, stands s _ _ k.1 k.3, all, parent (last s w events) k.0 all)
 
-abbrev bare_ghost : ℕ → Ghost
-bare_ghost m = record { entry = default_entry m 0; queue = []; frames = []; register = newborn []; readers = []; revoking = false; top = 0; place = λ _. 0; vacuum = None }
+abbrev pub bare_ghost : ℕ → Ghost
+bare_ghost m = record { entry = default_entry m 0; queue = []; frames = []; register = newborn []; readers = []; revoking = false; top = 0; place = λ _. 0; vacuum = None; base = 0; joint = 1; mark = λ _. 0 }
 
 wish_was : (readonly : Bool) (w : Option Wish) (v : Rule.Wish) → wish_of readonly w ≡ Some v → (u : Wish) × (w ≡ Some u) × (u.request ≡ v.request)
 unfolding wish_of
@@ -93,12 +94,19 @@ wish_was readonly (Some w) v e = (w, refl, (let k : record { request = w.request
 pub drawn_low : (readonly : Bool) (number : ℕ → ℕ) (wish : ℕ → Option Wish) (n : ℕ) → AreDrawn number wish → (v : Rule.Wish) → wish_of readonly (wish n) ≡ Some v → v.request < number n
 drawn_low readonly number wish n drawn v e = (let k = wish_was readonly (wish n) v e in let l = drawn.above n k.0 k.1 in let same = k.2 in omega arith)
 
-bare_holds : (s : Scene) (joined : ℕ → Bool) (number : ℕ → ℕ) (wish : ℕ → Option Wish) → AreDrawn number wish → WorldInv s (bare joined number wish) (newborn []) (bare_ghost s.lmaster)
+pub bare_holds : (s : Scene) (joined : ℕ → Bool) (number : ℕ → ℕ) (wish : ℕ → Option Wish) → AreDrawn number wish → WorldInv s (bare joined number wish) (newborn []) (bare_ghost s.lmaster)
 unfolding Rule.rank Rule.is_here Rule.is_reading Rule.is_odd Rule.value_of copy_of frames_of Asked Sent Waits readers_of is_revoking reading Emptied
 bare_holds s joined number wish drawn = record {
   frames = refl;
   register = refl;
-  all = record { rises = λ a b l. omega arith; whole = λ a l. refl; within = λ a. omega arith; absent = refl; vacuum = λ v e. absurd (cc) };
+  all = record {
+    rises = λ a b l. omega arith;
+    whole = λ a l. refl;
+    within = λ a. omega arith;
+    absent = refl;
+    vacuum = λ v e. absurd (cc);
+    marks = record { rises = λ a b l. omega arith; whole = λ a l. refl; agrees = λ a l. refl; low = omega arith; near = omega arith; fits = λ l. absurd (omega arith); under = omega arith; first = omega arith; entry = refl; none = λ l. refl };
+  };
   nodes = λ n. record {
     under = omega arith;
     even = refl;
@@ -126,8 +134,9 @@ bare_holds s joined number wish drawn = record {
     asked = λ a s. elim s [ ];
     waits = λ x s. elim s [ ];
     frames = λ f s. elim s [ ];
+    marked = past_none 1 None refl;
   };
-  master = record { entry = inr (refl, refl, refl); queue = refl; vacuum = refl };
+  master = record { entry = inr (refl, refl, refl, omega arith); queue = refl; vacuum = refl };
   outside = λ n e. refl;
   senders = λ f h. elim h [ ];
 }

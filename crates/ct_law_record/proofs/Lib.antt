@@ -2,6 +2,7 @@ pub mod Rule
 pub mod Invariant
 pub mod Nodes
 pub mod Copies
+pub mod Markings
 pub mod Holder
 pub mod Parts
 pub mod Small
@@ -11,6 +12,7 @@ pub mod Frames
 pub mod Receive
 pub mod Finish
 pub mod Floor
+pub mod Phases
 pub mod Vacuuming
 pub mod Likeness
 pub mod Alike
@@ -21,4 +23,7 @@ pub mod Leaving
 pub mod Worlds
 pub mod Law
 pub mod Births
+pub mod MarkLists
+pub mod MarkedRun
+pub mod MarkedLaw
 pub mod Runs

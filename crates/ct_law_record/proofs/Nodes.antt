@@ -108,6 +108,10 @@ says_given g n copy next wish here from to (VStored rsn) k = λ p. (let r = k p 
 says_given g n copy next wish here from to (VDeleted rsn) k = λ p. (let r = k p in let same = rank_of copy here in record { below = r.below; past = past_more (rsn + 2) copy _ (omega arith) (λ _. omega arith) r.past })
 says_given g n copy next wish here from to _ k = k
 
+past_given : (low : ℕ) (c : Option Copy) → is_here c ≡ true → Past low c → Past low (Some (record { rsn = rsn_of c; kind = Given; value = value_of c }))
+unfolding rank
+past_given low c here h = (let same = rank_of c here in past_more low c _ (omega arith) (λ _. omega arith) h)
+
 pub waits_none : (r : RecallNote) → Waits r [] → ⊥
 unfolding Waits
 waits_none r w = elim w [ ]
@@ -115,7 +119,7 @@ waits_none r w = elim w [ ]
 pub NodeInv-given : (g : Ghost) (n : ℕ) (node : Node) → is_here node.copy ≡ true → node.locked ≡ false → node.tracked ≡ [] → node.revoking ≡ None → g.vacuum ≡ None →
     NodeInv g n node → NodeInv g n (given node)
 unfolding rank is_here is_kind_here is_odd is_kind_odd value_of is_reading is_kind_reading readers_of is_revoking
-NodeInv-given g n node here unlocked untracked idle calm h = grind (arith, says_given, rank_of, waits_none)
+NodeInv-given g n node here unlocked untracked idle calm h = grind (arith, says_given, rank_of, waits_none, past_given)
 
 -- a wish is drawn the next number
 abbrev pub called : Op → Node → Node
@@ -211,7 +215,7 @@ vacuum-stale : (v : Vacuuming) (n s : ℕ) (c : Option Copy) → VacuumAt v n c 
 vacuum-stale v n s c h = (let same = rank-stale s c in vacuum_more v n c (stale s c) (omega arith) (λ a. omega arith) h)
 
 pub NodeInv-stale : (g : Ghost) (n : ℕ) (node : Node) (s : ℕ) → NodeInv g n node → NodeInv g n (record node { copy = stale s node.copy })
-NodeInv-stale g n node s h = grind (arith, says_stale, rank-stale, here-stale, even-stale, value-stale, reading-stale s node.copy, vacuum-stale)
+NodeInv-stale g n node s h = grind (arith, says_stale, rank-stale, here-stale, even-stale, value-stale, reading-stale s node.copy, vacuum-stale, past-stale)
 
 -- one request more waits, or one less
 pub each_asked : (P : Waiter → Type 0) (b : Waiter) (as' : List Waiter) → ((a : Waiter) → Asked a as' → P a) → P b → (a : Waiter) → Asked a (as' ++ (b ∷ [])) → P a

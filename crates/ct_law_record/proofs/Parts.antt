@@ -4,6 +4,7 @@ use Rattle.std.proofs.lemmas.Bool.{lt-leb, le-leb}
 use Rattle.std.proofs.lemmas.List.{take-append-le}
 use Rattle.ct_law_record.proofs.Invariant.{readers_of, is_revoking, Ghost, Ungranted, Emptied, Joined, Says, NodeInv, GlobalInv}
 use Rattle.ct_law_record.proofs.Holder.{Change, Shift, Granted}
+use Rattle.ct_law_record.proofs.Markings.{grows_top, grows_grown, marking_top, marking_grown}
 use Rattle.std.specs.Prelude.{List}
 use Rattle.ct_call.specs.Rules.{Rules}
 use Rattle.ct_deleg.specs.Tracked.{Revocation, placed}
@@ -83,10 +84,10 @@ abbrev pub tracks : List ℕ → Bool → ℕ → Ghost → Ghost
 tracks rs b t g = record g { readers = rs; revoking = b; top = t }
 
 pub change_tracks : (g : Ghost) (rs : List ℕ) (b : Bool) (t : ℕ) → (g.top < t) ⊎ ((g.top ≡ t) × (g.revoking ≡ true → b ≡ true)) → Change g (tracks rs b t g)
-change_tracks g rs b t top = record { entry = refl; queue = refl; sent = refl; birth = refl; top = top; empty = λ a l e. e; joined = λ a l e. e }
+change_tracks g rs b t top = record { entry = refl; queue = refl; sent = refl; birth = refl; top = top; empty = λ a l e. e; joined = λ a l e. e; span = grows_top g.base g.top t g.mark (omega arith) }
 
 pub global_tracks : (ps : List ℕ) (m : ℕ) (g : Ghost) (rs : List ℕ) (b : Bool) (t : ℕ) → g.vacuum ≡ None → g.top ≤ t → GlobalInv ps m g → GlobalInv ps m (tracks rs b t g)
-global_tracks ps m g rs b t calm up all = record { rises = all.rises; whole = λ a l. all.whole a (omega arith); within = all.within; absent = all.absent; vacuum = λ v e. absurd (cc) }
+global_tracks ps m g rs b t calm up all = record { rises = all.rises; whole = λ a l. all.whole a (omega arith); within = all.within; absent = all.absent; vacuum = λ v e. absurd (cc); marks = marking_top g.base g.joint g.top g.entry.least g.mark g.place g.register.versions g.entry.value t up all.marks }
 
 -- who has acknowledged the revocation that runs, neither reads nor meets a grant
 abbrev pub Done_with : Ghost → ℕ → Option Copy → Option Wish → Type 0
@@ -110,6 +111,7 @@ shift_to g rs b k node covered stays h = record {
   seen = h.seen;
   kept = omega arith;
   vacuum = h.vacuum;
+  marked = h.marked;
 }
 
 -- the top rises, where nobody reads any more
@@ -129,23 +131,25 @@ shift_end g rs b t k node up gone h = record {
   seen = h.seen;
   kept = omega arith;
   vacuum = h.vacuum;
+  marked = h.marked;
 }
 
 -- the register changes, and with it the places
-abbrev pub registers : Register → (ℕ → ℕ) → Ghost → Ghost
-registers t place g = record g { register = t; place = place }
+abbrev pub registers : Register → (ℕ → ℕ) → (ℕ → ℕ) → Ghost → Ghost
+registers t place mark g = record g { register = t; place = place; mark = mark }
 
-pub shift_register : (g : Ghost) (t : Register) (place : ℕ → ℕ) (k : ℕ) (node : Node) → g.readers ≡ [] → t.owner ≢ Some k →
-    value_of node.copy ≡ reading (take (place (rank node.copy)) t.versions) → t.seen k ≤ place (rank node.copy) → g.place (rank node.copy) ≤ place (rank node.copy) → NodeInv g k node → Shift g (registers t place g) k node.copy node.wish
-shift_register g t place k node none owner value seen kept h = record {
+pub shift_register : (g : Ghost) (t : Register) (place mark : ℕ → ℕ) (k : ℕ) (node : Node) → g.readers ≡ [] → t.owner ≢ Some k →
+    value_of node.copy ≡ reading (take (place (rank node.copy)) t.versions) → t.seen k ≤ place (rank node.copy) → g.place (rank node.copy) ≤ place (rank node.copy) → NodeInv g k node → Shift g (registers t place mark g) k node.copy node.wish
+shift_register g t place mark k node none owner value seen kept h = record {
   owner = λ a. absurd (owner a);
   reader = λ a c. absurd (nobody_has k g.readers none c);
-  granted = granted_end g (registers t place g) k node.copy node.wish (inl (nobody_has k g.readers none));
+  granted = granted_end g (registers t place mark g) k node.copy node.wish (inl (nobody_has k g.readers none));
   other = λ _ a. a;
   value = value;
   seen = seen;
   kept = kept;
   vacuum = h.vacuum;
+  marked = h.marked;
 }
 
 -- the versions grow by one: from the top on, all copies stand for all of them
@@ -153,7 +157,7 @@ abbrev pub grown_place : ℕ → ℕ → (ℕ → ℕ) → ℕ → ℕ
 grown_place top count place a = cond (leb top a) count (place a)
 
 abbrev pub grown : List ℕ → Option ℕ → ℕ → Ghost → Ghost
-grown v owner me g = registers (record g.register { versions = g.register.versions ++ (v ∷ []); owner = owner; seen = changed me (length (g.register.versions ++ (v ∷ []))) g.register.seen }) (grown_place g.top (length g.register.versions + 1) g.place) g
+grown v owner me g = registers (record g.register { versions = g.register.versions ++ (v ∷ []); owner = owner; seen = changed me (length (g.register.versions ++ (v ∷ []))) g.register.seen }) (grown_place g.top (length g.register.versions + 1) g.place) (grown_place g.top (length g.register.versions + 1) g.mark) g
 
 pub grown_below : (ps : List ℕ) (m : ℕ) (g : Ghost) (v : List ℕ) (a : ℕ) → GlobalInv ps m g → a < g.top → reading (take (grown_place g.top (length g.register.versions + 1) g.place a) (g.register.versions ++ (v ∷ []))) ≡ reading (take (g.place a) g.register.versions)
 grown_below ps m g v a all lt = rw (lt-leb g.top a lt) (ap reading (take-append-le (g.place a) g.register.versions (v ∷ []) (all.within a)))
@@ -168,9 +172,10 @@ change_grown ps m g v owner me all = record {
   top = inr (refl, λ a. a);
   empty = λ a l e. grown_below ps m g v a all l ∙ e;
   joined = λ a l e. rw (lt-leb g.top a l, lt-leb g.top 0 (omega arith)) e;
+  span = grows_grown g.base g.top (length g.register.versions + 1) g.mark (let w = all.marks.whole g.top (omega arith) in omega arith);
 }
 
-pub global_grown : (ps : List ℕ) (m : ℕ) (g : Ghost) (v : List ℕ) (owner : Option ℕ) (me : ℕ) → g.vacuum ≡ None → 1 ≤ g.top → GlobalInv ps m g → GlobalInv ps m (grown v owner me g)
+pub global_grown : (ps : List ℕ) (m : ℕ) (g : Ghost) (v : List ℕ) (owner : Option ℕ) (me : ℕ) → g.vacuum ≡ None → g.entry.least < g.top → GlobalInv ps m g → GlobalInv ps m (grown v owner me g)
 unfolding Emptied
 global_grown ps m g v owner me calm some all =
     let more : length (g.register.versions ++ (v ∷ [])) ≡ length g.register.versions + 1 = length-append g.register.versions (v ∷ []) in record {
@@ -179,6 +184,7 @@ global_grown ps m g v owner me calm some all =
       within = within;
       absent = grown_below ps m g v 0 all (omega arith) ∙ all.absent;
       vacuum = λ w e. absurd (cc);
+      marks = marking_grown g.base g.joint g.top g.entry.least g.mark g.place g.register.versions g.entry.value v some all.marks;
     }
   where
     rises : (a b : ℕ) → a ≤ b → grown_place g.top (length g.register.versions + 1) g.place a ≤ grown_place g.top (length g.register.versions + 1) g.place b

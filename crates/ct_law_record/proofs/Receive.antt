@@ -1,10 +1,12 @@
 -- Each frame that comes keeps the invariant, but for those of the vacuum.
 use Rattle.std.proofs.Common.{◌≡◌, ◌≢◌, ◌⊎◌, ℕ, ◌+◌, ◌-◌, ◌<◌, ◌≤◌, Bool, true, false, Option, Some, None, List, [], ◌∷◌, ◌++◌, refl, sym, ap, ◌∙◌, inl, inr, ⊎_elim, arith, subst, not, ◌&&◌, ◌==◌, nat_lt, nat_le, eqb-true, ltb-false, leb-true}
 use Rattle.std.proofs.lemmas.Bool.{and_parts, cond_both, cases_eq, eq-eqb, eqb-false, false_from_ne_true}
-use Rattle.ct_law_record.proofs.Invariant.{Asked, Waits, Recalled, Ghost, PassAt, GiveAt, RefuseAt, Says, NodeInv, Holds, Kept, default_entry}
+use Rattle.ct_law_record.proofs.Invariant.{Start, Asked, Waits, Recalled, Ghost, PassAt, GiveAt, RefuseAt, Says, NodeInv, Holds, Kept, default_entry}
 use Rattle.ct_law_record.proofs.Nodes.{NodeInv-queue, each_asked, asked_rest, asked_first}
 use Rattle.ct_law_record.proofs.Copies.{NodeInv-moved, moved}
 use Rattle.ct_law_record.proofs.Holder.{held}
+use Rattle.ct_law_record.specs.Marked.{is_removal, is_removed}
+use Rattle.ct_law_record.proofs.Markings.{marking_moved}
 use Rattle.ct_law_record.proofs.Parts.{quiet}
 use Rattle.ct_law_record.proofs.Acts.{send_holds, node_holds, quiet_holds, calm_other, handle_lock_holds, handle_read_holds, drain_holds, satisfy_holds, grow_holds, lock_holds, recalls_holds}
 use Rattle.ct_law_record.proofs.Revoking.{Came, is_wish_some, is_wish_not}
@@ -20,7 +22,7 @@ use Rattle.ct_rules.specs.State.{is_read_op, is_read_kind, kind_of}
 use Rattle.ct_rules.specs.declared.state.Entry.{Entry}
 use Rattle.ct_rules.specs.declared.state.RecallNote.{RecallNote}
 use Rattle.ct_rules.specs.declared.state.Waiter.{Waiter}
-use Rattle.ct_register.specs.Register.{Register, reading}
+use Rattle.ct_register.specs.Register.{reading}
 use Rattle.ct_law_record.specs.Labels.{Told}
 use Rattle.ct_law_record.proofs.Rule
 use Rattle.ct_law_record.proofs.Rule.{Body, Call, Copy, Done, Frame, Give, Given, Grant, Here, Kind, Node, Op, Out, Pass, Recalls, Refuse, Revoke, RevokeAck, Wish, become, drain, end_vacuum, is_free, is_given, is_here, is_kind_given, is_kind_here, is_read, is_reading, is_wish, rank, reads_op, rsn_of, satisfy, satisfy_wish, send, tell, value_of, with_node, with_value}
@@ -49,7 +51,7 @@ calm_refuse g x q rsn n node holder least request top refuses h = record {
   unmet = λ w wished k a nz same. (refuses (sym holder ∙ sym a)).gone w wished k (same ∙ request);
 }
 
-module _ (rules : Rules) (ps : List ℕ) (m me : ℕ) (nodes : ℕ → Node) (frames : List Frame) (r : Register) where
+module _ (rules : Rules) (ps : List ℕ) (m me : ℕ) (nodes : ℕ → Node) (frames : List Frame) (r : Start) where
   -- the entry moves on, and perhaps the queue
   move_holds : (e : Entry) (g : Ghost) (o : Out) → me ≡ m → g.entry.least < e.least → g.top ≤ e.least → g.readers ≡ [] → g.revoking ≡ false → g.vacuum ≡ None → e.value ≡ reading g.register.versions →
       (e.holder ≡ me → e.request ≢ 0 → e.request < o.node.next) → ((n : ℕ) → n ≢ me → e.holder ≡ n → e.request ≢ 0 → e.request < (nodes n).next) →
@@ -59,8 +61,9 @@ module _ (rules : Rules) (ps : List ℕ) (m me : ℕ) (nodes : ℕ → Node) (fr
   move_holds e g o at up top readers revoking none value mine_low low mine_calm calm h = record {
     sent = h.sent;
     told = h.told;
+    went = h.went;
     good = record {
-      all = (let k = h.good.all in record { rises = k.rises; whole = k.whole; within = k.within; absent = k.absent; vacuum = λ v e. absurd (cc) });
+      all = (let k = h.good.all in record { rises = k.rises; whole = k.whole; within = k.within; absent = k.absent; vacuum = λ v e. absurd (cc); marks = marking_moved g.base g.joint g.top g.entry.least g.mark g.place g.register.versions g.entry.value e.least e.value up top value k.marks });
       mine = NodeInv-moved g e me o.node up mine_calm.small top mine_calm.nobody readers revoking none mine_calm.unmet value (λ a. mine_low (sym a)) h.good.mine;
       others = λ n ne. (let c = calm n ne in NodeInv-moved g e n (nodes n) up c.small top c.nobody readers revoking none c.unmet value (λ a. low n ne (sym a)) (h.good.others n ne));
       master = λ _. record { entry = inl refl; queue = (h.good.master at).queue; vacuum = (h.good.master at).vacuum };
@@ -75,18 +78,19 @@ module _ (rules : Rules) (ps : List ℕ) (m me : ℕ) (nodes : ℕ → Node) (fr
   queue_holds asks g o at mine others h = record {
     sent = h.sent;
     told = h.told;
+    went = h.went;
     good = record { all = h.good.all; mine = mine; others = others; master = λ e. record { entry = (h.good.master e).entry; queue = refl; vacuum = (h.good.master e).vacuum }; joined = h.good.joined; master_other = λ ne. absurd (ne at) };
   }
 
   keep_holds : (rsn : ℕ) (value : List ℕ) (g : Ghost) (o : Out) → me ≡ m → g.entry.least < rsn → g.top ≤ rsn → g.readers ≡ [] → g.revoking ≡ false → g.vacuum ≡ None → value ≡ reading g.register.versions →
-      Calm g rsn me o.node.copy o.node.wish → ((n : ℕ) → n ≢ me → Calm g rsn n (nodes n).copy (nodes n).wish) →
+      Calm g rsn me o.node.copy o.node.wish → ((n : ℕ) → n ≢ me → Calm g rsn n (nodes n).copy (nodes n).wish) → is_removed o.labels ≡ false →
       Holds rules ps m me nodes frames r g o → Kept rules ps m me nodes frames r (Rule.keep me rsn value o)
   unfolding Rule.keep with_node
-  keep_holds rsn value g o at up top readers revoking none new mine_calm calm h =
+  keep_holds rsn value g o at up top readers revoking none new mine_calm calm kept h =
       let e : Entry = record { holder = me; least = rsn; request = 0; value = value } in
       let p = move_holds e g o at up top readers revoking none new (λ _ k. absurd (k refl)) (λ n ne _ k. absurd (k refl)) mine_calm calm h in
       next_holds rules ps m me nodes frames r _ _ at
-      (keeps_holds rules ps m me nodes frames r (moved e g) _ refl mine_calm.small (λ w is z nz _. nz z) (λ q x k z. k.asked (sym z)) (λ _. refl) p)
+      (keeps_holds rules ps m me nodes frames r (moved e g) _ refl mine_calm.small (λ w is z nz _. nz z) (λ q x k z. k.asked (sym z)) (λ _. refl) kept p)
 
   entry_is : (e : Entry) (g : Ghost) (o : Out) → o.node.entry ≡ Some e → me ≡ m → Holds rules ps m me nodes frames r g o → e ≡ g.entry
   entry_is e g o is at h = ⊎_elim (λ (k : o.node.entry ≡ Some g.entry). cc) (λ k. absurd (let n = k.0 in cc)) (h.good.master at).entry
@@ -105,10 +109,10 @@ module _ (rules : Rules) (ps : List ℕ) (m me : ℕ) (nodes : ℕ → Node) (fr
   taken : (g : Ghost) (n : ℕ) (node : Node) (a : Waiter) (as' : List Waiter) → g.queue ≡ a ∷ as' → NodeInv g n node → NodeInv (record g { queue = as' }) n node
   taken g n node a as' queue h = NodeInv-queue g n node as' (λ b s. h.asked b (subst (λ x. Asked b x) (sym queue) (asked_rest b a as' s))) h
 
-  give_to_holds : (x rsn : ℕ) (value : List ℕ) (g : Ghost) (o : Out) (asks : List Waiter) → o.node.queue ≡ asks → me ≡ m → g.entry.holder ≡ x → g.entry.least ≤ rsn → Came rules ps m me nodes frames r g o x (Give rsn value) →
+  give_to_holds : (x rsn : ℕ) (value : List ℕ) (g : Ghost) (o : Out) (asks : List Waiter) → o.node.queue ≡ asks → me ≡ m → g.entry.holder ≡ x → g.entry.least ≤ rsn → Came rules ps m me nodes frames r g o x (Give rsn value) → is_removed o.labels ≡ false →
       Holds rules ps m me nodes frames r g o → Kept rules ps m me nodes frames r (Rule.give_to me rsn value o asks)
   unfolding Rule.give_to with_node Says
-  give_to_holds x rsn value g o asks is at holder le came h = go asks is
+  give_to_holds x rsn value g o asks is at holder le came unremoved h = go asks is
     where
       known : (value ≡ reading g.register.versions) × (g.top ≡ rsn + 1) × (g.readers ≡ []) × (g.revoking ≡ false) × (g.vacuum ≡ None)
       known = ⊎_elim
@@ -123,7 +127,7 @@ module _ (rules : Rules) (ps : List ℕ) (m me : ℕ) (nodes : ℕ → Node) (fr
       calm n ne = (let t = known.1 in calm_give g x rsn value n (nodes n) holder le (omega arith) (came.1 n ne) (h.good.others n ne))
 
       kept : Kept rules ps m me nodes frames r (Rule.keep me (rsn + 1) value o)
-      kept = keep_holds (rsn + 1) value g o at (omega arith) (let t = known.1 in omega arith) known.2 known.3 known.4 known.0 mine_calm calm h
+      kept = keep_holds (rsn + 1) value g o at (omega arith) (let t = known.1 in omega arith) known.2 known.3 known.4 known.0 mine_calm calm unremoved h
 
       go : (asks : List Waiter) → o.node.queue ≡ asks → Kept rules ps m me nodes frames r (Rule.give_to me rsn value o asks)
       go [] is = kept
@@ -144,23 +148,23 @@ module _ (rules : Rules) (ps : List ℕ) (m me : ℕ) (nodes : ℕ → Node) (fr
           (λ n ne b. record { low = (asked n ne b).0; asked = (asked n ne b).1; below = omega arith; current = λ w _ same _. (b, refl, refl, refl) }) in
           next_holds rules ps m me nodes frames r _ _ at s)
 
-  pub on_give_holds : (x rsn : ℕ) (value : List ℕ) (g : Ghost) (o : Out) (entry : Option Entry) → o.node.entry ≡ entry → me ≡ m → Came rules ps m me nodes frames r g o x (Give rsn value) →
+  pub on_give_holds : (x rsn : ℕ) (value : List ℕ) (g : Ghost) (o : Out) (entry : Option Entry) → o.node.entry ≡ entry → me ≡ m → Came rules ps m me nodes frames r g o x (Give rsn value) → is_removed o.labels ≡ false →
       Holds rules ps m me nodes frames r g o → Kept rules ps m me nodes frames r (Rule.on_give_of me x rsn value o entry)
   unfolding Rule.on_give_of
-  on_give_holds x rsn value g o None is at came h = (g, h)
-  on_give_holds x rsn value g o (Some e) is at came h = cond_both _ _ _ (Kept rules ps m me nodes frames r)
+  on_give_holds x rsn value g o None is at came kept h = (g, h)
+  on_give_holds x rsn value g o (Some e) is at came kept h = cond_both _ _ _ (Kept rules ps m me nodes frames r)
       (λ t.
       let p = and_parts (e.holder == x) (nat_le e.least rsn) t in
       let same : e ≡ g.entry = entry_is e g o is at h in
       give_to_holds x rsn value g o o.node.queue refl at (ap (λ (k : Entry). k.holder) (sym same) ∙ eqb-true e.holder x p.0)
-      (subst (λ (k : Entry). k.least ≤ rsn) same (leb-true e.least rsn p.1)) came h)
+      (subst (λ (k : Entry). k.least ≤ rsn) same (leb-true e.least rsn p.1)) came kept h)
       (λ _. (g, h))
 
-  pub on_refuse_holds : (x q rsn : ℕ) (g : Ghost) (o : Out) (entry : Option Entry) → o.node.entry ≡ entry → me ≡ m → Came rules ps m me nodes frames r g o x (Refuse q rsn) →
+  pub on_refuse_holds : (x q rsn : ℕ) (g : Ghost) (o : Out) (entry : Option Entry) → o.node.entry ≡ entry → me ≡ m → Came rules ps m me nodes frames r g o x (Refuse q rsn) → is_removed o.labels ≡ false →
       Holds rules ps m me nodes frames r g o → Kept rules ps m me nodes frames r (Rule.on_refuse_of me x q rsn o entry)
   unfolding Rule.on_refuse_of Says
-  on_refuse_holds x q rsn g o None is at came h = (g, h)
-  on_refuse_holds x q rsn g o (Some e) is at came h = cond_both _ _ _ (Kept rules ps m me nodes frames r)
+  on_refuse_holds x q rsn g o None is at came kept h = (g, h)
+  on_refuse_holds x q rsn g o (Some e) is at came kept h = cond_both _ _ _ (Kept rules ps m me nodes frames r)
       (λ t.
       let p = and_parts (e.holder == x && e.least == rsn + 1 && e.request == q) (not (q == 0)) t in
       let p1 = and_parts (e.holder == x && e.least == rsn + 1) (e.request == q) p.0 in
@@ -177,7 +181,7 @@ module _ (rules : Rules) (ps : List ℕ) (m me : ℕ) (nodes : ℕ → Node) (fr
       let t = known.0 in
       keep_holds (rsn + 2) e.value g o at (omega arith) (omega arith) known.2 known.3 known.4 (value ∙ known.1)
       (calm_refuse g x q rsn me o.node holder least request known.0 came.0 h.good.mine)
-      (λ n ne. calm_refuse g x q rsn n (nodes n) holder least request known.0 (came.1 n ne) (h.good.others n ne)) h)
+      (λ n ne. calm_refuse g x q rsn n (nodes n) holder least request known.0 (came.1 n ne) (h.good.others n ne)) kept h)
       (λ _. (g, h))
     where
       refused : (q x n : ℕ) (node : Node) (g : Ghost) (rsn : ℕ) → g.entry.holder ≡ x → x ≡ n → g.entry.least ≡ rsn + 1 → g.entry.request ≡ q → RefuseAt g.entry n node.next node.wish (rank node.copy) q rsn → NodeInv g n node →
@@ -273,15 +277,15 @@ module _ (rules : Rules) (ps : List ℕ) (m me : ℕ) (nodes : ℕ → Node) (fr
       (λ _. (g, h))))
       (λ _. add_recall_holds x g o sent h)
 
-  take_holds : (q rsn : ℕ) (value : List ℕ) (g : Ghost) (o : Out) → PassAt g.entry me o.node.next o.node.wish q rsn value → rank o.node.copy ≤ rsn + 1 → is_wish q false o.node.wish ≡ true →
+  take_holds : (q rsn : ℕ) (value : List ℕ) (g : Ghost) (o : Out) → PassAt g.entry me o.node.next o.node.wish q rsn value → rank o.node.copy ≤ rsn + 1 → is_wish q false o.node.wish ≡ true → is_removed o.labels ≡ false →
       Holds rules ps m me nodes frames r g o → Kept rules ps m me nodes frames r (Rule.take rules me m rsn value o)
   unfolding Rule.take Rule.becomes satisfy_wish with_node is_here is_kind_here
-  take_holds q rsn value g o came small wished h =
+  take_holds q rsn value g o came small wished kept h =
       let w = is_wish_some rules ps m me nodes frames r q false o.node.wish wished in
       let at = came.current w.0 w.1 w.2 w.3 in
       let unlocked : o.node.locked ≡ false = false_from_ne_true _ (λ t. (let up = (h.good.mine.here (h.good.mine.locked t).0).1 in omega arith)) in
       let p = become_holds rules ps m me nodes frames r None g o (sym at.0) (omega arith) (λ v is. absurd (cc)) (λ p s k e. k.gone w.0 w.1 w.3 (w.2 ∙ sym at.2 ∙ e))
-      (λ e. ⊎_elim (λ (k : o.node.entry ≡ Some g.entry). k) (λ k. absurd (came.asked (sym at.2 ∙ ap (λ (x : Entry). x.request) k.1))) (h.good.master e).entry) h in
+      (λ e. ⊎_elim (λ (k : o.node.entry ≡ Some g.entry). k) (λ k. absurd (came.asked (sym at.2 ∙ ap (λ (x : Entry). x.request) k.1))) (h.good.master e).entry) kept h in
       let p2 = subst (λ (x : ℕ × List ℕ). Holds rules ps m me nodes frames r (held g) (with_node (record o.node { copy = Some (record { rsn = x.0; kind = Here; value = x.1 }); wish = None; tracked = []; revoking = None }) o)) (λ i. (at.1 i, at.3 i)) p in
       let away : is_here o.node.copy ≡ false = false_from_ne_true _ (λ t. (let up = (h.good.mine.here t).1 in omega arith)) in
       let s = satisfy_holds rules ps m me nodes frames r w.0.op.real (held g) (with_node (record o.node { copy = Some (record { rsn = rsn + 1; kind = Here; value = value }); wish = None; tracked = []; revoking = None }) o) refl refl unlocked refl refl (h.good.mine.nobody (sym at.0) away).2 p2 in
@@ -299,13 +303,13 @@ module _ (rules : Rules) (ps : List ℕ) (m me : ℕ) (nodes : ℕ → Node) (fr
         (λ n ne b. absurd (ne (sym b))),
   )
 
-  pub on_pass_holds : (q rsn : ℕ) (value : List ℕ) (g : Ghost) (o : Out) → PassAt g.entry me o.node.next o.node.wish q rsn value →
+  pub on_pass_holds : (q rsn : ℕ) (value : List ℕ) (g : Ghost) (o : Out) → PassAt g.entry me o.node.next o.node.wish q rsn value → is_removed o.labels ≡ false →
       Holds rules ps m me nodes frames r g o → Kept rules ps m me nodes frames r (Rule.on_pass rules me m q rsn value o)
   unfolding Rule.on_pass
-  on_pass_holds q rsn value g o came h = cond_both _ _ _ (Kept rules ps m me nodes frames r)
+  on_pass_holds q rsn value g o came kept h = cond_both _ _ _ (Kept rules ps m me nodes frames r)
       (λ _. (g, h))
       (λ low. (let small = ltb-false _ _ low in cond_both _ _ _ (Kept rules ps m me nodes frames r)
-      (λ wished. take_holds q rsn value g o came small wished h)
+      (λ wished. take_holds q rsn value g o came small wished kept h)
       (λ unwished. refuse_holds q rsn value g o came small unwished h)))
 
   pub on_done_holds : (n q : ℕ) (g : Ghost) (o : Out) (asks : List Waiter) → o.node.queue ≡ asks → me ≡ m → Holds rules ps m me nodes frames r g o → Kept rules ps m me nodes frames r (Rule.on_done me n q o asks)
@@ -351,12 +355,12 @@ module _ (rules : Rules) (ps : List ℕ) (m me : ℕ) (nodes : ℕ → Node) (fr
   abbrev Opened : Out → Out → Type 0
   Opened o p = (g : Ghost) × Holds rules ps m me nodes frames r g p × (g.vacuum ≡ None) × (p.node.locked ≡ o.node.locked) × (p.node.next ≡ o.node.next) × (p.node.wish ≡ o.node.wish)
 
-  open_of_holds : (g : Ghost) (o : Out) (e : Option Entry) → o.node.entry ≡ e → me ≡ m → g.vacuum ≡ None → Holds rules ps m me nodes frames r g o → Opened o (Rule.open_of me o e)
+  open_of_holds : (g : Ghost) (o : Out) (e : Option Entry) → o.node.entry ≡ e → me ≡ m → g.vacuum ≡ None → is_removed o.labels ≡ false → Holds rules ps m me nodes frames r g o → Opened o (Rule.open_of me o e)
   unfolding Rule.open_of with_node rank become
-  open_of_holds g o (Some e) is at calm h = (g, h, calm, refl, refl, refl)
-  open_of_holds g o None is at calm h = ⊎_elim
+  open_of_holds g o (Some e) is at calm kept h = (g, h, calm, refl, refl, refl)
+  open_of_holds g o None is at calm kept h = ⊎_elim
       (λ (e : o.node.entry ≡ Some g.entry). absurd (cc))
-      (λ (p : (o.node.entry ≡ None) × (g.entry ≡ default_entry m o.node.floor) × (o.node.copy ≡ None)).
+      (λ (p : (o.node.entry ≡ None) × (g.entry ≡ default_entry m o.node.floor) × (o.node.copy ≡ None) × (g.top ≤ g.base)).
       let holder : g.entry.holder ≡ m = ap (λ (x : Entry). x.holder) p.1 in
       let request : g.entry.request ≡ 0 = ap (λ (x : Entry). x.request) p.1 in
       let absent : rank o.node.copy ≡ 0 = ap rank p.2 in
@@ -365,27 +369,27 @@ module _ (rules : Rules) (ps : List ℕ) (m me : ℕ) (nodes : ℕ → Node) (fr
       let o' = with_node (record o.node { entry = Some new }) o in
       let h' : Holds rules ps m me nodes frames r g o' = node_holds rules ps m me nodes frames r (record o.node { entry = Some new }) g o refl h h.good.mine (λ e. record { entry = inl (ap Some (sym entry_is)); queue = (h.good.master e).queue; vacuum = (h.good.master e).vacuum }) in
       let b = keeps_holds rules ps m me nodes frames r g o' (at ∙ sym holder) (omega arith)
-      (λ w is z nz _. nz (z ∙ request)) (λ q x k z. k.asked (sym z ∙ request)) (λ _. ap Some (sym entry_is)) h' in
+      (λ w is z nz _. nz (z ∙ request)) (λ q x k z. k.asked (sym z ∙ request)) (λ _. ap Some (sym entry_is)) kept h' in
       (held g, subst (λ (x : Entry). Holds rules ps m me nodes frames r (held g) (become x.least x.value o')) entry_is b, calm, refl, refl, refl))
       (h.good.master at).entry
 
   -- OPEN, and a vacuum ends
-  opened_holds : (g : Ghost) (o : Out) → me ≡ m → Holds rules ps m me nodes frames r g o → Opened o (Rule.opened me (end_vacuum o))
+  opened_holds : (g : Ghost) (o : Out) → me ≡ m → is_removed o.labels ≡ false → Holds rules ps m me nodes frames r g o → Opened o (Rule.opened me (end_vacuum o))
   unfolding Rule.opened end_vacuum with_node
-  opened_holds g o at h = open_of_holds (quiet g) (end_vacuum o) o.node.entry refl at refl (quiet_holds rules ps m me nodes frames r g o (λ ne. absurd (ne at)) h)
+  opened_holds g o at kept h = open_of_holds (quiet g) (end_vacuum o) o.node.entry refl at refl kept (quiet_holds rules ps m me nodes frames r g o (λ ne. absurd (ne at)) h)
 
-  pub on_call_holds : (x q : ℕ) (k : CallKind) (g : Ghost) (o : Out) → me ≡ m → Came rules ps m me nodes frames r g o x (Call q k) →
+  pub on_call_holds : (x q : ℕ) (k : CallKind) (g : Ghost) (o : Out) → me ≡ m → Came rules ps m me nodes frames r g o x (Call q k) → is_removed o.labels ≡ false →
       Holds rules ps m me nodes frames r g o → Kept rules ps m me nodes frames r (Rule.on_call me x q k o)
   unfolding Rule.on_call Says
-  on_call_holds x q k g o at came h =
-      let p = opened_holds g o at h in
+  on_call_holds x q k g o at came kept h =
+      let p = opened_holds g o at kept h in
       let asked : q ≢ 0 = ⊎_elim (λ (e : x ≡ me). (came.0 e).1) (λ (ne : x ≢ me). (came.1 x ne refl).1) (cases_eq x me) in
       on_call_of_holds x q k p.0 (Rule.opened me (end_vacuum o)) (Rule.opened me (end_vacuum o)).node.entry refl at asked ((λ e. (let j = came.0 e in (rw p.4 j.0, j.1))), came.1) p.1
 
-  pub want_holds : (op : Op) (g : Ghost) (o : Out) → o.node.wish ≡ None → (is_read_op op.real ≡ false → o.node.locked ≡ false) → Holds rules ps m me nodes frames r g o → Kept rules ps m me nodes frames r (Rule.want rules me m op o)
+  pub want_holds : (op : Op) (g : Ghost) (o : Out) → o.node.wish ≡ None → (is_read_op op.real ≡ false → o.node.locked ≡ false) → is_removed o.labels ≡ false → Holds rules ps m me nodes frames r g o → Kept rules ps m me nodes frames r (Rule.want rules me m op o)
   unfolding Rule.want
-  want_holds op g o none_now free h = cond_both (me == m && not o.node.locked) (Rule.opened me (end_vacuum o)) o (λ x. Kept rules ps m me nodes frames r (Rule.want_of rules me m op x))
-      (λ t. (let q = and_parts (me == m) (not o.node.locked) t in let p = opened_holds g o (eqb-true me m q.0) h in want_of_holds rules ps m me nodes frames r op p.0 (Rule.opened me (end_vacuum o)) (p.5 ∙ none_now) (λ w. p.3 ∙ free w) (λ _. p.2) p.1))
+  want_holds op g o none_now free kept h = cond_both (me == m && not o.node.locked) (Rule.opened me (end_vacuum o)) o (λ x. Kept rules ps m me nodes frames r (Rule.want_of rules me m op x))
+      (λ t. (let q = and_parts (me == m) (not o.node.locked) t in let p = opened_holds g o (eqb-true me m q.0) kept h in want_of_holds rules ps m me nodes frames r op p.0 (Rule.opened me (end_vacuum o)) (p.5 ∙ none_now) (λ w. p.3 ∙ free w) (λ _. p.2) p.1))
       (λ f. want_of_holds rules ps m me nodes frames r op g o none_now free (λ here. ⊎_elim
       (λ (e : me ≡ m). (h.good.mine.locked (shut e f)).4)
       (λ (ne : me ≢ m). calm_other rules ps m me nodes frames r g o.node h.good here ne)
@@ -399,17 +403,17 @@ module _ (rules : Rules) (ps : List ℕ) (m me : ℕ) (nodes : ℕ → Node) (fr
           go false e = absurd (cc)
 
   pub store_holds : (db : ℕ) (key v : List ℕ) (g : Ghost) (o : Out) → o.node.locked ≡ true → Holds rules ps m me nodes frames r g o → Kept rules ps m me nodes frames r (Rule.store me db key v o)
-  unfolding Rule.store
+  unfolding Rule.store is_removal
   store_holds db key v g o t h = (let k = h.good.mine.locked t in
-      (_, grow_holds rules ps m me nodes frames r v (Told me (op.Store db key v) answer.Stored) g.register.owner g o k.0 k.2 k.3 k.4 (k.1, refl) (λ _. k.1) (λ _. t) (λ n ne e. absurd (ne (let j : Some n ≡ Some me = sym e ∙ k.1 in cc))) h))
+      (_, grow_holds rules ps m me nodes frames r v (Told me (op.Store db key v) answer.Stored) g.register.owner g o k.0 k.2 k.3 k.4 refl (k.1, refl) (λ _. k.1) (λ _. t) (λ n ne e. absurd (ne (let j : Some n ≡ Some me = sym e ∙ k.1 in cc))) h))
 
   pub release_holds : (db : ℕ) (key : List ℕ) (g : Ghost) (o : Out) → o.node.locked ≡ true → Holds rules ps m me nodes frames r g o → Kept rules ps m me nodes frames r (Rule.release me db key o)
-  unfolding Rule.release
+  unfolding Rule.release is_removal
   release_holds db key g o t h =
       let k = h.good.mine.locked t in
       let s = h.good.mine.seen in
       let w = h.good.all.within (rank o.node.copy) in
-      (_, lock_holds rules ps m me nodes frames r false (Told me (op.Unlock db key) answer.Unlocked) None g.register.seen g o k.0 k.2 k.3 k.4 (k.1, refl) (λ a. absurd (cc)) (λ a. absurd (cc)) (λ n ne e. absurd (cc)) (λ a. absurd (cc)) (omega arith) (λ n ne. refl) h)
+      (_, lock_holds rules ps m me nodes frames r false (Told me (op.Unlock db key) answer.Unlocked) None g.register.seen g o k.0 k.2 k.3 k.4 refl (k.1, refl) (λ a. absurd (cc)) (λ a. absurd (cc)) (λ n ne e. absurd (cc)) (λ a. absurd (cc)) (omega arith) (λ n ne. refl) h)
 
   pub unlock_holds : (db : ℕ) (key : List ℕ) (g : Ghost) (o : Out) → o.node.locked ≡ true → Holds rules ps m me nodes frames r g o → Kept rules ps m me nodes frames r (Rule.unlock me m db key o)
   unfolding Rule.unlock Rule.release tell with_node

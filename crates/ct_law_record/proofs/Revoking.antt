@@ -1,7 +1,7 @@
 -- Revocations and copies for reading.
 use Rattle.std.proofs.Common.{◌≡◌, ◌≢◌, ◌⊎◌, ℕ, ◌+◌, ◌<◌, Bool, true, false, Option, Some, None, List, [], ◌∷◌, refl, sym, ap, ◌∙◌, inl, inr, ⊎_elim, arith, subst, not, ◌&&◌, ◌||◌, ◌==◌, nat_le, eqb-true, eq-eqb}
 use Rattle.std.proofs.lemmas.Bool.{and_parts, not-true, cond_both, cases_eq, false_from_ne_true}
-use Rattle.ct_law_record.proofs.Invariant.{Sent, readers_of, is_revoking, Ghost, Ungranted, RevokeAt, AckAt, Says, BodyAt, NodeInv, Holds, Kept}
+use Rattle.ct_law_record.proofs.Invariant.{Start, Sent, readers_of, is_revoking, Ghost, Ungranted, RevokeAt, AckAt, Says, BodyAt, NodeInv, Holds, Kept}
 use Rattle.ct_law_record.proofs.Nodes.{and_frame, NodeInv-called, called, rank_of, ungranted_new, NodeInv-stale, reading-stale, rank-stale}
 use Rattle.ct_law_record.proofs.Copies.{NodeInv-granted, granted}
 use Rattle.ct_law_record.proofs.Parts.{nil_none, tracks, change_tracks, global_tracks, Done_with, granted_to, granted_end, shift_to, shift_end, nobody_has}
@@ -13,7 +13,6 @@ use Rattle.ct_call.specs.Rules.{Rules}
 use Rattle.ct_deleg.specs.Tracked.{Revocation, others}
 use Rattle.ct_rules.specs.State.{is_nil}
 use Rattle.ct_rules.specs.declared.state.Entry.{Entry}
-use Rattle.ct_register.specs.Register.{Register}
 use Rattle.ct_law_record.proofs.Rule.{risen, reads, is_kind_here, Body, Call, Copy, For_reading, Frame, Grant, Here, Node, Out, Revoke, RevokeAck, Wish, end_revocation, end_wish, has_node, is_here, is_reading, is_wish, on_ack, on_grant, on_revoke, rank, reads_op, rsn_of, send, stale, value_of, with_node}
 
 pub has-without : (k n : ℕ) (ns : List ℕ) → k ≢ n → has_node k ns ≡ true → has_node k (others n ns) ≡ true
@@ -26,7 +25,7 @@ unfolding risen is_here rsn_of value_of is_kind_here
 risen_is None h = absurd (cc)
 risen_is (Some c) h = grind arith
 
-module _ (rules : Rules) (ps : List ℕ) (m me : ℕ) (nodes : ℕ → Node) (frames : List Frame) (r : Register) where
+module _ (rules : Rules) (ps : List ℕ) (m me : ℕ) (nodes : ℕ → Node) (frames : List Frame) (r : Start) where
   -- the frame was sent: what it says of each node
   abbrev pub Came : Ghost → Out → ℕ → Body → Type 0
   Came g o from b = BodyAt g me o.node from me b × ((n : ℕ) → n ≢ me → BodyAt g n (nodes n) from me b)
@@ -67,7 +66,7 @@ module _ (rules : Rules) (ps : List ℕ) (m me : ℕ) (nodes : ℕ → Node) (fr
         seen = (let s = h.good.mine.seen in let u = h.good.all.rises (rank o.node.copy) (rsn_of o.node.copy + 1 + 1) (omega arith) in omega arith);
       })
       (λ n ne. shift_end g [] false (g.top + 1) n (nodes n) (omega arith) (gone n ne) (h.good.others n ne))
-      (λ e. (let k = master_copy rules ps m me nodes frames r g o (ended wish o.node).copy here h e in record { entry = k.entry; queue = k.queue; vacuum = k.vacuum })) (λ _. refl) refl h
+      (λ e. (let k = master_copy rules ps m me nodes frames r g o (ended wish o.node).copy g.base (g.top + 1) here h e in record { entry = k.entry; queue = k.queue; vacuum = k.vacuum })) (λ _. refl) refl h
 
   end_wish_holds : (wish : Option Wish) (g : Ghost) (o : Out) → o.node.wish ≡ wish → is_here o.node.copy ≡ true → o.node.locked ≡ false → g.vacuum ≡ None →
       Gone g me o.node → ((n : ℕ) → n ≢ me → Gone g n (nodes n)) →
@@ -158,7 +157,7 @@ module _ (rules : Rules) (ps : List ℕ) (m me : ℕ) (nodes : ℕ → Node) (fr
   stale_holds : (rsn : ℕ) (g : Ghost) (o : Out) → Holds rules ps m me nodes frames r g o → Holds rules ps m me nodes frames r g (with_node (record o.node { copy = stale rsn o.node.copy }) o)
   unfolding stale
   stale_holds rsn g o h = node_holds rules ps m me nodes frames r (record o.node { copy = stale rsn o.node.copy }) g o refl h (NodeInv-stale g me o.node rsn h.good.mine)
-      (λ e. record { entry = ⊎_elim (λ (k : o.node.entry ≡ Some g.entry). inl k) (λ k. inr (k.0, k.1, ap (stale rsn) k.2)) (h.good.master e).entry; queue = (h.good.master e).queue; vacuum = (h.good.master e).vacuum })
+      (λ e. record { entry = ⊎_elim (λ (k : o.node.entry ≡ Some g.entry). inl k) (λ k. inr (k.0, k.1, ap (stale rsn) k.2, k.3)) (h.good.master e).entry; queue = (h.good.master e).queue; vacuum = (h.good.master e).vacuum })
 
   unread_ungranted : (g : Ghost) (wish : Option Wish) → ((w : Wish) → wish ≡ Some w → reads_op w.op ≡ false) → Ungranted g.frames me wish
   unfolding Ungranted
@@ -203,6 +202,20 @@ module _ (rules : Rules) (ps : List ℕ) (m me : ℕ) (nodes : ℕ → Node) (fr
       owned : (n : ℕ) (node : Node) → g.register.owner ≡ Some n → NodeInv g n node → g.readers ≡ []
       owned n node own f = (let l = f.locked (f.owner own) in (f.mirror l.0).0 ∙ ap (readers_of node.tracked) l.3 ∙ l.2)
 
+  -- where a node reads there are marks
+  read_marks : (g : Ghost) (o : Out) (k : ℕ) → has_node k g.readers ≡ true → Holds rules ps m me nodes frames r g o → g.base < g.top
+  read_marks g o k reads h = ⊎_elim
+      (λ (e : g.entry.holder ≡ me). holder me o.node (sym e) h.good.mine)
+      (λ (ne : g.entry.holder ≢ me). holder g.entry.holder (nodes g.entry.holder) refl (h.good.others g.entry.holder ne))
+      (cases_eq g.entry.holder me)
+    where
+      holder : (n : ℕ) (node : Node) → n ≡ g.entry.holder → NodeInv g n node → g.base < g.top
+      holder n node is f = go (is_here node.copy) refl
+        where
+          go : (b : Bool) → is_here node.copy ≡ b → g.base < g.top
+          go true e = (let low = (f.here e).1 in let under = f.under in let first = h.good.all.marks.first in omega arith)
+          go false e = absurd (nobody_has k g.readers (f.nobody is e).0 reads)
+
   pub on_grant_holds : (x q rsn : ℕ) (value : List ℕ) (g : Ghost) (o : Out) → Sent (record { from = x; to = me; body = Grant q rsn value }) g.frames → BodyAt g me o.node x me (Grant q rsn value) → Holds rules ps m me nodes frames r g o → Kept rules ps m me nodes frames r (on_grant me q rsn value o)
   unfolding on_grant reads Says readers_of Ungranted rank with_node
   on_grant_holds x q rsn value g o sent came h = cond_both (is_wish q true o.node.wish && not (is_here o.node.copy) && nat_le (rank o.node.copy) (rsn + 1)) _ _ (Kept rules ps m me nodes frames r)
@@ -218,7 +231,7 @@ module _ (rules : Rules) (ps : List ℕ) (m me : ℕ) (nodes : ℕ → Node) (fr
         _,
         see_holds rules ps m me nodes frames r g (with_node (granted rsn value o.node) o) c.2 (λ n own. absurd (nobody_has me g.readers (owned_none g o n own h) c.0)) w.0.op.real (reads_is_read w.0.op w.3) value c.1
             (node_holds rules ps m me nodes frames r (granted rsn value o.node) g o refl h
-            (NodeInv-granted ps m g me o.node rsn value h.good.joined h.good.all ne c.2 away c.0 c.1 (met w.0 w.1 w.2 w.3) h.good.mine) (λ e. record { entry = ⊎_elim (λ (j : o.node.entry ≡ Some g.entry). inl j) (λ j. absurd (ne (e ∙ sym (ap (λ (x : Entry). x.holder) j.1)))) (h.good.master e).entry; queue = (h.good.master e).queue; vacuum = (h.good.master e).vacuum })),
+            (NodeInv-granted ps m g me o.node rsn value h.good.joined h.good.all ne c.2 (read_marks g o me c.0 h) away c.0 c.1 (met w.0 w.1 w.2 w.3) h.good.mine) (λ e. record { entry = ⊎_elim (λ (j : o.node.entry ≡ Some g.entry). inl j) (λ j. absurd (ne (e ∙ sym (ap (λ (x : Entry). x.holder) j.1)))) (h.good.master e).entry; queue = (h.good.master e).queue; vacuum = (h.good.master e).vacuum })),
       ))
       (λ _. (g, h))
     where

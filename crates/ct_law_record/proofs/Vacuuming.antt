@@ -1,54 +1,26 @@
 -- The frames of a vacuum, and the vacuum event.
-use Rattle.std.proofs.Common.{◌≡◌, ◌≢◌, ◌⊎◌, ℕ, ◌+◌, ◌<◌, ◌≤◌, Bool, true, false, Option, Some, None, List, [], ◌∷◌, take, refl, sym, ap, ◌∙◌, inl, inr, ⊎_elim, arith, subst, ◌&&◌, ◌==◌, eqb-true}
+use Rattle.std.proofs.Common.{◌≡◌, ◌≢◌, ℕ, ◌+◌, ◌<◌, ◌≤◌, true, false, Option, Some, None, List, [], ◌∷◌, take, refl, sym, ap, ◌∙◌, inl, inr, ⊎_elim, arith, subst, ◌&&◌, ◌==◌, eqb-true}
 use Rattle.std.proofs.lemmas.Bool.{and_parts, cond_both, cases_eq, eq-eqb, eqb-false, false_from_ne_true}
-use Rattle.ct_law_record.proofs.Invariant.{readers_of, Ghost, Past, Emptied, Joined, VStoreAt, VDeleteAt, Says, VacuumAt, NodeInv, Emptying, GlobalInv, Holds, Kept}
+use Rattle.ct_law_record.proofs.Invariant.{span_of, Start, readers_of, Ghost, Past, Emptied, Joined, VStoreAt, VDeleteAt, Says, VacuumAt, NodeInv, Emptying, GlobalInv, Holds, Kept}
 use Rattle.ct_law_record.proofs.Nodes.{rank_of, past_none}
 use Rattle.ct_law_record.proofs.Copies.{touched, NodeInv-raised, NodeInv-dropped, raised_past, dropped_past, lt_cases, whole_reading}
 use Rattle.ct_law_record.proofs.Holder.{Change, Shift, Own}
+use Rattle.ct_law_record.proofs.Markings.{grows_none, grows_top, marking_top, marking_deleting}
 use Rattle.ct_law_record.proofs.Parts.{nil_none, nobody_has, readers_idle, granted_end}
 use Rattle.ct_law_record.proofs.Acts.{send_holds, node_holds, own_holds, Others, master_copy, calm_other, below_top, give_holds, free_parts}
-use Rattle.ct_law_record.proofs.Revoking.{risen_is, Came, has-without}
+use Rattle.ct_law_record.proofs.Revoking.{risen_is, Came}
 use Rattle.ct_law_record.proofs.Finish.{finish_holds}
+use Rattle.ct_law_record.proofs.Phases.{fewer_has, not_has, bool_true, rank_none, none_rank, value_none, past_is, phase_storing, phase_deleting, awaits_parts, last_parts}
 use Rattle.std.specs.Prelude.{is_none, List}
 use Rattle.ct_call.specs.Rules.{Rules}
 use Rattle.ct_deleg.specs.Tracked.{Revocation}
-use Rattle.ct_vacuum.specs.Vacuum.{Vacuuming, begun, is_phase, awaits, without, acknowledged, is_last, stored, deleting as in_deleting, is_none as is_none_left}
+use Rattle.ct_vacuum.specs.Vacuum.{Vacuuming, begun, awaits, without, acknowledged, is_last, stored, deleting as in_deleting}
 use Rattle.ct_vacuum.specs.declared.vacuum.VacuumPhase.{VacuumPhase}
 use Rattle.ct_vacuum.specs.declared.vacuum.VacuumPhase.TheVariants.{Storing, Deleting}
 use Rattle.ct_rules.specs.State.{is_nil}
 use Rattle.ct_register.specs.Register.{Register, reading}
 use Rattle.ct_law_record.proofs.Rule
 use Rattle.ct_law_record.proofs.Rule.{is_storing, risen, Body, Copy, Frame, Grant, Here, Node, Out, VDelete, VDeleted, VStore, VStored, Wish, drop_copy, give, greater, has_node, is_free, is_here, is_idle, is_reading, raise_copy, rank, reads_op, rsn_of, send, send_all, tell, value_of, with_node}
-
-fewer_has : (k n : ℕ) (ns : List ℕ) → has_node k ns ≡ false → has_node k (without n ns) ≡ false
-unfolding has_node
-fewer_has k n [] h = refl
-fewer_has k n (m ∷ ms) h = grind (arith, fewer_has k n ms)
-
-not_has : (k n : ℕ) (ns : List ℕ) → k ≢ n → has_node k (without n ns) ≡ false → has_node k ns ≡ false
-not_has k n ns ne e = false_from_ne_true _ (λ t. (let a = has-without k n ns ne t in cc))
-
-bool_true : (b : Bool) → (b ≡ false → ⊥) → b ≡ true
-bool_true true h = refl
-bool_true false h = absurd (h refl)
-
-rank_none : (c : Option Copy) → c ≡ None → rank c ≡ 0
-unfolding rank
-rank_none c e = ap rank e
-
-none_rank : (c : Option Copy) → rank c ≡ 0 → c ≡ None
-unfolding rank
-none_rank None e = refl
-none_rank (Some c) e = absurd (omega arith)
-
-value_none : (c : Option Copy) → rank c ≡ 0 → value_of c ≡ []
-unfolding rank value_of
-value_none None e = refl
-value_none (Some c) e = absurd (omega arith)
-
-past_is : (low : ℕ) (c : Option Copy) → Past low c → (rank c ≡ 0) ⊎ (low ≤ rank c)
-unfolding Past
-past_is low c h = ⊎_elim (λ (e : rank c ≡ 0). inl e) (λ (e : rank c ≢ 0). inr (h (omega arith))) (cases_eq (rank c) 0)
 
 -- absent copies come to stand for what copies of this rank do
 abbrev pub raised : ℕ → (ℕ → ℕ) → ℕ → ℕ
@@ -70,9 +42,13 @@ greater_rises : (a b low : ℕ) → a ≤ b → greater a low ≤ greater b low
 unfolding greater
 greater_rises a b low le = grind arith
 
+past_joint : (a b : ℕ) (c : Option Copy) → Past a c → Past b c → Past (greater a b) c
+unfolding Past greater
+past_joint a b c h k = λ e. (let x = h e in let y = k e in grind arith)
+
 -- the ghost where the phase Deleting begins
 abbrev pub deleting : Vacuuming → Ghost → Ghost
-deleting v g = record g { place = raised (v.rsn + 1) g.place; vacuum = Some (in_deleting v) }
+deleting v g = record g { place = raised (v.rsn + 1) g.place; vacuum = Some (in_deleting v); joint = greater g.joint (v.rsn + 1) }
 
 raised_empty : (low : ℕ) (place : ℕ → ℕ) (versions : List (List ℕ)) (a : ℕ) → Emptied place versions low → Emptied place versions a → Emptied (raised low place) versions a
 unfolding Emptied
@@ -97,6 +73,7 @@ change_deleting ps m g v all empty = record {
   top = inr (refl, λ a. a);
   empty = λ a l e. raised_empty (v.rsn + 1) g.place g.register.versions a empty e;
   joined = λ a l e. raised_joined (v.rsn + 1) g.place a all.rises e;
+  span = grows_none (span_of g);
 }
 
 global_deleting : (ps : List ℕ) (m : ℕ) (g : Ghost) (v : Vacuuming) → GlobalInv ps m g → g.vacuum ≡ Some v → GlobalInv ps m (deleting v g)
@@ -122,6 +99,7 @@ global_deleting ps m g v all is =
             nobody = f.nobody;
             idle = f.idle;
           });
+      marks = marking_deleting g.base g.joint g.top g.entry.least g.mark g.place g.register.versions g.entry.value v.rsn above all.marks;
     }
 
 shift_deleting : (ps : List ℕ) (m : ℕ) (g : Ghost) (v : Vacuuming) (k : ℕ) (node : Node) → GlobalInv ps m g → g.readers ≡ [] → Emptied g.place g.register.versions (v.rsn + 1) → Past (v.rsn + 1) node.copy → (has_node k v.others ≡ false → node.copy ≡ None) → NodeInv g k node → Shift g (deleting v g) k node.copy node.wish
@@ -137,45 +115,20 @@ shift_deleting ps m g v k node all none empty past outside h = record {
       (past_is (v.rsn + 1) node.copy past);
   seen = (let s = h.seen in let u = all.rises (rank node.copy) (greater (rank node.copy) (v.rsn + 1)) (greater_left _ _) in omega arith);
   kept = all.rises (rank node.copy) (greater (rank node.copy) (v.rsn + 1)) (greater_left _ _);
+  marked = past_joint g.joint (v.rsn + 1) node.copy h.marked past;
   vacuum = λ w e. (let k' : in_deleting v ≡ w = cc in record {
     storing = λ a. absurd (let z : false ≡ is_storing w.phase = ap (λ (x : Vacuuming). is_storing x.phase) k' in cc);
     deleted = λ _ b. past_none (w.rsn + 2) node.copy (rank_none node.copy (outside (ap (λ (x : Vacuuming). has_node k x.missing) k' ∙ b)));
   });
 }
 
-phase_storing : (p : VacuumPhase) → is_phase Storing p ≡ true → is_storing p ≡ true
-unfolding is_storing
-phase_storing Storing h = refl
-phase_storing Deleting h = absurd (cc)
-
-phase_deleting : (p : VacuumPhase) → is_phase Deleting p ≡ true → is_storing p ≡ false
-unfolding is_storing
-phase_deleting Storing h = absurd (cc)
-phase_deleting Deleting h = refl
-
-none_left : (l : List ℕ) → is_none_left l ≡ true → l ≡ []
-none_left [] h = refl
-none_left (x ∷ xs) h = absurd (cc)
-
-awaits_parts : (phase : VacuumPhase) (n rsn : ℕ) (v : Vacuuming) → awaits phase n rsn v ≡ true → (is_phase phase v.phase ≡ true) × (v.rsn ≡ rsn)
-awaits_parts phase n rsn v t =
-    let p = and_parts (is_phase phase v.phase && (v.rsn == rsn)) _ t in
-    let q = and_parts (is_phase phase v.phase) (v.rsn == rsn) p.0 in
-    (q.0, eqb-true v.rsn rsn q.1)
-
-last_parts : (phase : VacuumPhase) (n rsn : ℕ) (v : Vacuuming) → is_last phase n rsn v ≡ true → (is_phase phase v.phase ≡ true) × (v.rsn ≡ rsn) × (without n v.missing ≡ [])
-last_parts phase n rsn v t =
-    let p = and_parts (awaits phase n rsn v) (is_none_left (without n v.missing)) t in
-    let q = awaits_parts phase n rsn v p.0 in
-    (q.0, q.1, none_left (without n v.missing) p.1)
-
-module _ (rules : Rules) (ps : List ℕ) (m me : ℕ) (nodes : ℕ → Node) (frames : List Frame) (r : Register) where
+module _ (rules : Rules) (ps : List ℕ) (m me : ℕ) (nodes : ℕ → Node) (frames : List Frame) (r : Start) where
   pub on_vstore_holds : (x rsn : ℕ) (g : Ghost) (o : Out) → VStoreAt x me g.top g.place g.register.versions rsn → Holds rules ps m me nodes frames r g o → Kept rules ps m me nodes frames r (Rule.on_vstore me x rsn o)
   unfolding Rule.on_vstore Says raise_copy with_node
   on_vstore_holds x rsn g o k h =
       let b = k.below in
       let p = node_holds rules ps m me nodes frames r (touched (raise_copy rsn o.node.locked o.node.copy) o.node) g o refl h (NodeInv-raised ps m g me rsn o.node o.node.locked h.good.joined h.good.all k.below k.empty h.good.mine)
-      (λ e. (let j = h.good.master e in record { entry = ⊎_elim (λ (i : o.node.entry ≡ Some g.entry). inl i) (λ i. inr (i.0, i.1, ap (raise_copy rsn o.node.locked) i.2)) j.entry; queue = j.queue; vacuum = j.vacuum })) in (
+      (λ e. (let j = h.good.master e in record { entry = ⊎_elim (λ (i : o.node.entry ≡ Some g.entry). inl i) (λ i. inr (i.0, i.1, ap (raise_copy rsn o.node.locked) i.2, i.3)) j.entry; queue = j.queue; vacuum = j.vacuum })) in (
         _,
         send_holds rules ps m me nodes frames r x (VStored rsn) g _ (λ q s v is. absurd (cc)) p
             (λ _. record { below = b; past = raised_past g me rsn o.node b h.good.mine })
@@ -187,7 +140,7 @@ module _ (rules : Rules) (ps : List ℕ) (m me : ℕ) (nodes : ℕ → Node) (fr
   on_vdelete_holds x rsn g o k h =
       let b = k.below in
       let p = node_holds rules ps m me nodes frames r (touched (drop_copy rsn o.node.locked o.node.copy) o.node) g o refl h (NodeInv-dropped ps m g me rsn o.node o.node.locked h.good.joined h.good.all k.below k.joined h.good.mine)
-      (λ e. (let j = h.good.master e in record { entry = ⊎_elim (λ (i : o.node.entry ≡ Some g.entry). inl i) (λ i. inr (i.0, i.1, ap (drop_copy rsn o.node.locked) i.2)) j.entry; queue = j.queue; vacuum = j.vacuum })) in (
+      (λ e. (let j = h.good.master e in record { entry = ⊎_elim (λ (i : o.node.entry ≡ Some g.entry). inl i) (λ i. inr (i.0, i.1, ap (drop_copy rsn o.node.locked) i.2, i.3)) j.entry; queue = j.queue; vacuum = j.vacuum })) in (
         _,
         send_holds rules ps m me nodes frames r x (VDeleted rsn) g _ (λ q s v is. absurd (cc)) p
             (λ _. record { below = b; past = dropped_past g me rsn o.node b h.good.mine })
@@ -295,10 +248,11 @@ module _ (rules : Rules) (ps : List ℕ) (m me : ℕ) (nodes : ℕ → Node) (fr
         whole = k.whole;
         within = k.within;
         absent = k.absent;
+        marks = k.marks;
         vacuum = λ u e. subst (λ (x : Vacuuming). Emptying ps m g.entry.holder g.top g.register.versions g.place g.readers g.revoking x) (let k : w ≡ u = cc in k)
             (record { at = f.at; others = f.others; peers = f.peers; home = fewer f.home; above = f.above; empty = f.empty; past = f.past; joined = f.joined; nobody = f.nobody; idle = f.idle });
       })
-      (record { entry = refl; queue = refl; sent = refl; birth = refl; top = inr (refl, λ a. a); empty = λ a b c. c; joined = λ a b c. c })
+      (record { entry = refl; queue = refl; sent = refl; birth = refl; top = inr (refl, λ a. a); empty = λ a b c. c; joined = λ a b c. c; span = grows_none (span_of g) })
       (own_vacuum g g' o o.node.copy (Some w) form form.0 (omega arith) top refl refl refl refl h.good.mine.seen h.good.mine)
       (λ n ne. (let k = h.good.others n ne in record {
         owner = λ a. a;
@@ -308,6 +262,7 @@ module _ (rules : Rules) (ps : List ℕ) (m me : ℕ) (nodes : ℕ → Node) (fr
         value = k.value;
         seen = k.seen;
         kept = omega arith;
+        marked = k.marked;
         vacuum = λ u e. subst (λ (x : Vacuuming). VacuumAt x n (nodes n).copy) (let k : w ≡ u = cc in k) (each n ne);
       }))
       (λ e. (let k = h.good.master e in record { entry = k.entry; queue = k.queue; vacuum = refl })) (λ ne. absurd (ne at)) refl h
@@ -426,10 +381,11 @@ module _ (rules : Rules) (ps : List ℕ) (m me : ℕ) (nodes : ℕ → Node) (fr
         whole = λ a l. all.whole a (omega arith);
         within = all.within;
         absent = all.absent;
+        marks = marking_top g.base g.joint g.top g.entry.least g.mark g.place g.register.versions g.entry.value (g.top + 1) (omega arith) all.marks;
         vacuum = λ u e. subst (λ (x : Vacuuming). Emptying ps m g.entry.holder (g.top + 1) g.register.versions g.place g.readers g.revoking x) (let k : v ≡ u = cc in k)
             (record { at = sym up.0 ∙ at; others = refl; peers = peers; home = peers; above = omega arith; empty = sym holds.1 ∙ empty; past = past; joined = λ a. absurd (cc); nobody = none; idle = readers.1 });
       })
-      (record { entry = refl; queue = refl; sent = refl; birth = refl; top = inl (omega arith); empty = λ a b c. c; joined = λ a b c. c })
+      (record { entry = refl; queue = refl; sent = refl; birth = refl; top = inl (omega arith); empty = λ a b c. c; joined = λ a b c. c; span = grows_top g.base g.top (g.top + 1) g.mark (omega arith) })
       (own_vacuum g g' o copy (Some v) form refl (omega arith) (omega arith) refl refl refl refl (let s = h.good.mine.seen in let u = all.rises (rank o.node.copy) (rsn + 1 + 1) (omega arith) in omega arith) h.good.mine)
       (λ n ne. (let k = h.good.others n ne in record {
         owner = λ a. a;
@@ -439,10 +395,11 @@ module _ (rules : Rules) (ps : List ℕ) (m me : ℕ) (nodes : ℕ → Node) (fr
         value = k.value;
         seen = k.seen;
         kept = omega arith;
+        marked = k.marked;
         vacuum = λ u e. subst (λ (x : Vacuuming). VacuumAt x n (nodes n).copy) (let k : v ≡ u = cc in k)
             (record { storing = λ _ b. past_none (rsn + 1) (nodes n).copy (rank_none (nodes n).copy (outside n ne b)); deleted = λ a. absurd (cc) });
       }))
-      (λ e. (let k = master_copy rules ps m me nodes frames r g o copy form.0 h e in record { entry = k.entry; queue = k.queue; vacuum = refl })) (λ ne. absurd (ne at)) refl h))
+      (λ e. (let k = master_copy rules ps m me nodes frames r g o copy g.base (g.top + 1) form.0 h e in record { entry = k.entry; queue = k.queue; vacuum = refl })) (λ ne. absurd (ne at)) refl h))
 
   -- the frame of the running phase may be sent again
   again_holds : (v : Vacuuming) (g : Ghost) (o : Out) → me ≡ m → g.vacuum ≡ Some v → Holds rules ps m me nodes frames r g o → Kept rules ps m me nodes frames r (send_all me v.missing (Rule.phase_frame v.rsn v.phase) o)

@@ -23,8 +23,10 @@ use Rattle.ct_rules_node.specs.Rounds
 use Rattle.ct_register.specs.Register.{Register, joined_by}
 use Rattle.ct_law_record.proofs.Nodes.{seeing, NodeInv-seeing}
 use Rattle.ct_law_record.proofs.Small.{changed_other}
-use Rattle.ct_law_record.proofs.Invariant.{Sent, Ghost, NodeInv, Holds, Kept, MasterInv, GlobalInv}
+use Rattle.ct_law_record.proofs.Invariant.{Start, span_of, Goes, Sent, Ghost, NodeInv, Holds, Kept, MasterInv, GlobalInv}
 use Rattle.ct_law_record.proofs.Vacuuming.{Apart}
+use Rattle.ct_law_record.specs.Marked.{is_removed}
+use Rattle.ct_law_record.proofs.Markings.{RunsOn, goes_stays, goes_joined, runs_then, runs_none}
 use Rattle.std.specs.List.{list_all}
 use Rattle.ct_frame.specs.Fields.{is_node}
 use Rattle.ct_register.specs.Words.{is_in, at as changed_seen}
@@ -91,15 +93,18 @@ sent_at zero (x ∷ xs) m e = inl (let j : x ≡ m = cc in ap frame_of j)
 sent_at (suc k) (x ∷ xs) m e = inr (sent_at k xs m e)
 
 -- what a step leads to
-abbrev Leads : Scene → Register → Stepped → Type 0
-Leads s r x = (t : Register) × (g : Ghost) × AcceptsAll s.rules r x.labels t × WorldInv s x.world t g
+abbrev pub Leads : Scene → Register → Ghost → Stepped → Type 0
+Leads s r g x = (t : Register) × (g' : Ghost) × AcceptsAll s.rules r x.labels t × WorldInv s x.world t g' × Goes (is_removed x.labels) (span_of g) (span_of g')
+
+abbrev pub started : Register → Ghost → Start
+started r g = record { register = r; span = span_of g }
 
 -- where a step begins, and where it ends
 abbrev pub Begun : Scene → World → Register → ℕ → (ℕ → Option ClientOp) → Ghost → Moving → Type 0
-Begun s w r n asks g o = Holds s.rules (peers s s.lmaster) s.lmaster n (nodes_at s w) (frames_of w.mail) r g (out_of (place s n (w.nodes n)) asks o)
+Begun s w r n asks g o = Holds s.rules (peers s s.lmaster) s.lmaster n (nodes_at s w) (frames_of w.mail) (started r g) g (out_of (place s n (w.nodes n)) asks o)
 
-abbrev Ended : Scene → World → Register → ℕ → (ℕ → Option ClientOp) → Moving → Type 0
-Ended s w r n asks o = Kept s.rules (peers s s.lmaster) s.lmaster n (nodes_at s w) (frames_of w.mail) r (out_of (place s n (w.nodes n)) asks o)
+abbrev Ended : Scene → World → Register → ℕ → (ℕ → Option ClientOp) → Ghost → Moving → Type 0
+Ended s w r n asks g o = Kept s.rules (peers s s.lmaster) s.lmaster n (nodes_at s w) (frames_of w.mail) (started r g) (out_of (place s n (w.nodes n)) asks o)
 
 not_fresh : (b j : Bool) → j ≡ true → (b && not j) ≡ false
 not_fresh b true e = grind arith
@@ -110,6 +115,7 @@ unfolding sent told frames_of
 begin_holds s w r n asks g joined h = record {
   sent = h.frames ∙ sym (append-nil (frames_of w.mail));
   told = h.register;
+  went = goes_stays (span_of g);
   good = record {
     all = h.all;
     joined = refl;
@@ -120,9 +126,14 @@ begin_holds s w r n asks g joined h = record {
   };
 }
 
+-- at its beginning a step told nothing
+unremoved : (s : Scene) (w : World) (n : ℕ) (asks : ℕ → Option ClientOp) → is_removed (out_of (place s n (w.nodes n)) asks (starts (w.nodes n))).labels ≡ false
+unfolding told is_removed
+unremoved s w n asks = refl
+
 steps_holds : (s : Scene) (w : World) (r : Register) (n : ℕ) (may : Bool) (labels : List Label) (v : View) (more : List Mail) (g : Ghost) → WorldInv s w r g → ((f : Frame) → Sent f (frames_of more) → f.from ≡ n) →
-    (is_in n s.members ≡ true → w.joined n ≡ true → may ≡ true → Kept s.rules (peers s s.lmaster) s.lmaster n (nodes_at s w) (frames_of w.mail) r (record { node = node_of n s.readonly v.state v.next v.floor; frames = frames_of more; labels = labels })) → Leads s r (steps s w n may labels v more)
-steps_holds s w r n may labels v more g₀ before named k = cond_both (is_in n s.members && w.joined n && may) _ _ (Leads s r)
+    (is_in n s.members ≡ true → w.joined n ≡ true → may ≡ true → Kept s.rules (peers s s.lmaster) s.lmaster n (nodes_at s w) (frames_of w.mail) (started r g) (record { node = node_of n s.readonly v.state v.next v.floor; frames = frames_of more; labels = labels })) → Leads s r g (steps s w n may labels v more)
+steps_holds s w r n may labels v more g₀ before named k = cond_both (is_in n s.members && w.joined n && may) _ _ (Leads s r g₀)
     (λ t. (let p = and_parts (is_in n s.members && w.joined n) may t in let q = and_parts (is_in n s.members) (w.joined n) p.0 in let member = q.0 in let g = (k member q.1 p.1).0 in let h = (k member q.1 p.1).1 in (
       g.register,
       g,
@@ -145,25 +156,26 @@ steps_holds s w r n may labels v more g₀ before named k = cond_both (is_in n s
             (λ (x : Sent f (frames_of more)). subst (λ y. is_in y s.members ≡ true) (sym (named f x)) member)
             (sent_split f (frames_of w.mail) (frames_of more) (subst (λ l. Sent f l) (frames_append w.mail more) h'));
       },
+      h.went,
     )))
-    (λ _. (r, g₀, refl, before))
+    (λ _. (r, g₀, refl, before, goes_stays (span_of g₀)))
 
-put_holds : (s : Scene) (w : World) (r : Register) (n : ℕ) (asks : ℕ → Option ClientOp) (g : Ghost) (o : Moving) → WorldInv s w r g → (is_in n s.members ≡ true → w.joined n ≡ true → Ended s w r n asks o) → Leads s r (put s w n asks o)
+put_holds : (s : Scene) (w : World) (r : Register) (n : ℕ) (asks : ℕ → Option ClientOp) (g : Ghost) (o : Moving) → WorldInv s w r g → (is_in n s.members ≡ true → w.joined n ≡ true → Ended s w r n asks g o) → Leads s r g (put s w n asks o)
 put_holds s w r n asks g o before k = steps_holds s w r n (not o.spent) (told n asks o.acts) (view_of o) (sent n o.acts) g before (λ f x. sent_from n f o.acts x) (λ member joined _. k member joined)
 
 no_mail : (n : ℕ) (f : Frame) → Sent f (frames_of []) → f.from ≡ n
 unfolding Sent frames_of
 no_mail n f h = elim h [ ]
 
-ends_world : (s : Scene) (w : World) (r : Register) (n : ℕ) (g : Ghost) → w.joined n ≡ true → is_some (w.nodes n).state.locked ≡ true → WorldInv s w r g → Kept s.rules (peers s s.lmaster) s.lmaster n (nodes_at s w) (frames_of w.mail) r (record { node = node_of n s.readonly (unlocked (w.nodes n)).state (unlocked (w.nodes n)).next (unlocked (w.nodes n)).floor; frames = frames_of []; labels = label.Ended n ∷ [] })
+ends_world : (s : Scene) (w : World) (r : Register) (n : ℕ) (g : Ghost) → w.joined n ≡ true → is_some (w.nodes n).state.locked ≡ true → WorldInv s w r g → Kept s.rules (peers s s.lmaster) s.lmaster n (nodes_at s w) (frames_of w.mail) (started r g) (record { node = node_of n s.readonly (unlocked (w.nodes n)).state (unlocked (w.nodes n)).next (unlocked (w.nodes n)).floor; frames = frames_of []; labels = label.Ended n ∷ [] })
 unfolding Rule.tell Rule.with_node sent told
-ends_world s w r n g joined locked h = end_holds s.rules (peers s s.lmaster) s.lmaster n (nodes_at s w) (frames_of w.mail) r g (out_of (place s n (w.nodes n)) (λ _. None) (starts (w.nodes n))) locked (begin_holds s w r n (λ _. None) g joined h)
+ends_world s w r n g joined locked h = end_holds s.rules (peers s s.lmaster) s.lmaster n (nodes_at s w) (frames_of w.mail) (started r g) g (out_of (place s n (w.nodes n)) (λ _. None) (starts (w.nodes n))) locked (begin_holds s w r n (λ _. None) g joined h)
 
-leaves_world : (s : Scene) (w : World) (r : Register) (n : ℕ) (g : Ghost) → w.joined n ≡ true → WorldInv s w r g → Kept s.rules (peers s s.lmaster) s.lmaster n (nodes_at s w) (frames_of w.mail) r (record { node = node_of n s.readonly (unlocked (w.nodes n)).state (unlocked (w.nodes n)).next (unlocked (w.nodes n)).floor; frames = frames_of []; labels = label.Left n ∷ [] })
+leaves_world : (s : Scene) (w : World) (r : Register) (n : ℕ) (g : Ghost) → w.joined n ≡ true → WorldInv s w r g → Kept s.rules (peers s s.lmaster) s.lmaster n (nodes_at s w) (frames_of w.mail) (started r g) (record { node = node_of n s.readonly (unlocked (w.nodes n)).state (unlocked (w.nodes n)).next (unlocked (w.nodes n)).floor; frames = frames_of []; labels = label.Left n ∷ [] })
 unfolding Rule.tell Rule.with_node sent told
-leaves_world s w r n g joined h = leave_holds s.rules (peers s s.lmaster) s.lmaster n (nodes_at s w) (frames_of w.mail) r g (out_of (place s n (w.nodes n)) (λ _. None) (starts (w.nodes n))) (begin_holds s w r n (λ _. None) g joined h)
+leaves_world s w r n g joined h = leave_holds s.rules (peers s s.lmaster) s.lmaster n (nodes_at s w) (frames_of w.mail) (started r g) g (out_of (place s n (w.nodes n)) (λ _. None) (starts (w.nodes n))) (begin_holds s w r n (λ _. None) g joined h)
 
-apart : (s : Scene) (w : World) (r : Register) (n : ℕ) (g : Ghost) → WorldInv s w r g → n ≡ s.lmaster → Apart s.rules (peers s s.lmaster) s.lmaster n (nodes_at s w) (frames_of w.mail) r
+apart : (s : Scene) (w : World) (r : Register) (n : ℕ) (g : Ghost) → WorldInv s w r g → n ≡ s.lmaster → Apart s.rules (peers s s.lmaster) s.lmaster n (nodes_at s w) (frames_of w.mail) (started r g)
 unfolding copy_of
 apart s w r n g h is k ne e = ap (copy_of k) (h.outside k (peers_in k s.lmaster s.members (λ z. ne (z ∙ sym is)) e))
 
@@ -178,8 +190,8 @@ changed_same n count f = rw (eq-eqb n n refl) refl
 says_seen : (g : Ghost) (seen : ℕ → ℕ) (n : ℕ) (node : Node) → node.fresh ≡ true → seen n ≡ length g.register.birth → NodeInv g n node → NodeInv (seeing seen g) n (record node { fresh = false })
 says_seen g seen n node fresh is h = joined_of (seeing seen g) n node (NodeInv-seeing g n node seen (let k = (h.unjoined fresh).0 in omega arith) h)
 
-joins_holds : (s : Scene) (w : World) (r : Register) (n : ℕ) (g : Ghost) → WorldInv s w r g → Leads s r (joins s w n)
-joins_holds s w r n g h = cond_both (is_in n s.members && not (w.joined n)) _ _ (Leads s r)
+joins_holds : (s : Scene) (w : World) (r : Register) (n : ℕ) (g : Ghost) → WorldInv s w r g → Leads s r g (joins s w n)
+joins_holds s w r n g h = cond_both (is_in n s.members && not (w.joined n)) _ _ (Leads s r g)
     (λ t. (
       (seeing seen g).register,
       seeing seen g,
@@ -195,8 +207,9 @@ joins_holds s w r n g h = cond_both (is_in n s.members && not (w.joined n)) _ _ 
         outside = h.outside;
         senders = h.senders;
       },
+      goes_joined n (span_of g),
     ))
-    (λ _. (r, g, refl, h))
+    (λ _. (r, g, refl, h, goes_stays (span_of g)))
   where
     seen : ℕ → ℕ
     seen = changed_seen n (length g.register.birth) g.register.seen
@@ -204,45 +217,45 @@ joins_holds s w r n g h = cond_both (is_in n s.members && not (w.joined n)) _ _ 
     joins_now : (is_in n s.members && not (w.joined n)) ≡ true → NodeInv (seeing seen g) n (node_at s n true (w.nodes n))
     joins_now t = subst (λ (b : Bool). NodeInv (seeing seen g) n (record (nodes_at s w n) { fresh = b })) (sym (not_fresh (is_in n s.members) true refl)) (says_seen g seen n (nodes_at s w n) t (changed_same n (length g.register.birth) g.register.seen) (h.nodes n))
 
-comes_holds : (s : Scene) (w : World) (r : Register) (g : Ghost) (found : Option Mail) → list_all is_node s.members ≡ true → ((m : Mail) → found ≡ Some m → Sent (frame_of m) (frames_of w.mail)) → WorldInv s w r g → Leads s r (comes s w found)
-comes_holds s w r g None real there h = (r, g, refl, h)
+comes_holds : (s : Scene) (w : World) (r : Register) (g : Ghost) (found : Option Mail) → list_all is_node s.members ≡ true → ((m : Mail) → found ≡ Some m → Sent (frame_of m) (frames_of w.mail)) → WorldInv s w r g → Leads s r g (comes s w found)
+comes_holds s w r g None real there h = (r, g, refl, h, goes_stays (span_of g))
 comes_holds s w r g (Some m) real there h =
     let f = there m refl in
     let f' : Sent (frame_of m) g.frames = subst (λ l. Sent (frame_of m) l) (sym h.frames) f in
     let n = m.receiver in
     let asks = waiting_call (w.nodes m.receiver).state.wish in
-    put_holds s w r m.receiver asks g _ h (λ member joined. arrive_holds (place s m.receiver (w.nodes m.receiver)) asks (member_real m.receiver s.members member real) s.rules (peers s s.lmaster) (nodes_at s w) (frames_of w.mail) r m.sender m.msg g (starts (w.nodes m.receiver))
+    put_holds s w r m.receiver asks g _ h (λ member joined. arrive_holds (place s m.receiver (w.nodes m.receiver)) asks (member_real m.receiver s.members member real) s.rules (peers s s.lmaster) (nodes_at s w) (frames_of w.mail) (started r g) m.sender m.msg g (starts (w.nodes m.receiver))
     (member_real m.sender s.members (h.senders (frame_of m) f) real) (λ v e. waiting_is (w.nodes m.receiver).state.wish v e) (λ e. apart s w r m.receiver g h e) f'
-    ((h.nodes m.receiver).frames (frame_of m) f', (λ k ne. (h.nodes k).frames (frame_of m) f')) (begin_holds s w r m.receiver asks g joined h))
+    ((h.nodes m.receiver).frames (frame_of m) f', (λ k ne. (h.nodes k).frames (frame_of m) f')) (unremoved s w n asks) (begin_holds s w r m.receiver asks g joined h))
 
-step_holds : (s : Scene) (w : World) (r : Register) (g : Ghost) (e : Event) → list_all is_node s.members ≡ true → WorldInv s w r g → Leads s r (happens s w e)
+pub step_holds : (s : Scene) (w : World) (r : Register) (g : Ghost) (e : Event) → list_all is_node s.members ≡ true → WorldInv s w r g → Leads s r g (happens s w e)
 unfolding Rounds.want_again
-step_holds s w r g (Wants n call asked) real h = cond_both (may_want (w.nodes n).state asked) _ _ (Leads s r)
-    (λ t. (let p = may_parts (w.nodes n).state asked t in put_holds s w r n (own_call call asked) g _ h (λ member joined. wants_holds (place s n (w.nodes n)) (own_call call asked) (member_real n s.members member real) s.rules (peers s s.lmaster) (nodes_at s w) (frames_of w.mail) r call asked g (starts (w.nodes n))
-    (own_is call asked) (none_none _ p.0) (λ e. none_unlocked _ (p.1 e)) (begin_holds s w r n (own_call call asked) g joined h))))
-    (λ _. (r, g, refl, h))
-step_holds s w r g (Stores n call v) real h = cond_both (is_some (w.nodes n).state.locked) _ _ (Leads s r)
-    (λ t. (let asks = own_call call (op.Store s.db s.key v) in put_holds s w r n asks g _ h (λ member joined. stores_holds (place s n (w.nodes n)) asks (member_real n s.members member real) s.rules (peers s s.lmaster) (nodes_at s w) (frames_of w.mail) r call v g (starts (w.nodes n)) (own_is call (op.Store s.db s.key v)) t (begin_holds s w r n asks g joined h))))
-    (λ _. (r, g, refl, h))
-step_holds s w r g (Unlocks n call) real h = cond_both (is_some (w.nodes n).state.locked) _ _ (Leads s r)
-    (λ t. (let asks = own_call call (op.Unlock s.db s.key) in put_holds s w r n asks g _ h (λ member joined. unlocks_holds (place s n (w.nodes n)) asks (member_real n s.members member real) s.rules (peers s s.lmaster) (nodes_at s w) (frames_of w.mail) r call g (starts (w.nodes n)) (own_is call (op.Unlock s.db s.key)) t (begin_holds s w r n asks g joined h))))
-    (λ _. (r, g, refl, h))
-step_holds s w r g (Releases n call) real h = cond_both (is_some (w.nodes n).state.locked) _ _ (Leads s r)
-    (λ t. (let asks = own_call call (op.Unlock s.db s.key) in put_holds s w r n asks g _ h (λ member joined. releases_holds (place s n (w.nodes n)) asks (member_real n s.members member real) s.rules (peers s s.lmaster) (nodes_at s w) (frames_of w.mail) r call g (starts (w.nodes n)) (own_is call (op.Unlock s.db s.key)) t (begin_holds s w r n asks g joined h))))
-    (λ _. (r, g, refl, h))
+step_holds s w r g (Wants n call asked) real h = cond_both (may_want (w.nodes n).state asked) _ _ (Leads s r g)
+    (λ t. (let p = may_parts (w.nodes n).state asked t in put_holds s w r n (own_call call asked) g _ h (λ member joined. wants_holds (place s n (w.nodes n)) (own_call call asked) (member_real n s.members member real) s.rules (peers s s.lmaster) (nodes_at s w) (frames_of w.mail) (started r g) call asked g (starts (w.nodes n))
+    (own_is call asked) (none_none _ p.0) (λ e. none_unlocked _ (p.1 e)) (unremoved s w n (own_call call asked)) (begin_holds s w r n (own_call call asked) g joined h))))
+    (λ _. (r, g, refl, h, goes_stays (span_of g)))
+step_holds s w r g (Stores n call v) real h = cond_both (is_some (w.nodes n).state.locked) _ _ (Leads s r g)
+    (λ t. (let asks = own_call call (op.Store s.db s.key v) in put_holds s w r n asks g _ h (λ member joined. stores_holds (place s n (w.nodes n)) asks (member_real n s.members member real) s.rules (peers s s.lmaster) (nodes_at s w) (frames_of w.mail) (started r g) call v g (starts (w.nodes n)) (own_is call (op.Store s.db s.key v)) t (begin_holds s w r n asks g joined h))))
+    (λ _. (r, g, refl, h, goes_stays (span_of g)))
+step_holds s w r g (Unlocks n call) real h = cond_both (is_some (w.nodes n).state.locked) _ _ (Leads s r g)
+    (λ t. (let asks = own_call call (op.Unlock s.db s.key) in put_holds s w r n asks g _ h (λ member joined. unlocks_holds (place s n (w.nodes n)) asks (member_real n s.members member real) s.rules (peers s s.lmaster) (nodes_at s w) (frames_of w.mail) (started r g) call g (starts (w.nodes n)) (own_is call (op.Unlock s.db s.key)) t (begin_holds s w r n asks g joined h))))
+    (λ _. (r, g, refl, h, goes_stays (span_of g)))
+step_holds s w r g (Releases n call) real h = cond_both (is_some (w.nodes n).state.locked) _ _ (Leads s r g)
+    (λ t. (let asks = own_call call (op.Unlock s.db s.key) in put_holds s w r n asks g _ h (λ member joined. releases_holds (place s n (w.nodes n)) asks (member_real n s.members member real) s.rules (peers s s.lmaster) (nodes_at s w) (frames_of w.mail) (started r g) call g (starts (w.nodes n)) (own_is call (op.Unlock s.db s.key)) t (begin_holds s w r n asks g joined h))))
+    (λ _. (r, g, refl, h, goes_stays (span_of g)))
 step_holds s w r g (Comes which) real h = comes_holds s w r g (slice_get w.mail which) real (λ m e. sent_at which w.mail m e) h
-step_holds s w r g (Vacuums n) real h = (let asks = waiting_call (w.nodes n).state.wish in put_holds s w r n asks g _ h (λ member joined. vacuums_holds (place s n (w.nodes n)) asks (member_real n s.members member real) s.rules (peers s s.lmaster) (nodes_at s w) (frames_of w.mail) r (peers s n) g (starts (w.nodes n))
+step_holds s w r g (Vacuums n) real h = (let asks = waiting_call (w.nodes n).state.wish in put_holds s w r n asks g _ h (λ member joined. vacuums_holds (place s n (w.nodes n)) asks (member_real n s.members member real) s.rules (peers s s.lmaster) (nodes_at s w) (frames_of w.mail) (started r g) (peers s n) g (starts (w.nodes n))
     (peers_not s.lmaster s.members) (λ e. ap (peers s) e) (λ e. apart s w r n g h e) (begin_holds s w r n asks g joined h)))
-step_holds s w r g (Resends n) real h = (let asks = waiting_call (w.nodes n).state.wish in put_holds s w r n asks g _ h (λ member joined. resends_holds (place s n (w.nodes n)) asks (member_real n s.members member real) s.rules (peers s s.lmaster) (nodes_at s w) (frames_of w.mail) r g (starts (w.nodes n)) (begin_holds s w r n asks g joined h)))
-step_holds s w r g (Thaws n) real h = (let asks = waiting_call (w.nodes n).state.wish in put_holds s w r n asks g _ h (λ member joined. thaws_holds (place s n (w.nodes n)) asks (member_real n s.members member real) s.rules (peers s s.lmaster) (nodes_at s w) (frames_of w.mail) r g (starts (w.nodes n)) (w.nodes n).state.wish refl (λ v e. waiting_is (w.nodes n).state.wish v e) (begin_holds s w r n asks g joined h)))
+step_holds s w r g (Resends n) real h = (let asks = waiting_call (w.nodes n).state.wish in put_holds s w r n asks g _ h (λ member joined. resends_holds (place s n (w.nodes n)) asks (member_real n s.members member real) s.rules (peers s s.lmaster) (nodes_at s w) (frames_of w.mail) (started r g) g (starts (w.nodes n)) (begin_holds s w r n asks g joined h)))
+step_holds s w r g (Thaws n) real h = (let asks = waiting_call (w.nodes n).state.wish in put_holds s w r n asks g _ h (λ member joined. thaws_holds (place s n (w.nodes n)) asks (member_real n s.members member real) s.rules (peers s s.lmaster) (nodes_at s w) (frames_of w.mail) (started r g) g (starts (w.nodes n)) (w.nodes n).state.wish refl (λ v e. waiting_is (w.nodes n).state.wish v e) (unremoved s w n asks) (begin_holds s w r n asks g joined h)))
 step_holds s w r g (Ends n) real h = steps_holds s w r n (is_some (w.nodes n).state.locked) _ (unlocked (w.nodes n)) [] g h (λ f x. no_mail n f x) (λ _ joined locked. ends_world s w r n g joined locked h)
 step_holds s w r g (Leaves n) real h = steps_holds s w r n true _ (unlocked (w.nodes n)) [] g h (λ f x. no_mail n f x) (λ _ joined _. leaves_world s w r n g joined h)
 step_holds s w r g (Joins n) real h = joins_holds s w r n g h
-step_holds s w r g (Rises n next floor) real h = (let asks = waiting_call (w.nodes n).state.wish in put_holds s w r n asks g (Moves.begins (w.nodes n).state (Frames.greater (w.nodes n).next next) (Frames.greater (w.nodes n).floor floor)) h (λ member joined. rises_holds (place s n (w.nodes n)) asks (member_real n s.members member real) s.rules (peers s s.lmaster) (nodes_at s w) (frames_of w.mail) r next floor g (starts (w.nodes n)) (begin_holds s w r n asks g joined h)))
+step_holds s w r g (Rises n next floor) real h = (let asks = waiting_call (w.nodes n).state.wish in put_holds s w r n asks g (Moves.begins (w.nodes n).state (Frames.greater (w.nodes n).next next) (Frames.greater (w.nodes n).floor floor)) h (λ member joined. rises_holds (place s n (w.nodes n)) asks (member_real n s.members member real) s.rules (peers s s.lmaster) (nodes_at s w) (frames_of w.mail) (started r g) next floor g (starts (w.nodes n)) (begin_holds s w r n asks g joined h)))
 
-pub run_holds : (s : Scene) (events : List Event) (w : World) (r : Register) (g : Ghost) → list_all is_node s.members ≡ true → WorldInv s w r g → (t : Register) × (g' : Ghost) × AcceptsAll s.rules r (trace s w events) t × WorldInv s (last s w events) t g'
-run_holds s [] w r g real h = (r, g, refl, h)
+pub run_holds : (s : Scene) (events : List Event) (w : World) (r : Register) (g : Ghost) → list_all is_node s.members ≡ true → WorldInv s w r g → (t : Register) × (g' : Ghost) × AcceptsAll s.rules r (trace s w events) t × WorldInv s (last s w events) t g' × RunsOn (is_removed (trace s w events)) (span_of g) (span_of g')
+run_holds s [] w r g real h = (r, g, refl, h, runs_none (span_of g))
 run_holds s (e ∷ es) w r g real h =
     let x = step_holds s w r g e real h in
     let k = run_holds s es (happens s w e).world x.0 x.1 real x.3 in
-    (k.0, k.1, accepts_append s.rules r x.0 k.0 (happens s w e).labels (trace s (happens s w e).world es) x.2 k.2, k.3)
+    (k.0, k.1, accepts_append s.rules r x.0 k.0 (happens s w e).labels (trace s (happens s w e).world es) x.2 k.2, k.3, runs_then (happens s w e).labels (trace s (happens s w e).world es) (span_of g) (span_of x.1) (span_of k.1) x.4 k.4)

@@ -1,0 +1,107 @@
+-- The marks of a span: one for each RSN from its base to below its top.
+use Rattle.std.proofs.Common.{◌≡◌, ◌≢◌, ℕ, zero, suc, ◌+◌, ◌-◌, ◌<◌, ◌≤◌, Bool, true, false, Some, List, [], ◌∷◌, refl, sym, ap, ◌∙◌, ⊎_elim, arith, subst, nat_lt, cond}
+use Rattle.std.proofs.lemmas.Bool.{cases_eq, eq-eqb, ne_eqb, cond_both, ltb-true, lt-ltb}
+use Rattle.ct_register.specs.Marks.{Mark, Marks, Rises, RisesAfter, EndsAt, AreBelow, AreFrom, GoOn, place_of, place_below_from, MarksStep}
+use Rattle.ct_law_record.proofs.Invariant.{Span, Grows, Goes}
+use Rattle.ct_law_record.proofs.Copies.{lt_cases}
+
+-- so many marks from an RSN on
+unfoldable pub dense : (from count : ℕ) (mark : ℕ → ℕ) → List Mark
+dense from zero mark = []
+dense from (suc n) mark = record { rsn = from; place = mark (from + 1) } ∷ dense (from + 1) n mark
+
+abbrev pub marks_in : Span → Marks
+marks_in a = record { marks = dense a.base (a.top - a.base) a.mark; low = a.top }
+
+module _ (mark : ℕ → ℕ) where
+  pub dense_from : (low from n : ℕ) → low ≤ from → AreFrom low (dense from n mark)
+  unfolding dense AreFrom
+  dense_from low from zero le = tt
+  dense_from low from (suc n) le = (le, dense_from low (from + 1) n (omega arith))
+
+  pub dense_below : (high from n : ℕ) → from + n ≤ high → AreBelow high (dense from n mark)
+  unfolding dense AreBelow
+  dense_below high from zero le = tt
+  dense_below high from (suc n) le = (omega arith, dense_below high (from + 1) n (omega arith))
+
+  dense_after : (m : Mark) (from n : ℕ) → ((a b : ℕ) → a ≤ b → mark a ≤ mark b) → m.rsn < from → m.place ≤ mark from → RisesAfter m (dense from n mark)
+  unfolding dense RisesAfter
+  dense_after m from zero rises low le = tt
+  dense_after m from (suc n) rises low le = (low, (let u = rises from (from + 1) (omega arith) in omega arith), dense_after (record { rsn = from; place = mark (from + 1) }) (from + 1) n rises (omega arith) (omega arith))
+
+  pub dense_rises : (from n : ℕ) → ((a b : ℕ) → a ≤ b → mark a ≤ mark b) → Rises (dense from n mark)
+  unfolding dense Rises
+  dense_rises from zero rises = tt
+  dense_rises from (suc n) rises = dense_after (record { rsn = from; place = mark (from + 1) }) (from + 1) n rises (omega arith) (omega arith)
+
+  pub dense_ends : (count from n : ℕ) → mark (from + suc n) ≡ count → EndsAt count (dense from (suc n) mark)
+  unfolding dense EndsAt
+  dense_ends count from zero is = is
+  dense_ends count from (suc n) is = dense_ends count (from + 1) n (ap mark (let e : from + 1 + suc n ≡ from + suc (suc n) = omega arith in e) ∙ is)
+
+  pub dense_has : (rsn from n : ℕ) → from ≤ rsn → rsn < from + n → place_of rsn (dense from n mark) ≡ Some (mark (rsn + 1))
+  unfolding dense place_of
+  dense_has rsn from zero low high = absurd (omega arith)
+  dense_has rsn from (suc n) low high = ⊎_elim
+      (λ (e : from ≡ rsn). rw (eq-eqb from rsn e) (ap (λ x. Some (mark (x + 1))) e))
+      (λ (ne : from ≢ rsn). rw (ne_eqb from rsn ne) (dense_has rsn (from + 1) n (omega arith) (omega arith)))
+      (cases_eq from rsn)
+
+  -- no mark below an RSN is above the mark of its rank
+  pub dense_low : (found rsn from n : ℕ) → ((a b : ℕ) → a ≤ b → mark a ≤ mark b) → found ≤ mark rsn → place_below_from found rsn (dense from n mark) ≤ mark rsn
+  unfolding dense place_below_from
+  dense_low found rsn from zero rises le = le
+  dense_low found rsn from (suc n) rises le = cond_both (nat_lt from rsn) (mark (from + 1)) found (λ (x : ℕ). place_below_from x rsn (dense (from + 1) n mark) ≤ mark rsn)
+      (λ t. dense_low (mark (from + 1)) rsn (from + 1) n rises (rises (from + 1) rsn (let l = ltb-true from rsn t in omega arith)))
+      (λ _. dense_low found rsn (from + 1) n rises le)
+
+  dense_stays : (x found rsn from n : ℕ) → ((a b : ℕ) → a ≤ b → mark a ≤ mark b) → x ≤ found → x ≤ mark from → x ≤ place_below_from found rsn (dense from n mark)
+  unfolding dense place_below_from
+  dense_stays x found rsn from zero rises le low = le
+  dense_stays x found rsn from (suc n) rises le low = (let u = rises from (from + 1) (omega arith) in cond_both (nat_lt from rsn) (mark (from + 1)) found (λ (y : ℕ). x ≤ place_below_from y rsn (dense (from + 1) n mark))
+      (λ _. dense_stays x (mark (from + 1)) rsn (from + 1) n rises (omega arith) (omega arith))
+      (λ _. dense_stays x found rsn (from + 1) n rises le (omega arith)))
+
+  -- the greatest mark up to an RSN is at least the mark of its rank
+  pub dense_high : (found least from n : ℕ) → ((a b : ℕ) → a ≤ b → mark a ≤ mark b) → from ≤ least → mark least ≤ mark (from + suc n) → mark least ≤ place_below_from found (least + 1) (dense from (suc n) mark)
+  unfolding dense place_below_from
+  dense_high found least from zero rises low high = subst (λ (b : Bool). mark least ≤ place_below_from (cond b (mark (from + 1)) found) (least + 1) []) (sym (lt-ltb from (least + 1) (omega arith))) high
+  dense_high found least from (suc k) rises low high = subst (λ (b : Bool). mark least ≤ place_below_from (cond b (mark (from + 1)) found) (least + 1) (dense (from + 1) (suc k) mark)) (sym (lt-ltb from (least + 1) (omega arith)))
+      (⊎_elim
+      (λ (l : from < least). dense_high (mark (from + 1)) least (from + 1) k rises (omega arith) (let e : from + suc (suc k) ≡ from + 1 + suc k = omega arith in subst (λ x. mark least ≤ mark x) e high))
+      (λ (l : least ≤ from). (let u = rises least (from + 1) (omega arith) in dense_stays (mark least) (mark (from + 1)) (least + 1) (from + 1) (suc k) rises u u))
+      (lt_cases from least))
+
+-- the marks go on
+dense_goes : (low from n k : ℕ) (mark new : ℕ → ℕ) → low ≡ from + n → n ≤ k → ((x : ℕ) → x < from + n → new x ≡ mark x) → mark (from + n) ≤ new (from + n) → GoOn low (dense from n mark) (dense from k new)
+unfolding dense GoOn
+dense_goes low from zero k mark new is le same raised = dense_from new low from k (omega arith)
+dense_goes low from (suc n) zero mark new is le same raised = absurd (omega arith)
+dense_goes low from (suc zero) (suc k) mark new is le same raised = (refl, raised, dense_from new low (from + 1) k (omega arith))
+dense_goes low from (suc (suc n)) (suc k) mark new is le same raised = (
+  ap (λ (x : ℕ). record { rsn = from; place = x }) (same (from + 1) (omega arith)),
+  dense_goes low (from + 1) (suc n) k mark new (omega arith) (omega arith) (λ x l. same x (omega arith))
+      (let e : from + suc (suc n) ≡ from + 1 + suc n = omega arith in subst (λ x. mark x ≤ new x) e raised),
+)
+
+pub none_in : (a : Span) → a.top ≤ a.base → (marks_in a).marks ≡ []
+unfolding dense
+none_in a le = ap (λ n. dense a.base n a.mark) (let e : a.top - a.base ≡ 0 = omega arith in e)
+
+pub marks_grow : (a c : Span) → a.base ≤ a.top → Grows a c → MarksStep false (marks_in a) (marks_in c)
+marks_grow a c le h =
+    let up = h.top in
+    let base = h.base in
+    let all : a.base + (a.top - a.base) ≡ a.top = omega arith in (
+      subst (λ (x : ℕ). GoOn a.top (dense a.base (a.top - a.base) a.mark) (dense x (c.top - x) c.mark)) (sym base)
+          (dense_goes a.top a.base (a.top - a.base) (c.top - a.base) a.mark c.mark (omega arith) (omega arith) (λ x l. h.same x (omega arith)) (subst (λ x. a.mark x ≤ c.mark x) (sym all) h.raised)),
+      up,
+    )
+
+pub marks_go : (b : Bool) (a c : Span) → a.base ≤ a.top → Goes b a c → MarksStep b (marks_in a) (marks_in c)
+unfolding Goes
+marks_go true a c le h = (none_in c h.none, h.top)
+marks_go false a c le h = marks_grow a c le h
+
+pub marks_from : (low : ℕ) (a : Span) → low ≤ a.base → AreFrom low (marks_in a).marks
+marks_from low a le = dense_from a.mark low a.base (a.top - a.base) le
