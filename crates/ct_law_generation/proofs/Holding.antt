@@ -7,7 +7,7 @@ use Rattle.ct_msg.specs.declared.config.Config.{Config}
 use Rattle.ct_frame.specs.declared.header.RecCopy.{RecCopy}
 use Rattle.ct_call.specs.Rules.{Rules}
 use Rattle.ct_rules_node.specs.Node.{state_at, master_of}
-use Rattle.ct_cluster.specs.Cluster.{Cluster, is_up, node_at}
+use Rattle.ct_cluster.specs.Cluster.{Cluster, node_at}
 use Rattle.ct_register.specs.Register.{Register, reading}
 use Rattle.ct_register.specs.Lines.{Lines}
 use Rattle.ct_register.specs.Marks.{value_at}
@@ -18,6 +18,7 @@ use Rattle.ct_law_record.specs.World.{World, Stands, NothingIsLost}
 use Rattle.ct_law_record.specs.World as law
 use Rattle.ct_law_record.specs.Marked as law_marked
 use Rattle.ct_law_generation.specs.Shown.{Era, scene, project}
+use Rattle.ct_law_generation.proofs.Standing.{OneLine, records_stand}
 use Rattle.ct_law_generation.proofs.Seeing.{SeenWithin}
 
 -- ---- what is asked of the cluster and of the line
@@ -25,9 +26,8 @@ use Rattle.ct_law_generation.proofs.Seeing.{SeenWithin}
 -- the era's number is a line's, in which every running node is, and every node with a copy; only a location master has an
 -- entry, and nobody has seen more of a record than there is
 pub record Lined (era : Era) (w : Cluster) (r : Lines) : Type 0 where
-  pub real : era.number ≢ 0
-  pub up : (n : ℕ) → is_up n w ≡ true → r.line n ≡ era.number
-  pub has : (n db : ℕ) (key : List ℕ) (c : RecCopy) → HasCopy w n db key c → r.line n ≡ era.number
+  pub real : 1 ≤ era.number
+  pub line : OneLine era.number w r.line
   pub entry : (n db : ℕ) (key : List ℕ) → n ≢ master_of era.members key → (state_at db key (node_at n w)).entry ≡ None
   pub within : (db : ℕ) (key : List ℕ) → SeenWithin (r.records era.number db key)
 
@@ -37,29 +37,11 @@ EachHolds c era rules w r marks = (db : ℕ) (key : List ℕ) → law_marked.Hol
 
 -- ---- the cluster stands for the registers
 
-not_zero : (l g : ℕ) → l ≡ g → g ≢ 0 → l ≢ 0
-not_zero l g e ne zero = ne (sym e ∙ zero)
-
-register_is : (r : Lines) (n g db : ℕ) (key : List ℕ) → r.line n ≡ g → r.records (r.line n) db key ≡ r.records g db key
-register_is r n g db key e = ap (λ (l : ℕ). r.records l db key) e
-
-pub records_stand : (era : Era) (w : Cluster) (r : Lines) → Lined era w r → ((db : ℕ) (key : List ℕ) → Stands (project era.number db key w) (r.records era.number db key)) → RecordsStand w r
-records_stand era w r one each = record {
-  locks = λ n db key up. (let e = one.up n up in let x = each db key in let q = register_is r n era.number db key e in (
-    (λ locked. (not_zero (r.line n) era.number e one.real, ap (λ (y : Register). y.owner) q ∙ (x.locks n).0 locked)),
-    (λ owns. (x.locks n).1 (sym (ap (λ (y : Register). y.owner) q) ∙ owns.1)),
-  ));
-  masters = λ n db key c has own. (let e = one.has n db key c has in (
-    not_zero (r.line n) era.number e one.real,
-    (each db key).newest n c has own ∙ sym (ap (λ (y : Register). reading y.versions) (register_is r n era.number db key e)),
-  ));
-  one_master = λ n m db key c d up line has own has_d own_d. (each db key).only m n d c has_d own_d has own;
-  readers = λ n db key c has flags. (let e = one.has n db key c has in let q = register_is r n era.number db key e in let x = (each db key).readers n c has flags in (
-    not_zero (r.line n) era.number e one.real,
-    x.0 ∙ sym (ap (λ (y : Register). reading y.versions) q),
-    ap (λ (y : Register). y.owner) q ∙ x.1,
-  ));
-}
+stands : (era : Era) (w : Cluster) (r : Lines) → Lined era w r → ((db : ℕ) (key : List ℕ) → Stands (project era.number db key w) (r.records era.number db key)) → RecordsStand w r
+stands era w r one each = records_stand era.number w r (λ db key. project era.number db key w) (λ db key. r.records era.number db key) one.real one.line (λ db key. refl) (record {
+  shown = λ db key. record { nodes = λ n. refl; mail = refl };
+  stand = each;
+})
 
 -- ---- the marks of the line
 
@@ -139,7 +121,7 @@ has_parent g db key w r within h = record {
 -- where every world holds with its register and marks, the cluster holds with those of the line
 pub records_hold : (c : Config) (era : Era) (rules : Rules) (w : Cluster) (r : Lines) (marks : LineMarks) → Lined era w r → EachHolds c era rules w r marks → RecordsHold era.number w r marks
 records_hold c era rules w r marks one each = record {
-  stand = records_stand era w r one (λ db key. (each db key).stands);
+  stand = stands era w r one (λ db key. (each db key).stands);
   marked = marks_hold c era rules w r marks one each;
   kept = λ db key. keeps_seen era.number db key w r (each db key).kept;
   parents = λ db key. has_parent era.number db key w r (one.within db key) (each db key).kept;

@@ -2,9 +2,8 @@
 use Rattle.std.proofs.Common.{◌≡◌, ℕ, zero, suc, ◌≤◌, Bool, true, false, ◌&&◌, ◌||◌, List, [], ◌∷◌, ◌++◌, map, length, None, refl, sym, ap, ◌∙◌, arith, subst, ⊎_elim, inl, inr}
 use Rattle.std.specs.Prelude.{◌⊎◌, nat_eq, nat_lt, bytes_eq, slice_get}
 use Rattle.std.specs.List.{AllByRecursion, list_any}
-use Rattle.std.proofs.lemmas.Bool.{cond_both, and_parts, eqb-true, eq-eqb, ltb-true, ltb-false}
+use Rattle.std.proofs.lemmas.Bool.{cond_both, eq-eqb, ltb-true, ltb-false}
 use Rattle.std.proofs.lemmas.List.Folds.{list_any-append}
-use Rattle.std.proofs.lemmas.Slice.Eq.{bytes_eq-Decides}
 use Rattle.ct_msg.specs.declared.client.Answer.{Answer}
 use Rattle.ct_msg.specs.declared.client.ClientOp.{ClientOp}
 use Rattle.ct_msg.specs.declared.config.Config.{Config}
@@ -33,17 +32,10 @@ use Rattle.ct_promise.specs.Marked.{removes, is_removal, is_removed}
 use Rattle.ct_law_record.specs.Labels as law
 use Rattle.ct_law_record.specs.Marked as law_marked
 use Rattle.ct_law_generation.specs.Shown.{is_it, is_telling, told_of, told_by, told_by_all, heard, IsOfLine, labels_of}
+use Rattle.ct_law_generation.proofs.Weave.{true_or_false, it_is}
 use Rattle.ct_law_generation.proofs.Finishing.{IsNoFinish, Unfinished, Finishes}
 
 -- ---- small words
-
-pub true_or_false : (b : Bool) → (b ≡ true) ⊎ (b ≡ false)
-true_or_false true = inl refl
-true_or_false false = inr refl
-
-it_is : (db d : ℕ) (key k : List ℕ) → is_it db key d k ≡ true → (d ≡ db) × (k ≡ key)
-unfolding is_it
-it_is db d key k t = (let p = and_parts (nat_eq d db) (bytes_eq k key) t in (eqb-true d db p.0, (bytes_eq-Decides k key).0 p.1))
 
 and_none : (a : Bool) → (a && false) ≡ false
 and_none true = refl
