@@ -18,13 +18,12 @@ use Rattle.ct_rules_node.specs.Records as node
 use Rattle.ct_rules_node.specs.Records.{out_of, kept, put_back, acted, at_record, place_of}
 use Rattle.ct_rules_node.specs.Laws.{unless_blank, NodeAscends, left_by}
 use Rattle.ct_rules_node.proofs.AtRecord.{moves_at, at_set}
-use Rattle.ct_cluster.specs.Cluster.{everyone}
 use Rattle.ct_cluster.specs.Steps.{frames_of}
 use Rattle.ct_cluster.specs.declared.step.PendingCall.{PendingCall}
 use Rattle.ct_register.specs.Words.{is_in}
 use Rattle.ct_law_record.specs.Labels as law
 use Rattle.ct_law_record.specs.World.{Scene, View, Mail, World, Event, Rises, place, view_of, told, sent, Stepped, put, happens, waiting_call}
-use Rattle.ct_law_generation.specs.Shown.{scene, view, is_it, mails, told_by_all, heard, AllAsked, labels_of, Finds, amid, Comes_by}
+use Rattle.ct_law_generation.specs.Shown.{Era, scene, view, is_it, mails, told_by_all, heard, AllAsked, labels_of, Finds, amid, Comes_by}
 use Rattle.ct_law_generation.proofs.Weave.{it_is_itself}
 use Rattle.ct_law_generation.proofs.Speaking.{Told}
 use Rattle.ct_law_generation.proofs.Hearing.{frames_more, mails_more, mails_same, mails_other, labels_more, told_by_more}
@@ -48,13 +47,13 @@ if_same : {X : Type 0} (b : Bool) (x y z : X) → cond b x (cond b y z) ≡ cond
 if_same true x y z = refl
 if_same false x y z = refl
 
-pub place_is : (c : Config) (rules : Rules) (n db : ℕ) (key : List ℕ) (t : Node) → t.members ≡ everyone c → place_of c n db key t ≡ place (scene c rules db key) n (view db key t)
+pub place_is : (c : Config) (era : Era) (rules : Rules) (n db : ℕ) (key : List ℕ) (t : Node) → t.members ≡ era.members → place_of c n db key t ≡ place (scene c era rules db key) n (view db key t)
 unfolding place_of
-place_is c rules n db key t e = ap (λ (ms : List ℕ). place (record (scene c rules db key) { lmaster = master_of ms key }) n (view db key t)) e
+place_is c era rules n db key t e = ap (λ (ms : List ℕ). place (record (scene c era rules db key) { lmaster = master_of ms key }) n (view db key t)) e
 
 -- the node's own place in the world
-pub self : (db : ℕ) (key : List ℕ) (n : ℕ) (w : World) (t : Turn) → (amid db key n w t).nodes n ≡ view db key t.node
-self db key n w t = ap (λ (b : Bool). cond b (view db key t.node) (w.nodes n)) (eq-eqb n n refl)
+pub self : (g : ℕ) (db : ℕ) (key : List ℕ) (n : ℕ) (w : World) (t : Turn) → (amid g db key n w t).nodes n ≡ view db key t.node
+self g db key n w t = ap (λ (b : Bool). cond b (view db key t.node) (w.nodes n)) (eq-eqb n n refl)
 
 goes : (a j b : Bool) → a ≡ true → j ≡ true → b ≡ false → (a && j && not b) ≡ true
 goes true true false a e b = refl
@@ -72,13 +71,13 @@ list_more [] ys zs = refl
 list_more (x ∷ xs) ys zs = ap (λ (l : List _). x ∷ l) (list_more xs ys zs)
 
 -- the mail after the step, where what was sent adds this
-mail_after : (db : ℕ) (key : List ℕ) (before : List Mail) (outs more : List Out) (xs : List Mail) → mails db key (frames_of more) ≡ xs →
-    (before ++ mails db key (frames_of outs)) ++ xs ≡ before ++ mails db key (frames_of (outs ++ more))
-mail_after db key before outs more xs e =
+mail_after : (g : ℕ) (db : ℕ) (key : List ℕ) (before : List Mail) (outs more : List Out) (xs : List Mail) → mails g db key (frames_of more) ≡ xs →
+    (before ++ mails g db key (frames_of outs)) ++ xs ≡ before ++ mails g db key (frames_of (outs ++ more))
+mail_after g db key before outs more xs e =
     list_more before _ xs
-    ∙ ap (λ (l : List Mail). before ++ (mails db key (frames_of outs) ++ l)) (sym e)
-    ∙ ap (λ (l : List Mail). before ++ l) (sym (mails_more db key (frames_of outs) (frames_of more)))
-    ∙ ap (λ (l : List _). before ++ mails db key l) (sym (frames_more outs more))
+    ∙ ap (λ (l : List Mail). before ++ (mails g db key (frames_of outs) ++ l)) (sym e)
+    ∙ ap (λ (l : List Mail). before ++ l) (sym (mails_more g db key (frames_of outs) (frames_of more)))
+    ∙ ap (λ (l : List _). before ++ mails g db key l) (sym (frames_more outs more))
 
 labels_after : (db : ℕ) (key : List ℕ) (n : ℕ) (calls : List PendingCall) (outs more : List Out) (xs : List law.Label) → told_by_all db key (labels_of n calls more) ≡ xs →
     told_by_all db key (labels_of n calls (outs ++ more)) ≡ told_by_all db key (labels_of n calls outs) ++ xs
@@ -89,11 +88,12 @@ labels_after db key n calls outs more xs e =
 
 -- ---- the record of the step
 
--- what is asked of the step at a record: the node is a member and has the database, its records are in order, no number
+-- what is asked of the step at a record: the node is a member of the generation, in which it is, and has the database, its records are in order, no number
 -- reaches its limit, the state stays where it is blank, what is sent speaks of the record, and the answers are of calls
-pub record Fair (c : Config) (n db : ℕ) (key : List ℕ) (part : Place → Moving → Moving) (t : Turn) (calls : List PendingCall) (asks : ℕ → Option ClientOp) : Type 0 where
-  pub members : t.node.members ≡ everyone c
-  pub member : is_in n (everyone c) ≡ true
+pub record Fair (c : Config) (era : Era) (n db : ℕ) (key : List ℕ) (part : Place → Moving → Moving) (t : Turn) (calls : List PendingCall) (asks : ℕ → Option ClientOp) : Type 0 where
+  pub generation : t.node.generation ≡ era.number
+  pub members : t.node.members ≡ era.members
+  pub member : is_in n era.members ≡ true
   pub order : NodeAscends t.node
   pub has : db < length t.node.dbs
   pub whole : (left_by c n db key part t).spent ≡ false
@@ -103,18 +103,18 @@ pub record Fair (c : Config) (n db : ℕ) (key : List ℕ) (part : Place → Mov
   pub finds : Finds db key n calls asks
   pub asked : AllAsked (told n asks (left_by c n db key part t).acts)
 
-pub own_step : (c : Config) (rules : Rules) (n db : ℕ) (key : List ℕ) (part : Place → Moving → Moving) (t : Turn) (calls : List PendingCall) (asks : ℕ → Option ClientOp) (w : World) (e : Event) →
-    Fair c n db key part t calls asks →
-    happens (scene c rules db key) (amid db key n w t) e ≡ put (scene c rules db key) (amid db key n w t) n asks (left_by c n db key part t) →
-    Comes_by (scene c rules db key) n w calls t (at_record c n db key part t) (e ∷ [])
+pub own_step : (c : Config) (era : Era) (rules : Rules) (n db : ℕ) (key : List ℕ) (part : Place → Moving → Moving) (t : Turn) (calls : List PendingCall) (asks : ℕ → Option ClientOp) (w : World) (e : Event) →
+    Fair c era n db key part t calls asks →
+    happens (scene c era rules db key) (amid era.number db key n w t) e ≡ put (scene c era rules db key) (amid era.number db key n w t) n asks (left_by c n db key part t) →
+    Comes_by era.number (scene c era rules db key) n w calls t (at_record c n db key part t) (e ∷ [])
 unfolding at_record acted place_of
-own_step c rules n db key part t calls asks w e f h =
+own_step c era rules n db key part t calls asks w e f h =
     let o = left_by c n db key part t in
-    let all = h ∙ put_world (scene c rules db key) (amid db key n w t) n asks o f.member refl f.whole in
+    let all = h ∙ put_world (scene c era rules db key) (amid era.number db key n w t) n asks o f.member refl f.whole in
     let seen = seen_same c n db key part t o refl f.order f.has f.blank in
     let nodes : (k : ℕ) → cond (nat_eq k n) (view_of o) (cond (nat_eq k n) (view db key t.node) (w.nodes k)) ≡ cond (nat_eq k n) (view db key (at_record c n db key part t).node) (w.nodes k)
     = λ k. if_same (nat_eq k n) (view_of o) (view db key t.node) (w.nodes k) ∙ ap (λ (v : View). cond (nat_eq k n) v (w.nodes k)) (sym seen) in
-    let mail = mail_after db key w.mail t.outs (map (out_of t.node.generation n db key) o.acts) (sent n o.acts) (mails_same (place_of c n db key t.node) t.node.generation n o.acts f.sends) in
+    let mail = mail_after era.number db key w.mail t.outs (map (out_of t.node.generation n db key) o.acts) (sent n o.acts) (subst (λ (g : ℕ). mails g db key (frames_of (map (out_of t.node.generation n db key) o.acts)) ≡ sent n o.acts) f.generation (mails_same (place_of c n db key t.node) t.node.generation n o.acts f.sends)) in
     record {
       world = ap (λ (x : Stepped). x.world) all ∙ (λ i. record { nodes = λ k. nodes k i; joined = λ _. true; mail = mail i });
       labels = labels_after db key n calls t.outs (map (out_of t.node.generation n db key) o.acts) _ (hear_same db key t.node.generation n calls asks o.acts f.finds f.asked)
@@ -164,32 +164,32 @@ next_grows c n db0 key0 part t g = g.next
 rises : ℕ → List ℕ → Turn → Turn → Moving
 rises db key t u = begins (state_at db key t.node) (greater t.node.next u.node.next) (greater (db_at db t.node).floor (db_at db u.node).floor)
 
-risen : (c : Config) (n db0 db : ℕ) (key0 key : List ℕ) (part : Place → Moving → Moving) (t : Turn) (calls : List PendingCall) (asks : ℕ → Option ClientOp) → Fair c n db0 key0 part t calls asks → is_it db key db0 key0 ≡ false →
+risen : (c : Config) (era : Era) (n db0 db : ℕ) (key0 key : List ℕ) (part : Place → Moving → Moving) (t : Turn) (calls : List PendingCall) (asks : ℕ → Option ClientOp) → Fair c era n db0 key0 part t calls asks → is_it db key db0 key0 ≡ false →
     view_of (rises db key t (at_record c n db0 key0 part t)) ≡ view db key (at_record c n db0 key0 part t).node
 unfolding rises
-risen c n db0 db key0 key part t calls asks f e =
+risen c era n db0 db key0 key part t calls asks f e =
     let state = sym (other_state c n db0 db key0 key part t f.order e) in
     let next = greater_is t.node.next (at_record c n db0 key0 part t).node.next (next_grows c n db0 key0 part t f.grows) in
     let floor = greater_is (db_at db t.node).floor (db_at db (at_record c n db0 key0 part t).node).floor (other_floor c n db0 db key0 part t f.order f.has f.grows) in
     λ i. record { state = state i; next = next i; floor = floor i }
 
-rises_happens : (s : Scene) (n : ℕ) (w : World) (t u : Turn) →
-    happens s (amid s.db s.key n w t) (Rises n u.node.next (db_at s.db u.node).floor) ≡ put s (amid s.db s.key n w t) n (waiting_call (state_at s.db s.key t.node).wish) (rises s.db s.key t u)
+rises_happens : (g : ℕ) (s : Scene) (n : ℕ) (w : World) (t u : Turn) →
+    happens s (amid g s.db s.key n w t) (Rises n u.node.next (db_at s.db u.node).floor) ≡ put s (amid g s.db s.key n w t) n (waiting_call (state_at s.db s.key t.node).wish) (rises s.db s.key t u)
 unfolding rises
-rises_happens s n w t u = ap (λ (v : View). put s (amid s.db s.key n w t) n (waiting_call v.state.wish) (begins v.state (greater v.next u.node.next) (greater v.floor (db_at s.db u.node).floor))) (self s.db s.key n w t)
+rises_happens g s n w t u = ap (λ (v : View). put s (amid g s.db s.key n w t) n (waiting_call v.state.wish) (begins v.state (greater v.next u.node.next) (greater v.floor (db_at s.db u.node).floor))) (self g s.db s.key n w t)
 
-pub other_step : (c : Config) (rules : Rules) (n db0 db : ℕ) (key0 key : List ℕ) (part : Place → Moving → Moving) (t : Turn) (calls : List PendingCall) (asks : ℕ → Option ClientOp) (w : World) →
-    Fair c n db0 key0 part t calls asks → is_it db key db0 key0 ≡ false →
-    Comes_by (scene c rules db key) n w calls t (at_record c n db0 key0 part t) (Rises n (at_record c n db0 key0 part t).node.next (db_at db (at_record c n db0 key0 part t).node).floor ∷ [])
+pub other_step : (c : Config) (era : Era) (rules : Rules) (n db0 db : ℕ) (key0 key : List ℕ) (part : Place → Moving → Moving) (t : Turn) (calls : List PendingCall) (asks : ℕ → Option ClientOp) (w : World) →
+    Fair c era n db0 key0 part t calls asks → is_it db key db0 key0 ≡ false →
+    Comes_by era.number (scene c era rules db key) n w calls t (at_record c n db0 key0 part t) (Rises n (at_record c n db0 key0 part t).node.next (db_at db (at_record c n db0 key0 part t).node).floor ∷ [])
 unfolding at_record acted place_of rises sent told heard
-other_step c rules n db0 db key0 key part t calls asks w f e =
+other_step c era rules n db0 db key0 key part t calls asks w f e =
     let u = at_record c n db0 key0 part t in
     let o = left_by c n db0 key0 part t in
-    let all = rises_happens (scene c rules db key) n w t u ∙ put_world (scene c rules db key) (amid db key n w t) n (waiting_call (state_at db key t.node).wish) (rises db key t u) f.member refl refl in
-    let seen = risen c n db0 db key0 key part t calls asks f e in
+    let all = rises_happens era.number (scene c era rules db key) n w t u ∙ put_world (scene c era rules db key) (amid era.number db key n w t) n (waiting_call (state_at db key t.node).wish) (rises db key t u) f.member refl refl in
+    let seen = risen c era n db0 db key0 key part t calls asks f e in
     let nodes : (k : ℕ) → cond (nat_eq k n) (view_of (rises db key t u)) (cond (nat_eq k n) (view db key t.node) (w.nodes k)) ≡ cond (nat_eq k n) (view db key u.node) (w.nodes k)
     = λ k. if_same (nat_eq k n) (view_of (rises db key t u)) (view db key t.node) (w.nodes k) ∙ ap (λ (v : View). cond (nat_eq k n) v (w.nodes k)) seen in
-    let mail = mail_after db key w.mail t.outs (map (out_of t.node.generation n db0 key0) o.acts) [] (mails_other (place_of c n db0 key0 t.node) db key t.node.generation n o.acts e f.sends) in
+    let mail = mail_after era.number db key w.mail t.outs (map (out_of t.node.generation n db0 key0) o.acts) [] (mails_other era.number (place_of c n db0 key0 t.node) db key t.node.generation n o.acts e f.sends) in
     record {
       world = ap (λ (x : Stepped). x.world) all ∙ (λ i. record { nodes = λ k. nodes k i; joined = λ _. true; mail = mail i });
       labels = labels_after db key n calls t.outs (map (out_of t.node.generation n db0 key0) o.acts) _ (hear_other db db0 key key0 t.node.generation n calls asks o.acts e f.finds f.asked)

@@ -1,24 +1,23 @@
 -- A client's call on a record comes to a node of the cluster: it is the call of its number, and the cluster goes on.
-use Rattle.std.proofs.Common.{◌≡◌, ℕ, ◌+◌, ◌<◌, Bool, true, List, [], ◌∷◌, ◌++◌, length, refl, arith}
-use Rattle.std.specs.List.{list_all}
+use Rattle.std.proofs.Common.{◌≡◌, ℕ, ◌+◌, ◌<◌, true, List, [], ◌∷◌, ◌++◌, length, refl, arith}
 use Rattle.ct_msg.specs.declared.client.ClientOp.{ClientOp}
 use Rattle.ct_msg.specs.declared.config.Config.{Config}
-use Rattle.ct_frame.specs.Fields.{is_db, is_node}
-use Rattle.ct_frame.specs.declared.frame.Msg.{Msg}
+use Rattle.ct_frame.specs.Fields.{is_db}
 use Rattle.ct_call.specs.Rules.{Rules}
 use Rattle.ct_rules_node.specs.Turn.{Turn, begins, makes}
-use Rattle.ct_cluster.specs.Cluster.{Cluster, everyone, is_up, node_at, pending}
+use Rattle.ct_cluster.specs.Cluster.{Cluster, is_up, node_at, pending}
 use Rattle.ct_cluster.specs.Labels.{Label}
 use Rattle.ct_cluster.specs.Steps.{put}
 use Rattle.ct_register.specs.Legal.{db_of, key_of}
 use Rattle.ct_law_record.specs.World as law
-use Rattle.ct_law_generation.specs.Shown.{labels_of, Schedules}
+use Rattle.ct_law_generation.specs.Shown.{Era, labels_of, Schedules}
 use Rattle.ct_law_generation.proofs.Pending.{Callers}
 use Rattle.ct_law_generation.proofs.Delivering.{begun}
 use Rattle.ct_law_generation.proofs.Calling.{own_pending, Calls_at, Goes}
 use Rattle.ct_law_generation.proofs.Clusters.{ClusterStays}
-use Rattle.ct_law_generation.proofs.Coming.{is_member, Cluster_goes}
+use Rattle.ct_law_generation.proofs.Coming.{Cluster_goes}
 use Rattle.ct_law_generation.proofs.Counting.{with_caller, own_caller, more_calls, turn_goes}
+use Rattle.ct_law_generation.proofs.Following.{IsEra, asks_here}
 
 -- the cluster with one call more
 abbrev pub counted : Cluster → Cluster
@@ -29,32 +28,32 @@ abbrev pub called_by : ℕ → ClientOp → Cluster → Callers → Callers
 called_by n asked w who = with_caller (w.calls + 1) (n, asked) who
 
 -- it shows the same
-pub counted_schedules : (c : Config) (rules : Rules) (w : Cluster) (labels : List Label) (es : ℕ → List ℕ → List law.Event) → Schedules c rules w labels es → Schedules c rules (counted w) labels es
+pub counted_schedules : (c : Config) (era : Era) (rules : Rules) (w : Cluster) (labels : List Label) (es : ℕ → List ℕ → List law.Event) → Schedules c era rules w labels es → Schedules c era rules (counted w) labels es
 unfolding node_at
-counted_schedules c rules w labels es h = h
+counted_schedules c era rules w labels es h = h
 
 -- the call comes to a record of a node that runs
-pub calls_at : (c : Config) (rules : Rules) (p : Msg → Bool) (who : Callers) (w : Cluster) (n db : ℕ) (key : List ℕ) (asked : ClientOp) (labels : List Label) (es : ℕ → List ℕ → List law.Event) → list_all is_node (everyone c) ≡ true →
-    ((d : ℕ) → d < length c.dbs → is_db d ≡ true) → ClusterStays c rules p who w → Schedules c rules w labels es → is_up n w ≡ true → db < length c.dbs → db_of asked ≡ db → key_of asked ≡ key →
-    Calls_at c rules (called_by n asked w who) (w.calls + 1) n db (w.calls + 1) key asked (counted w)
-calls_at c rules p who w n db key asked labels es real small h sched up inside of_db of_key = record {
+pub calls_at : (c : Config) (era : Era) (rules : Rules) (who : Callers) (w : Cluster) (n db : ℕ) (key : List ℕ) (asked : ClientOp) (labels : List Label) (es : ℕ → List ℕ → List law.Event) → IsEra c era →
+    ((d : ℕ) → d < length c.dbs → is_db d ≡ true) → ClusterStays c era rules who w → Schedules c era rules w labels es → is_up n w ≡ true → db < length c.dbs → db_of asked ≡ db → key_of asked ≡ key →
+    Calls_at c era rules (called_by n asked w who) (w.calls + 1) n db (w.calls + 1) key asked (counted w)
+calls_at c era rules who w n db key asked labels es real small h sched up inside of_db of_key = record {
   real = real;
   small = small db inside;
-  member = is_member c n (h.up n up);
-  stays = (more_calls c rules p who (n, asked) w h).nodes n (h.up n up);
+  member = h.up n up;
+  stays = (more_calls c era rules who (n, asked) w h).nodes n (h.up n up);
   inside = inside;
   own = own_caller (w.calls + 1) (n, asked) who;
   counted = omega arith;
   of_db = of_db;
   of_key = of_key;
-  reached = (es db key, (counted_schedules c rules w labels es sched db key).0);
+  lawful = asks_here c era rules (counted w) labels es real (counted_schedules c era rules w labels es sched) db key;
 }
 
 -- and where the node goes on so, the cluster does
-pub call_goes : (c : Config) (rules : Rules) (p : Msg → Bool) (who : Callers) (w : Cluster) (n : ℕ) (asked : ClientOp) (u : Turn) (labels : List Label) (es : ℕ → List ℕ → List law.Event) → ClusterStays c rules p who w → Schedules c rules w labels es → is_up n w ≡ true →
-    Goes c rules (called_by n asked w who) (w.calls + 1) n (w.calls + 1) asked (counted w) u →
-    Cluster_goes c rules p (called_by n asked w who) (put n u [] (counted w)).cluster (labels ++ labels_of n (own_pending n (w.calls + 1) asked ∷ pending (counted w)) u.outs)
+pub call_goes : (c : Config) (era : Era) (rules : Rules) (who : Callers) (w : Cluster) (n : ℕ) (asked : ClientOp) (u : Turn) (labels : List Label) (es : ℕ → List ℕ → List law.Event) → ClusterStays c era rules who w → Schedules c era rules w labels es → is_up n w ≡ true →
+    Goes c era rules (called_by n asked w who) (w.calls + 1) n (w.calls + 1) asked (counted w) u →
+    Cluster_goes c era rules (called_by n asked w who) (put n u [] (counted w)).cluster (labels ++ labels_of n (own_pending n (w.calls + 1) asked ∷ pending (counted w)) u.outs)
 unfolding makes
-call_goes c rules p who w n asked u labels es h sched up g =
-    turn_goes c rules p (called_by n asked w who) (counted w) n (makes (w.calls + 1) (begins (node_at n (counted w)))) u (own_pending n (w.calls + 1) asked ∷ pending (counted w)) labels es (h.up n up) refl
-    (λ db key. begun db key n (counted w)) (more_calls c rules p who (n, asked) w h) (counted_schedules c rules w labels es sched) g
+call_goes c era rules who w n asked u labels es h sched up g =
+    turn_goes c era rules (called_by n asked w who) (counted w) n (makes (w.calls + 1) (begins (node_at n (counted w)))) u (own_pending n (w.calls + 1) asked ∷ pending (counted w)) labels es (h.up n up) refl
+    (λ db key. begun era.number db key n (counted w)) (more_calls c era rules who (n, asked) w h) (counted_schedules c era rules w labels es sched) g

@@ -1,12 +1,11 @@
 -- A client's call on a record that is not refused.
 use Rattle.std.proofs.Common.{◌≡◌, ℕ, ◌<◌, ◌≤◌, Bool, true, false, cond, List, [], ◌∷◌, length, Option, Some, None, refl, sym, ap, ◌∙◌, subst}
 use Rattle.std.specs.Prelude.{nat_eq, is_some}
-use Rattle.std.specs.List.{list_all}
 use Rattle.std.proofs.lemmas.Bool.{cond_both, eqb-true, eq-eqb}
 use Rattle.ct_msg.specs.declared.client.ClientOp.{ClientOp}
 use Rattle.ct_msg.specs.declared.client.ClientOp.TheVariants as op
 use Rattle.ct_msg.specs.declared.config.Config.{Config}
-use Rattle.ct_frame.specs.Fields.{is_db, is_node}
+use Rattle.ct_frame.specs.Fields.{is_db}
 use Rattle.ct_call.specs.Rules.{Rules}
 use Rattle.ct_rules.specs.Form.{MayCome}
 use Rattle.ct_rules.specs.Sent.{is_from_node}
@@ -19,20 +18,20 @@ use Rattle.ct_rules_node.specs.Turn.{Turn, begins, makes}
 use Rattle.ct_rules_node.specs.Records as node
 use Rattle.ct_rules_node.specs.Records.{at_record, place_of}
 use Rattle.ct_rules_node.specs.Laws.{left_by}
-use Rattle.ct_cluster.specs.Cluster.{Cluster, everyone, node_at, pending}
+use Rattle.ct_cluster.specs.Cluster.{Cluster, node_at, pending}
 use Rattle.ct_cluster.specs.Labels.{Answered}
 use Rattle.ct_cluster.specs.Traces.{answered}
 use Rattle.ct_cluster.specs.declared.step.PendingCall.{PendingCall}
 use Rattle.ct_register.specs.Legal.{db_of, key_of}
 use Rattle.ct_register.specs.Words.{is_in}
-use Rattle.ct_law_record.specs.World.{Event, Wants, Stores, Unlocks, happens, put, place, own_call, may_want}
-use Rattle.ct_law_generation.specs.Shown.{scene, view, project, amid, Finds}
+use Rattle.ct_law_record.specs.World.{World, Event, Wants, Stores, Unlocks, happens, put, place, own_call, may_want}
+use Rattle.ct_law_generation.specs.Shown.{Era, scene, view, project, amid, Finds}
 use Rattle.ct_law_generation.proofs.Wishing.{Wishful, want_wish, store_wish, unlock_wish}
 use Rattle.ct_law_generation.proofs.Pending.{Callers, Known, KnownAt}
 use Rattle.ct_law_generation.proofs.Forming.{may_want_comes}
 use Rattle.ct_law_generation.proofs.Staying.{NodeStays}
 use Rattle.ct_law_generation.proofs.Events.{wants_happen, stores_happen, unlocks_happen}
-use Rattle.ct_law_generation.proofs.Following.{Reached, Goes_on, follows}
+use Rattle.ct_law_generation.proofs.Following.{Asks, IsEra, Goes_on, follows}
 use Rattle.ct_law_generation.proofs.Delivering.{begun, whole_part}
 
 -- the call that comes, before those that wait
@@ -52,31 +51,31 @@ finds_own n db call key asked calls d k = record {
 }
 
 -- what is known when a call comes to a record of the node: it is the call of its number
-pub record Calls_at (c : Config) (rules : Rules) (who : Callers) (calls n db call : ℕ) (key : List ℕ) (asked : ClientOp) (w : Cluster) : Type 0 where
-  pub real : list_all is_node (everyone c) ≡ true
+pub record Calls_at (c : Config) (era : Era) (rules : Rules) (who : Callers) (calls n db call : ℕ) (key : List ℕ) (asked : ClientOp) (w : Cluster) : Type 0 where
+  pub real : IsEra c era
   pub small : is_db db ≡ true
-  pub member : is_in n (everyone c) ≡ true
-  pub stays : NodeStays c rules who calls n (node_at n w)
+  pub member : is_in n era.members ≡ true
+  pub stays : NodeStays c era rules who calls n (node_at n w)
   pub inside : db < length c.dbs
   pub own : who call ≡ (n, asked)
   pub counted : call ≤ calls
   pub of_db : db_of asked ≡ db
   pub of_key : key_of asked ≡ key
-  pub reached : Reached (scene c rules db key) (project db key w)
+  pub lawful : Asks (scene c era rules db key) (project era.number db key w)
 
 -- the node stays as it was, and the world of every record follows
-abbrev pub Goes : Config → Rules → Callers → ℕ → ℕ → ℕ → ClientOp → Cluster → Turn → Type 0
-Goes c rules who calls n call asked w u =
-    Goes_on c rules who calls n (own_pending n call asked ∷ pending w) (λ db key. project db key w) (makes call (begins (node_at n w))) u
+abbrev pub Goes : Config → Era → Rules → Callers → ℕ → ℕ → ℕ → ClientOp → Cluster → Turn → Type 0
+Goes c era rules who calls n call asked w u =
+    Goes_on c era rules who calls n (own_pending n call asked ∷ pending w) (λ db key. project era.number db key w) (makes call (begins (node_at n w))) u
 
-at_call : (c : Config) (rules : Rules) (who : Callers) (calls n db call : ℕ) (key : List ℕ) (asked : ClientOp) (w : Cluster) (e : MoveEvent) (ev : Event) → Calls_at c rules who calls n db call key asked w →
-    MayCome (place (scene c rules db key) n (view db key (node_at n w))) (state_at db key (node_at n w)) e → is_from_node e ≡ true →
+at_call : (c : Config) (era : Era) (rules : Rules) (who : Callers) (calls n db call : ℕ) (key : List ℕ) (asked : ClientOp) (w : Cluster) (e : MoveEvent) (ev : Event) → Calls_at c era rules who calls n db call key asked w →
+    MayCome (place (scene c era rules db key) n (view db key (node_at n w))) (state_at db key (node_at n w)) e → is_from_node e ≡ true →
     Wishful (Known who calls n db key) (left_by c n db key (λ at o. move at rules e o) (begins (node_at n w))).state.wish →
-    happens (scene c rules db key) (amid db key n (project db key w) (begins (node_at n w))) ev ≡ put (scene c rules db key) (amid db key n (project db key w) (begins (node_at n w))) n (own_call call asked) (left_by c n db key (λ at o. move at rules e o) (begins (node_at n w))) →
-    (at_record c n db key (λ at o. move at rules e o) (makes call (begins (node_at n w)))).spent ≡ false → Goes c rules who calls n call asked w (at_record c n db key (λ at o. move at rules e o) (makes call (begins (node_at n w))))
+    happens (scene c era rules db key) (amid era.number db key n (project era.number db key w) (begins (node_at n w))) ev ≡ put (scene c era rules db key) (amid era.number db key n (project era.number db key w) (begins (node_at n w))) n (own_call call asked) (left_by c n db key (λ at o. move at rules e o) (begins (node_at n w))) →
+    (at_record c n db key (λ at o. move at rules e o) (makes call (begins (node_at n w)))).spent ≡ false → Goes c era rules who calls n call asked w (at_record c n db key (λ at o. move at rules e o) (makes call (begins (node_at n w))))
 unfolding makes
-at_call c rules who calls n db call key asked w e ev h may from known is spent =
-    follows c rules who calls n db key e (makes call (begins (node_at n w))) (own_pending n call asked ∷ pending w) (own_call call asked) (λ db key. project db key w) ev h.real h.member h.stays (record {
+at_call c era rules who calls n db call key asked w e ev h may from known is spent =
+    follows c era rules who calls n db key e (makes call (begins (node_at n w))) (own_pending n call asked ∷ pending w) (own_call call asked) (λ db key. project era.number db key w) ev h.real h.member h.stays (record {
       has = h.small;
       there = subst (λ (l : ℕ). db < l) (sym h.stays.size) h.inside;
       may = may;
@@ -84,40 +83,40 @@ at_call c rules who calls n db call key asked w e ev h may from known is spent =
       whole = whole_part c n db key (λ at o. move at rules e o) (makes call (begins (node_at n w))) spent;
       known = known;
       finds = finds_own n db call key asked (pending w) h.of_db h.of_key;
-      reached = (h.reached.0, h.reached.1 ∙ begun db key n w);
+      lawful = subst (λ (v : World). Asks (scene c era rules db key) v) (begun era.number db key n w) h.lawful;
       is_event = is;
     })
 
-wished_before : (c : Config) (rules : Rules) (who : Callers) (calls n db call : ℕ) (key : List ℕ) (asked : ClientOp) (w : Cluster) → Calls_at c rules who calls n db call key asked w → Wishful (Known who calls n db key) (state_at db key (node_at n w)).wish
+wished_before : (c : Config) (era : Era) (rules : Rules) (who : Callers) (calls n db call : ℕ) (key : List ℕ) (asked : ClientOp) (w : Cluster) → Calls_at c era rules who calls n db call key asked w → Wishful (Known who calls n db key) (state_at db key (node_at n w)).wish
 unfolding KnownAt state_at
-wished_before c rules who calls n db call key asked w h = (h.stays.known.dbs db).records key
+wished_before c era rules who calls n db call key asked w h = (h.stays.known.dbs db).records key
 
 -- a lock, a read, a write or a function
-pub wants_follows : (c : Config) (rules : Rules) (who : Callers) (calls n db call : ℕ) (key : List ℕ) (asked : ClientOp) (w : Cluster) → Calls_at c rules who calls n db call key asked w →
+pub wants_follows : (c : Config) (era : Era) (rules : Rules) (who : Callers) (calls n db call : ℕ) (key : List ℕ) (asked : ClientOp) (w : Cluster) → Calls_at c era rules who calls n db call key asked w →
     may_want (state_at db key (node_at n w)) asked ≡ true → (at_record c n db key (λ at o. want at rules call asked o) (makes call (begins (node_at n w)))).spent ≡ false →
-    Goes c rules who calls n call asked w (at_record c n db key (λ at o. want at rules call asked o) (makes call (begins (node_at n w))))
+    Goes c era rules who calls n call asked w (at_record c n db key (λ at o. want at rules call asked o) (makes call (begins (node_at n w))))
 unfolding node.view Known
-wants_follows c rules who calls n db call key asked w h may spent =
-    at_call c rules who calls n db call key asked w (event.Want call asked) (Wants n call asked) h (may_want_comes (scene c rules db key) n call (view db key (node_at n w)) asked may) refl
-    (want_wish (Known who calls n db key) (place_of c n db key (node_at n w)) rules call asked (node.view db key (node_at n w)) (h.own, h.counted, h.of_db, h.of_key) (wished_before c rules who calls n db call key asked w h))
-    (wants_happen c rules n db call key asked (begins (node_at n w)) (project db key w) h.stays.members may) spent
+wants_follows c era rules who calls n db call key asked w h may spent =
+    at_call c era rules who calls n db call key asked w (event.Want call asked) (Wants n call asked) h (may_want_comes (scene c era rules db key) n call (view db key (node_at n w)) asked may) refl
+    (want_wish (Known who calls n db key) (place_of c n db key (node_at n w)) rules call asked (node.view db key (node_at n w)) (h.own, h.counted, h.of_db, h.of_key) (wished_before c era rules who calls n db call key asked w h))
+    (wants_happen c era rules n db call key asked (begins (node_at n w)) (project era.number db key w) h.stays.knows may) spent
 
 -- a store
-pub stores_follows : (c : Config) (rules : Rules) (who : Callers) (calls n db call : ℕ) (key v : List ℕ) (w : Cluster) → Calls_at c rules who calls n db call key (op.Store db key v) w →
+pub stores_follows : (c : Config) (era : Era) (rules : Rules) (who : Callers) (calls n db call : ℕ) (key v : List ℕ) (w : Cluster) → Calls_at c era rules who calls n db call key (op.Store db key v) w →
     is_some (state_at db key (node_at n w)).locked ≡ true → (at_record c n db key (λ at o. store call v o) (makes call (begins (node_at n w)))).spent ≡ false →
-    Goes c rules who calls n call (op.Store db key v) w (at_record c n db key (λ at o. store call v o) (makes call (begins (node_at n w))))
+    Goes c era rules who calls n call (op.Store db key v) w (at_record c n db key (λ at o. store call v o) (makes call (begins (node_at n w))))
 unfolding node.view
-stores_follows c rules who calls n db call key v w h locked spent =
-    at_call c rules who calls n db call key (op.Store db key v) w (event.Store call v) (Stores n call v) h locked refl
-    (store_wish (Known who calls n db key) call v (node.view db key (node_at n w)) (wished_before c rules who calls n db call key (op.Store db key v) w h))
-    (stores_happen c rules n db call key v (begins (node_at n w)) (project db key w) h.stays.members locked) spent
+stores_follows c era rules who calls n db call key v w h locked spent =
+    at_call c era rules who calls n db call key (op.Store db key v) w (event.Store call v) (Stores n call v) h locked refl
+    (store_wish (Known who calls n db key) call v (node.view db key (node_at n w)) (wished_before c era rules who calls n db call key (op.Store db key v) w h))
+    (stores_happen c era rules n db call key v (begins (node_at n w)) (project era.number db key w) h.stays.knows locked) spent
 
 -- an unlock
-pub unlocks_follows : (c : Config) (rules : Rules) (who : Callers) (calls n db call : ℕ) (key : List ℕ) (w : Cluster) → Calls_at c rules who calls n db call key (op.Unlock db key) w →
+pub unlocks_follows : (c : Config) (era : Era) (rules : Rules) (who : Callers) (calls n db call : ℕ) (key : List ℕ) (w : Cluster) → Calls_at c era rules who calls n db call key (op.Unlock db key) w →
     is_some (state_at db key (node_at n w)).locked ≡ true → (at_record c n db key (λ at o. unlock at call o) (makes call (begins (node_at n w)))).spent ≡ false →
-    Goes c rules who calls n call (op.Unlock db key) w (at_record c n db key (λ at o. unlock at call o) (makes call (begins (node_at n w))))
+    Goes c era rules who calls n call (op.Unlock db key) w (at_record c n db key (λ at o. unlock at call o) (makes call (begins (node_at n w))))
 unfolding node.view
-unlocks_follows c rules who calls n db call key w h locked spent =
-    at_call c rules who calls n db call key (op.Unlock db key) w (event.Unlock call) (Unlocks n call) h locked refl
-    (unlock_wish (Known who calls n db key) (place_of c n db key (node_at n w)) call (node.view db key (node_at n w)) (wished_before c rules who calls n db call key (op.Unlock db key) w h))
-    (unlocks_happen c rules n db call key (begins (node_at n w)) (project db key w) h.stays.members locked) spent
+unlocks_follows c era rules who calls n db call key w h locked spent =
+    at_call c era rules who calls n db call key (op.Unlock db key) w (event.Unlock call) (Unlocks n call) h locked refl
+    (unlock_wish (Known who calls n db key) (place_of c n db key (node_at n w)) call (node.view db key (node_at n w)) (wished_before c era rules who calls n db call key (op.Unlock db key) w h))
+    (unlocks_happen c era rules n db call key (begins (node_at n w)) (project era.number db key w) h.stays.knows locked) spent

@@ -20,21 +20,20 @@ use Rattle.ct_rules_node.specs.Records.{at_record, place_of}
 use Rattle.ct_rules_node.specs.Admission.{record_in, is_current}
 use Rattle.ct_rules_node.specs.Steps.{arrives, on_record_of}
 use Rattle.ct_rules_node.specs.Laws.{left_by}
-use Rattle.ct_cluster.specs.Cluster.{everyone}
 use Rattle.ct_cluster.specs.declared.step.PendingCall.{PendingCall}
 use Rattle.ct_law_record.specs.World.{View, Mail, World, Event, Wants, Stores, Unlocks, Comes, place, starts, may_want, own_call, waiting_call, put, comes, happens}
-use Rattle.ct_law_generation.specs.Shown.{scene, view, is_it, amid, Follows}
+use Rattle.ct_law_generation.specs.Shown.{Era, scene, view, is_it, amid, Follows}
 use Rattle.ct_law_generation.proofs.Weave.{it_is, true_or_false}
 use Rattle.ct_law_generation.proofs.Amid.{self, place_is, Fair, own_step, other_step}
 
 -- the rule of the record, at the node's place in the world and at the node
-moved_at : (c : Config) (rules : Rules) (n db : ℕ) (key : List ℕ) (e : MoveEvent) (t : Turn) (w : World) (asks : View → ℕ → Option ClientOp) → t.node.members ≡ everyone c →
-    put (scene c rules db key) (amid db key n w t) n (asks ((amid db key n w t).nodes n)) (move (place (scene c rules db key) n ((amid db key n w t).nodes n)) rules e (starts ((amid db key n w t).nodes n)))
-    ≡ put (scene c rules db key) (amid db key n w t) n (asks (view db key t.node)) (left_by c n db key (λ at o. move at rules e o) t)
+moved_at : (c : Config) (era : Era) (rules : Rules) (n db : ℕ) (key : List ℕ) (e : MoveEvent) (t : Turn) (w : World) (asks : View → ℕ → Option ClientOp) → t.node.members ≡ era.members →
+    put (scene c era rules db key) (amid era.number db key n w t) n (asks ((amid era.number db key n w t).nodes n)) (move (place (scene c era rules db key) n ((amid era.number db key n w t).nodes n)) rules e (starts ((amid era.number db key n w t).nodes n)))
+    ≡ put (scene c era rules db key) (amid era.number db key n w t) n (asks (view db key t.node)) (left_by c n db key (λ at o. move at rules e o) t)
 unfolding node.view
-moved_at c rules n db key e t w asks h =
-    ap (λ (v : View). put (scene c rules db key) (amid db key n w t) n (asks v) (move (place (scene c rules db key) n v) rules e (starts v))) (self db key n w t)
-    ∙ ap (λ (p : Place). put (scene c rules db key) (amid db key n w t) n (asks (view db key t.node)) (move p rules e (starts (view db key t.node)))) (sym (place_is c rules n db key t.node h))
+moved_at c era rules n db key e t w asks h =
+    ap (λ (v : View). put (scene c era rules db key) (amid era.number db key n w t) n (asks v) (move (place (scene c era rules db key) n v) rules e (starts v))) (self era.number db key n w t)
+    ∙ ap (λ (p : Place). put (scene c era rules db key) (amid era.number db key n w t) n (asks (view db key t.node)) (move p rules e (starts (view db key t.node)))) (sym (place_is c era rules n db key t.node h))
 
 -- what a guard that holds lets through
 guarded : {X : Type 0} (b : Bool) (x y : X) → b ≡ true → cond b x y ≡ x
@@ -47,44 +46,44 @@ shut false x y e = refl
 
 -- ---- every event at the record
 
-pub wants_happen : (c : Config) (rules : Rules) (n db call : ℕ) (key : List ℕ) (asked : ClientOp) (t : Turn) (w : World) → t.node.members ≡ everyone c → may_want (state_at db key t.node) asked ≡ true →
-    happens (scene c rules db key) (amid db key n w t) (Wants n call asked) ≡ put (scene c rules db key) (amid db key n w t) n (own_call call asked) (left_by c n db key (λ at o. want at rules call asked o) t)
-wants_happen c rules n db call key asked t w h m =
-    guarded (may_want ((amid db key n w t).nodes n).state asked) _ _ (ap (λ (v : View). may_want v.state asked) (self db key n w t) ∙ m)
-    ∙ moved_at c rules n db key (event.Want call asked) t w (λ _. own_call call asked) h
+pub wants_happen : (c : Config) (era : Era) (rules : Rules) (n db call : ℕ) (key : List ℕ) (asked : ClientOp) (t : Turn) (w : World) → t.node.members ≡ era.members → may_want (state_at db key t.node) asked ≡ true →
+    happens (scene c era rules db key) (amid era.number db key n w t) (Wants n call asked) ≡ put (scene c era rules db key) (amid era.number db key n w t) n (own_call call asked) (left_by c n db key (λ at o. want at rules call asked o) t)
+wants_happen c era rules n db call key asked t w h m =
+    guarded (may_want ((amid era.number db key n w t).nodes n).state asked) _ _ (ap (λ (v : View). may_want v.state asked) (self era.number db key n w t) ∙ m)
+    ∙ moved_at c era rules n db key (event.Want call asked) t w (λ _. own_call call asked) h
 
-pub stores_happen : (c : Config) (rules : Rules) (n db call : ℕ) (key v : List ℕ) (t : Turn) (w : World) → t.node.members ≡ everyone c → is_some (state_at db key t.node).locked ≡ true →
-    happens (scene c rules db key) (amid db key n w t) (Stores n call v) ≡ put (scene c rules db key) (amid db key n w t) n (own_call call (op.Store db key v)) (left_by c n db key (λ at o. store call v o) t)
-stores_happen c rules n db call key v t w h m =
-    guarded (is_some ((amid db key n w t).nodes n).state.locked) _ _ (ap (λ (x : View). is_some x.state.locked) (self db key n w t) ∙ m)
-    ∙ moved_at c rules n db key (event.Store call v) t w (λ _. own_call call (op.Store db key v)) h
+pub stores_happen : (c : Config) (era : Era) (rules : Rules) (n db call : ℕ) (key v : List ℕ) (t : Turn) (w : World) → t.node.members ≡ era.members → is_some (state_at db key t.node).locked ≡ true →
+    happens (scene c era rules db key) (amid era.number db key n w t) (Stores n call v) ≡ put (scene c era rules db key) (amid era.number db key n w t) n (own_call call (op.Store db key v)) (left_by c n db key (λ at o. store call v o) t)
+stores_happen c era rules n db call key v t w h m =
+    guarded (is_some ((amid era.number db key n w t).nodes n).state.locked) _ _ (ap (λ (x : View). is_some x.state.locked) (self era.number db key n w t) ∙ m)
+    ∙ moved_at c era rules n db key (event.Store call v) t w (λ _. own_call call (op.Store db key v)) h
 
-pub unlocks_happen : (c : Config) (rules : Rules) (n db call : ℕ) (key : List ℕ) (t : Turn) (w : World) → t.node.members ≡ everyone c → is_some (state_at db key t.node).locked ≡ true →
-    happens (scene c rules db key) (amid db key n w t) (Unlocks n call) ≡ put (scene c rules db key) (amid db key n w t) n (own_call call (op.Unlock db key)) (left_by c n db key (λ at o. unlock at call o) t)
-unlocks_happen c rules n db call key t w h m =
-    guarded (is_some ((amid db key n w t).nodes n).state.locked) _ _ (ap (λ (x : View). is_some x.state.locked) (self db key n w t) ∙ m)
-    ∙ moved_at c rules n db key (event.Unlock call) t w (λ _. own_call call (op.Unlock db key)) h
+pub unlocks_happen : (c : Config) (era : Era) (rules : Rules) (n db call : ℕ) (key : List ℕ) (t : Turn) (w : World) → t.node.members ≡ era.members → is_some (state_at db key t.node).locked ≡ true →
+    happens (scene c era rules db key) (amid era.number db key n w t) (Unlocks n call) ≡ put (scene c era rules db key) (amid era.number db key n w t) n (own_call call (op.Unlock db key)) (left_by c n db key (λ at o. unlock at call o) t)
+unlocks_happen c era rules n db call key t w h m =
+    guarded (is_some ((amid era.number db key n w t).nodes n).state.locked) _ _ (ap (λ (x : View). is_some x.state.locked) (self era.number db key n w t) ∙ m)
+    ∙ moved_at c era rules n db key (event.Unlock call) t w (λ _. own_call call (op.Unlock db key)) h
 
-pub comes_happen : (c : Config) (rules : Rules) (n db which sender : ℕ) (key : List ℕ) (m : Msg) (t : Turn) (w : World) → t.node.members ≡ everyone c →
-    slice_get (amid db key n w t).mail which ≡ Some (record { sender = sender; receiver = n; msg = m }) →
-    happens (scene c rules db key) (amid db key n w t) (Comes which) ≡ put (scene c rules db key) (amid db key n w t) n (waiting_call (state_at db key t.node).wish) (left_by c n db key (λ at o. arrive at rules sender m o) t)
-comes_happen c rules n db which sender key m t w h e =
-    ap (λ (x : Option Mail). comes (scene c rules db key) (amid db key n w t) x) e
-    ∙ moved_at c rules n db key (event.Arrive sender m) t w (λ v. waiting_call v.state.wish) h
+pub comes_happen : (c : Config) (era : Era) (rules : Rules) (n db which sender : ℕ) (key : List ℕ) (m : Msg) (t : Turn) (w : World) → t.node.members ≡ era.members →
+    slice_get (amid era.number db key n w t).mail which ≡ Some (record { sender = sender; receiver = n; msg = m }) →
+    happens (scene c era rules db key) (amid era.number db key n w t) (Comes which) ≡ put (scene c era rules db key) (amid era.number db key n w t) n (waiting_call (state_at db key t.node).wish) (left_by c n db key (λ at o. arrive at rules sender m o) t)
+comes_happen c era rules n db which sender key m t w h e =
+    ap (λ (x : Option Mail). comes (scene c era rules db key) (amid era.number db key n w t) x) e
+    ∙ moved_at c era rules n db key (event.Arrive sender m) t w (λ v. waiting_call v.state.wish) h
 
 -- ---- from the step of the node to each record
 
 -- what is told of the step at one record holds of each: of its own by this event, and of all others as the numbers rise
-pub each_follows : (c : Config) (rules : Rules) (n db0 : ℕ) (key0 : List ℕ) (part : Place → Moving → Moving) (t : Turn) (calls : List PendingCall) (asks : ℕ → Option ClientOp) (ws : ℕ → List ℕ → World) (e : Event) →
-    Fair c n db0 key0 part t calls asks →
-    happens (scene c rules db0 key0) (amid db0 key0 n (ws db0 key0) t) e ≡ put (scene c rules db0 key0) (amid db0 key0 n (ws db0 key0) t) n asks (left_by c n db0 key0 part t) →
-    (db : ℕ) (key : List ℕ) → Follows (scene c rules db key) n (ws db key) calls t (at_record c n db0 key0 part t)
-each_follows c rules n db0 key0 part t calls asks ws e f h db key = ⊎_elim
+pub each_follows : (c : Config) (era : Era) (rules : Rules) (n db0 : ℕ) (key0 : List ℕ) (part : Place → Moving → Moving) (t : Turn) (calls : List PendingCall) (asks : ℕ → Option ClientOp) (ws : ℕ → List ℕ → World) (e : Event) →
+    Fair c era n db0 key0 part t calls asks →
+    happens (scene c era rules db0 key0) (amid era.number db0 key0 n (ws db0 key0) t) e ≡ put (scene c era rules db0 key0) (amid era.number db0 key0 n (ws db0 key0) t) n asks (left_by c n db0 key0 part t) →
+    (db : ℕ) (key : List ℕ) → Follows era.number (scene c era rules db key) n (ws db key) calls t (at_record c n db0 key0 part t)
+each_follows c era rules n db0 key0 part t calls asks ws e f h db key = ⊎_elim
     (λ (is : is_it db key db0 key0 ≡ true). (let p = it_is db db0 key key0 is in
-    subst (λ (k : List ℕ). Follows (scene c rules db k) n (ws db k) calls t (at_record c n db0 key0 part t)) p.1
-    (subst (λ (d : ℕ). Follows (scene c rules d key0) n (ws d key0) calls t (at_record c n db0 key0 part t)) p.0
-    (e ∷ [], own_step c rules n db0 key0 part t calls asks (ws db0 key0) e f h))))
-    (λ (unlike : is_it db key db0 key0 ≡ false). (_, other_step c rules n db0 db key0 key part t calls asks (ws db key) f unlike))
+    subst (λ (k : List ℕ). Follows era.number (scene c era rules db k) n (ws db k) calls t (at_record c n db0 key0 part t)) p.1
+    (subst (λ (d : ℕ). Follows era.number (scene c era rules d key0) n (ws d key0) calls t (at_record c n db0 key0 part t)) p.0
+    (e ∷ [], own_step c era rules n db0 key0 part t calls asks (ws db0 key0) e f h))))
+    (λ (unlike : is_it db key db0 key0 ≡ false). (_, other_step c era rules n db0 db key0 key part t calls asks (ws db key) f unlike))
     (true_or_false (is_it db key db0 key0))
 
 -- ---- a message of a record

@@ -1,5 +1,7 @@
 -- What a step at one record tells of that record and of others.
 use Rattle.std.proofs.Common.{◌≡◌, ℕ, ◌+◌, Bool, true, false, List, [], ◌∷◌, ◌++◌, map, Some, refl, ap, ◌∙◌, subst}
+use Rattle.std.specs.Prelude.{nat_eq, ◌&&◌}
+use Rattle.std.proofs.lemmas.Bool.{and_from, eq-eqb}
 use Rattle.ct_msg.specs.declared.client.Answer.{Answer}
 use Rattle.ct_msg.specs.declared.client.Answer.TheVariants as answer
 use Rattle.ct_msg.specs.declared.client.ClientOp.{ClientOp}
@@ -118,10 +120,10 @@ list_more : {X : Type 0} (xs ys zs : List X) → xs ++ (ys ++ zs) ≡ (xs ++ ys)
 list_more [] ys zs = refl
 list_more (x ∷ xs) ys zs = ap (λ (l : List _). x ∷ l) (list_more xs ys zs)
 
-pub mails_more : (db : ℕ) (key : List ℕ) (xs ys : List Sent) → mails db key (xs ++ ys) ≡ mails db key xs ++ mails db key ys
+pub mails_more : (g : ℕ) (db : ℕ) (key : List ℕ) (xs ys : List Sent) → mails g db key (xs ++ ys) ≡ mails g db key xs ++ mails g db key ys
 unfolding mails
-mails_more db key [] ys = refl
-mails_more db key (x ∷ xs) ys = ap (λ (l : List Mail). mail_of db key x.frame (record_in x.frame.msg) ++ l) (mails_more db key xs ys) ∙ list_more _ (mails db key xs) (mails db key ys)
+mails_more g db key [] ys = refl
+mails_more g db key (x ∷ xs) ys = ap (λ (l : List Mail). mail_of g db key x.frame (record_in x.frame.msg) ++ l) (mails_more g db key xs ys) ∙ list_more _ (mails g db key xs) (mails g db key ys)
 
 pub told_by_more : (db : ℕ) (key : List ℕ) (xs ys : List Label) → told_by_all db key (xs ++ ys) ≡ told_by_all db key xs ++ told_by_all db key ys
 unfolding told_by_all
@@ -150,27 +152,31 @@ abbrev if_mail : Bool → Frame → List Mail
 if_mail true f = record { sender = f.sender; receiver = f.receiver; msg = f.msg } ∷ []
 if_mail false f = []
 
-one_mail : (b : Bool) (db db0 : ℕ) (key key0 : List ℕ) (f : Frame) → is_it db key db0 key0 ≡ b → record_in f.msg ≡ Some (db0, key0) → mail_of db key f (record_in f.msg) ≡ if_mail b f
+one_mail : (g : ℕ) (b : Bool) (db db0 : ℕ) (key key0 : List ℕ) (f : Frame) → (nat_eq f.generation g && is_it db key db0 key0) ≡ b → record_in f.msg ≡ Some (db0, key0) → mail_of g db key f (record_in f.msg) ≡ if_mail b f
 unfolding mail_of
-one_mail true db db0 key key0 f e r = rw r (rw e refl)
-one_mail false db db0 key key0 f e r = rw r (rw e refl)
+one_mail g true db db0 key key0 f e r = rw r (rw e refl)
+one_mail g false db db0 key key0 f e r = rw r (rw e refl)
 
 -- what a step at a record sends is the mail of that record
-pub mails_same : (at : Place) (g me : ℕ) (xs : List Act) → Told at xs → mails at.db at.key (frames_of (map (out_of g me at.db at.key) xs)) ≡ sent me xs
+pub mails_same : (at : Place) (g me : ℕ) (xs : List Act) → Told at xs → mails g at.db at.key (frames_of (map (out_of g me at.db at.key) xs)) ≡ sent me xs
 unfolding mails frames_of out_of Told About sent sends
 mails_same at g me [] h = refl
 mails_same at g me (act.Send receiver m ∷ xs) h =
-    ap (λ (l : List Mail). l ++ mails at.db at.key (frames_of (map (out_of g me at.db at.key) xs))) (one_mail true at.db at.db at.key at.key (record { generation = g; sender = me; receiver = receiver; msg = m }) (it_is_itself at.db at.key) h.0)
+    ap (λ (l : List Mail). l ++ mails g at.db at.key (frames_of (map (out_of g me at.db at.key) xs))) (one_mail g true at.db at.db at.key at.key (record { generation = g; sender = me; receiver = receiver; msg = m }) (and_from (nat_eq g g) _ (eq-eqb g g refl) (it_is_itself at.db at.key)) h.0)
     ∙ ap (λ (l : List Mail). record { sender = me; receiver = receiver; msg = m } ∷ l) (mails_same at g me xs h.1)
 mails_same at g me (act.Answer call a ∷ xs) h = mails_same at g me xs h.1
 mails_same at g me (act.Finished floor ∷ xs) h = mails_same at g me xs h.1
 
+other_not : (a b : Bool) → b ≡ false → (a && b) ≡ false
+other_not true b e = e
+other_not false b e = refl
+
 -- and is no mail of another
-pub mails_other : (at : Place) (db : ℕ) (key : List ℕ) (g me : ℕ) (xs : List Act) → is_it db key at.db at.key ≡ false → Told at xs → mails db key (frames_of (map (out_of g me at.db at.key) xs)) ≡ []
+pub mails_other : (h : ℕ) (at : Place) (db : ℕ) (key : List ℕ) (g me : ℕ) (xs : List Act) → is_it db key at.db at.key ≡ false → Told at xs → mails h db key (frames_of (map (out_of g me at.db at.key) xs)) ≡ []
 unfolding mails frames_of out_of Told About
-mails_other at db key g me [] e h = refl
-mails_other at db key g me (act.Send receiver m ∷ xs) e h =
-    ap (λ (l : List Mail). l ++ mails db key (frames_of (map (out_of g me at.db at.key) xs))) (one_mail false db at.db key at.key (record { generation = g; sender = me; receiver = receiver; msg = m }) e h.0)
-    ∙ mails_other at db key g me xs e h.1
-mails_other at db key g me (act.Answer call a ∷ xs) e h = mails_other at db key g me xs e h.1
-mails_other at db key g me (act.Finished floor ∷ xs) e h = mails_other at db key g me xs e h.1
+mails_other h at db key g me [] e t = refl
+mails_other h at db key g me (act.Send receiver m ∷ xs) e t =
+    ap (λ (l : List Mail). l ++ mails h db key (frames_of (map (out_of g me at.db at.key) xs))) (one_mail h false db at.db key at.key (record { generation = g; sender = me; receiver = receiver; msg = m }) (other_not (nat_eq g h) _ e) t.0)
+    ∙ mails_other h at db key g me xs e t.1
+mails_other h at db key g me (act.Answer call a ∷ xs) e t = mails_other h at db key g me xs e t.1
+mails_other h at db key g me (act.Finished floor ∷ xs) e t = mails_other h at db key g me xs e t.1

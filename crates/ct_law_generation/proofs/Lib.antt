@@ -27,8 +27,6 @@ pub mod Refusing
 pub mod Refused
 pub mod Fed
 pub mod Delivered
-pub mod Concluding
-pub mod Vacuumed
 pub mod Configured
 pub mod Locked
 pub mod Committed
@@ -44,3 +42,9 @@ pub mod BornNodes
 pub mod Beside
 pub mod Rounding
 pub mod Yielding
+pub mod Seeing
+pub mod Holding
+pub mod Finishing
+pub mod Removing
+pub mod Silent
+pub mod Removed

@@ -10,7 +10,7 @@ use Rattle.ct_msg.specs.declared.config.DbDecl.{DbDecl}
 use Rattle.ct_call.specs.Rules.{Rules}
 use Rattle.ct_rules.specs.Moves.{store, unlock}
 use Rattle.ct_rules.specs.Parts.{want}
-use Rattle.ct_rules_node.specs.Node.{Node, Phase, Serving, is_persistent, kind_at, kind_in}
+use Rattle.ct_rules_node.specs.Node.{Node, Phase, Freezing, is_present, is_persistent, kind_at, kind_in}
 use Rattle.ct_rules_node.specs.Turn.{Turn, begins, makes}
 use Rattle.ct_rules_node.specs.Databases.{read_pair}
 use Rattle.ct_rules_node.specs.Records.{at_record}
@@ -41,9 +41,14 @@ pub serves_store : (c : Config) (rules : Rules) (n call db : ℕ) (key v : List 
 unfolding serves
 serves_store c rules n call db key v t = refl
 
-pub serves_unlock : (c : Config) (rules : Rules) (n call db : ℕ) (key : List ℕ) (t : Turn) → t.node.phase ≡ Serving → serves c rules n call t (op.Unlock db key) ≡ at_record c n db key (λ at o. unlock at call o) t
-unfolding serves unlocks
-serves_unlock c rules n call db key t e = ap (λ (p : Phase). unlocks c n call db key t p) e
+unlocks_present : (c : Config) (n call db : ℕ) (key : List ℕ) (t : Turn) (p : Phase) → is_present p ≡ true → unlocks c n call db key t p ≡ at_record c n db key (λ at o. unlock at call o) t
+unfolding is_present unlocks
+unlocks_present c n call db key t (Freezing g leader) e = absurd (cc)
+unlocks_present c n call db key t _ e = refl
+
+pub serves_unlock : (c : Config) (rules : Rules) (n call db : ℕ) (key : List ℕ) (t : Turn) → is_present t.node.phase ≡ true → serves c rules n call t (op.Unlock db key) ≡ at_record c n db key (λ at o. unlock at call o) t
+unfolding serves
+serves_unlock c rules n call db key t e = unlocks_present c n call db key t t.node.phase e
 
 decl_there : (dbs : List DbDecl) (db : ℕ) → is_none (kind_in (slice_get dbs db)) ≡ false → db < length dbs
 unfolding kind_in

@@ -1,7 +1,7 @@
--- What holds of every node in the first generation stays so over a step at one record.
+-- What holds of every node in a generation stays so over a step at one record.
 use Rattle.std.proofs.Common.{◌≡◌, ◌≢◌, ℕ, ◌<◌, ◌^◌, Bool, true, false, List, length, Option, refl, sym, ◌∙◌, arith, subst, ⊎_elim}
 use Rattle.std.specs.Prelude.{bytes_eq}
-use Rattle.std.proofs.lemmas.Bool.{cases_eq}
+use Rattle.std.proofs.lemmas.Bool.{cases_eq, and_parts, eqb-true}
 use Rattle.std.proofs.lemmas.List.{length-set}
 use Rattle.std.proofs.lemmas.Slice.Eq.{bytes_eq-Decides}
 use Rattle.ct_msg.specs.declared.config.Config.{Config}
@@ -11,36 +11,49 @@ use Rattle.ct_rules.specs.Laws.{Grows}
 use Rattle.ct_rules.specs.Parts.{Moving}
 use Rattle.ct_rules.specs.declared.event.Place.{Place}
 use Rattle.ct_rules.specs.declared.state.RecState.{RecState}
-use Rattle.ct_rules_node.specs.Node.{Node, Database, Serving, Nothing, db_at, with_db, or_nothing}
+use Rattle.ct_rules_node.specs.Node.{Node, Database, is_present, is_present_in, db_at, with_db, or_nothing}
 use Rattle.ct_rules_node.specs.Turn.{Turn}
 use Rattle.ct_rules_node.specs.Records as node
 use Rattle.ct_rules_node.specs.Records.{kept, put_back, acted, at_record, place_of}
 use Rattle.ct_rules_node.specs.Laws.{unless_blank, left_by}
 use Rattle.ct_rules_node.proofs.AtRecord.{moves_at, at_set, at_ascends}
 use Rattle.ct_rules_node.proofs.Keys.{kept_seen, kept_others}
-use Rattle.ct_cluster.specs.Cluster.{everyone}
+use Rattle.ct_promise.specs.Born.{has_pushed}
 use Rattle.ct_law_record.specs.World.{View, view_of}
-use Rattle.ct_law_generation.specs.Shown.{scene, view, is_it}
+use Rattle.ct_law_generation.specs.Shown.{Era, scene, view, is_it}
 use Rattle.ct_law_generation.proofs.Weave.{it_is, true_or_false}
 use Rattle.ct_law_generation.proofs.Wishing.{Wishful}
 use Rattle.ct_law_generation.proofs.Pending.{Callers, Known, KnownAt, DatabaseKnown, NodeKnown}
 use Rattle.ct_law_generation.proofs.Forming.{Is_formed, formed_rises, formed_blank}
 use Rattle.ct_law_generation.proofs.Amid.{seen_same, other_state, floor_own, next_grows}
 
--- what holds of a node while no generation follows the first one
-pub record NodeStays (c : Config) (rules : Rules) (who : Callers) (calls n : ℕ) (x : Node) : Type 0 where
-  pub serving : x.phase ≡ Serving
-  pub members : x.members ≡ everyone c
-  pub leads : x.lead ≡ Nothing
+-- what holds of a member while no generation follows
+pub record NodeStays (c : Config) (era : Era) (rules : Rules) (who : Callers) (calls n : ℕ) (x : Node) : Type 0 where
+  pub present : is_present_in era.number x ≡ true
+  pub knows : x.members ≡ era.members
+  pub promise : x.promise ≡ era.number
+  pub lead : has_pushed era.number x.lead ≡ true
   pub size : length x.dbs ≡ length c.dbs
   pub known : NodeKnown who calls n x
-  pub formed : (db : ℕ) (key : List ℕ) → Is_formed (scene c rules db key) n (view db key x)
+  pub formed : (db : ℕ) (key : List ℕ) → Is_formed (scene c era rules db key) n (view db key x)
+
+-- who is present in a generation is in it
+pub number_of : (g : ℕ) (x : Node) → is_present_in g x ≡ true → x.generation ≡ g
+unfolding is_present_in
+number_of g x e = eqb-true _ _ (and_parts _ _ e).1
+
+pub phase_of : (g : ℕ) (x : Node) → is_present_in g x ≡ true → is_present x.phase ≡ true
+unfolding is_present_in
+phase_of g x e = (and_parts _ _ e).0
+
+pub of_era : (c : Config) (era : Era) (rules : Rules) (who : Callers) (calls n : ℕ) (x : Node) → NodeStays c era rules who calls n x → x.generation ≡ era.number
+of_era c era rules who calls n x h = number_of era.number x h.present
 
 -- what is asked of a step at a record so that this stays
-pub record Sure (c : Config) (rules : Rules) (who : Callers) (calls n db : ℕ) (key : List ℕ) (part : Place → Moving → Moving) (t : Turn) : Type 0 where
+pub record Sure (c : Config) (era : Era) (rules : Rules) (who : Callers) (calls n db : ℕ) (key : List ℕ) (part : Place → Moving → Moving) (t : Turn) : Type 0 where
   pub has : db < length t.node.dbs
   pub grows : Grows (node.view db key t.node) (left_by c n db key part t)
-  pub formed : Is_formed (scene c rules db key) n (view_of (left_by c n db key part t))
+  pub formed : Is_formed (scene c era rules db key) n (view_of (left_by c n db key part t))
   pub known : Wishful (Known who calls n db key) (left_by c n db key part t).state.wish
 
 -- ---- the calls that wait
@@ -58,10 +71,10 @@ put_known who calls n db key0 s d h order own key = decide (bytes_eq key key0) r
         (subst (λ (x : Option RecState). KnownAt who calls n db key0 x) (sym (kept_seen key0 s d.records order)) (unless_known who calls n db key0 s own)))
     decide false t = subst (λ (x : Option RecState). KnownAt who calls n db key x) (sym (kept_others key0 s d.records key (λ same. absurd (let u = (bytes_eq-Decides key key0).1 same in cc)))) (h.records key)
 
-database_known : (c : Config) (rules : Rules) (who : Callers) (calls n db0 : ℕ) (key0 : List ℕ) (part : Place → Moving → Moving) (t : Turn) → NodeKnown who calls n t.node → Sure c rules who calls n db0 key0 part t →
+database_known : (c : Config) (era : Era) (rules : Rules) (who : Callers) (calls n db0 : ℕ) (key0 : List ℕ) (part : Place → Moving → Moving) (t : Turn) → NodeKnown who calls n t.node → Sure c era rules who calls n db0 key0 part t →
     (db : ℕ) → DatabaseKnown who calls n db (db_at db (at_record c n db0 key0 part t).node)
 unfolding at_record acted put_back with_db db_at
-database_known c rules who calls n db0 key0 part t h s db = ⊎_elim
+database_known c era rules who calls n db0 key0 part t h s db = ⊎_elim
     (λ (is : db ≡ db0). subst (λ (d : ℕ). DatabaseKnown who calls n d (db_at d (at_record c n db0 key0 part t).node)) (sym is)
     (subst (λ (d : Database). DatabaseKnown who calls n db0 d) (sym (at_set t.node.dbs db0 _ s.has)) (record {
       records = put_known who calls n db0 key0 (left_by c n db0 key0 part t).state (db_at db0 t.node) (h.dbs db0) (at_ascends t.node.dbs db0 h.order) s.known;
@@ -72,10 +85,10 @@ database_known c rules who calls n db0 key0 part t h s db = ⊎_elim
 
 -- ---- the states
 
-other_formed : (c : Config) (rules : Rules) (who : Callers) (calls n db0 db : ℕ) (key0 key : List ℕ) (part : Place → Moving → Moving) (t : Turn) → NodeStays c rules who calls n t.node → Sure c rules who calls n db0 key0 part t →
-    is_it db key db0 key0 ≡ false → Is_formed (scene c rules db key) n (view db key (at_record c n db0 key0 part t).node)
+other_formed : (c : Config) (era : Era) (rules : Rules) (who : Callers) (calls n db0 db : ℕ) (key0 key : List ℕ) (part : Place → Moving → Moving) (t : Turn) → NodeStays c era rules who calls n t.node → Sure c era rules who calls n db0 key0 part t →
+    is_it db key db0 key0 ≡ false → Is_formed (scene c era rules db key) n (view db key (at_record c n db0 key0 part t).node)
 unfolding at_record acted put_back
-other_formed c rules who calls n db0 db key0 key part t h s e =
+other_formed c era rules who calls n db0 db key0 key part t h s e =
     let u = at_record c n db0 key0 part t in
     let one = (h.formed db0 key0).from_one in
     let up = next_grows c n db0 key0 part t s.grows in
@@ -83,28 +96,29 @@ other_formed c rules who calls n db0 db key0 key part t h s e =
     (λ (is : db ≡ db0). subst (λ (d : ℕ). (db_at d u.node).floor < 2 ^ 62) (sym is) (subst (λ (f : ℕ). f < 2 ^ 62) (sym (floor_own c n db0 key0 part t s.has)) s.formed.floor_limit))
     (λ (ne : db ≢ db0). subst (λ (d : Database). d.floor < 2 ^ 62) (sym ((moves_at c n db0 key0 part t h.known.order).other_dbs db ne)) (h.formed db key).floor_limit)
     (cases_eq db db0) in
-    subst (λ (x : RecState). Is_formed (scene c rules db key) n (record { state = x; next = u.node.next; floor = (db_at db u.node).floor })) (sym (other_state c n db0 db key0 key part t h.known.order e))
-    (formed_rises (scene c rules db key) n u.node.next (db_at db u.node).floor (view db key t.node) (omega arith) s.formed.next_limit floor (h.formed db key))
+    subst (λ (x : RecState). Is_formed (scene c era rules db key) n (record { state = x; next = u.node.next; floor = (db_at db u.node).floor })) (sym (other_state c n db0 db key0 key part t h.known.order e))
+    (formed_rises (scene c era rules db key) n u.node.next (db_at db u.node).floor (view db key t.node) (omega arith) s.formed.next_limit floor (h.formed db key))
 
-all_formed : (c : Config) (rules : Rules) (who : Callers) (calls n db0 : ℕ) (key0 : List ℕ) (part : Place → Moving → Moving) (t : Turn) → NodeStays c rules who calls n t.node → Sure c rules who calls n db0 key0 part t →
-    (db : ℕ) (key : List ℕ) → Is_formed (scene c rules db key) n (view db key (at_record c n db0 key0 part t).node)
-all_formed c rules who calls n db0 key0 part t h s db key = ⊎_elim
+all_formed : (c : Config) (era : Era) (rules : Rules) (who : Callers) (calls n db0 : ℕ) (key0 : List ℕ) (part : Place → Moving → Moving) (t : Turn) → NodeStays c era rules who calls n t.node → Sure c era rules who calls n db0 key0 part t →
+    (db : ℕ) (key : List ℕ) → Is_formed (scene c era rules db key) n (view db key (at_record c n db0 key0 part t).node)
+all_formed c era rules who calls n db0 key0 part t h s db key = ⊎_elim
     (λ (is : is_it db key db0 key0 ≡ true). (let p = it_is db db0 key key0 is in
-    subst (λ (k : List ℕ). Is_formed (scene c rules db k) n (view db k (at_record c n db0 key0 part t).node)) p.1
-    (subst (λ (d : ℕ). Is_formed (scene c rules d key0) n (view d key0 (at_record c n db0 key0 part t).node)) p.0
-    (subst (λ (v : View). Is_formed (scene c rules db0 key0) n v) (sym (seen_same c n db0 key0 part t (left_by c n db0 key0 part t) refl h.known.order s.has (formed_blank (scene c rules db0 key0) n (view_of (left_by c n db0 key0 part t)) s.formed))) s.formed))))
-    (λ (unlike : is_it db key db0 key0 ≡ false). other_formed c rules who calls n db0 db key0 key part t h s unlike)
+    subst (λ (k : List ℕ). Is_formed (scene c era rules db k) n (view db k (at_record c n db0 key0 part t).node)) p.1
+    (subst (λ (d : ℕ). Is_formed (scene c era rules d key0) n (view d key0 (at_record c n db0 key0 part t).node)) p.0
+    (subst (λ (v : View). Is_formed (scene c era rules db0 key0) n v) (sym (seen_same c n db0 key0 part t (left_by c n db0 key0 part t) refl h.known.order s.has (formed_blank (scene c era rules db0 key0) n (view_of (left_by c n db0 key0 part t)) s.formed))) s.formed))))
+    (λ (unlike : is_it db key db0 key0 ≡ false). other_formed c era rules who calls n db0 db key0 key part t h s unlike)
     (true_or_false (is_it db key db0 key0))
 
 -- all of it stays
-pub stays_at : (c : Config) (rules : Rules) (who : Callers) (calls n db0 : ℕ) (key0 : List ℕ) (part : Place → Moving → Moving) (t : Turn) → NodeStays c rules who calls n t.node → Sure c rules who calls n db0 key0 part t →
-    NodeStays c rules who calls n (at_record c n db0 key0 part t).node
-unfolding at_record acted put_back with_db
-stays_at c rules who calls n db0 key0 part t h s = record {
-  serving = h.serving;
-  members = h.members;
-  leads = h.leads;
+pub stays_at : (c : Config) (era : Era) (rules : Rules) (who : Callers) (calls n db0 : ℕ) (key0 : List ℕ) (part : Place → Moving → Moving) (t : Turn) → NodeStays c era rules who calls n t.node → Sure c era rules who calls n db0 key0 part t →
+    NodeStays c era rules who calls n (at_record c n db0 key0 part t).node
+unfolding at_record acted put_back with_db is_present_in
+stays_at c era rules who calls n db0 key0 part t h s = record {
+  present = h.present;
+  knows = h.knows;
+  promise = h.promise;
+  lead = h.lead;
   size = length-set t.node.dbs db0 _ ∙ h.size;
-  known = record { order = (moves_at c n db0 key0 part t h.known.order).order; dbs = database_known c rules who calls n db0 key0 part t h.known s };
-  formed = all_formed c rules who calls n db0 key0 part t h s;
+  known = record { order = (moves_at c n db0 key0 part t h.known.order).order; dbs = database_known c era rules who calls n db0 key0 part t h.known s };
+  formed = all_formed c era rules who calls n db0 key0 part t h s;
 }
