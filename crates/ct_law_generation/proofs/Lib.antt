@@ -41,3 +41,4 @@ pub mod BornStarts
 pub mod BornCalls
 pub mod BornForms
 pub mod BornNodes
+pub mod BornStays
