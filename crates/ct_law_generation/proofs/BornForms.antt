@@ -17,18 +17,13 @@ use Rattle.ct_rules_node.specs.Rounds.{copy_from, entry_from, row_master, instal
 use Rattle.ct_cluster.specs.Cluster.{Cluster, node_at}
 use Rattle.ct_register.specs.Legal.{kind_at, is_of_records}
 use Rattle.ct_register.specs.Words.{is_in}
-use Rattle.ct_promise.specs.Born.{Rows, IsBornNode, IsBornWith, WishIsSound, born_state}
+use Rattle.ct_promise.specs.Born.{Rows, IsLow, IsBornNode, IsBornWith, WishIsSound, born_state}
 use Rattle.ct_law_record.specs.World.{Scene, View, place}
 use Rattle.ct_law_generation.specs.Shown.{Era, scene, view}
 use Rattle.ct_law_generation.proofs.Forming.{Is_formed}
 use Rattle.ct_law_generation.proofs.BornWorlds.{numbers_in, wishes_in, by_test, seen_as, state_none, member_view}
 
 -- ---- a state that an installation made
-
--- the RSNs that an installation makes of a row are below the limit
-unfoldable pub IsLow : Option TableRow → Type 0
-IsLow None = Unit {0}
-IsLow (Some x) = x.rsn + 1 < 2 ^ 62
 
 wish_wanting : (db : ℕ) (key : List ℕ) (next : ℕ) (o : Option Wish) → WishIsSound db key next o → wants_record o ≡ true
 unfolding WishIsSound wants_record
@@ -118,18 +113,13 @@ born_formed s n next (Some x) wish low h some few =
 
 -- ---- the members
 
--- what is asked beside: the next request numbers of members are below their limit, and the RSNs that rows make are
-pub record AreLow (members : List ℕ) (row : Rows) (w : Cluster) : Type 0 where
-  pub next : (n : ℕ) → is_in n members ≡ true → numbers_in w n < 2 ^ 62
-  pub rsns : (db : ℕ) (key : List ℕ) → IsLow (row db key)
-
-pub member_formed : (config : Config) (era : Era) (rules : Rules) (row : Rows) (w : Cluster) → IsBornWith config era.number era.members row w → AreLow era.members row w → (n : ℕ) → is_in n era.members ≡ true → (db : ℕ) (key : List ℕ) →
+pub member_formed : (config : Config) (era : Era) (rules : Rules) (row : Rows) (w : Cluster) → IsBornWith config era.number era.members row w → (n : ℕ) → is_in n era.members ≡ true → (db : ℕ) (key : List ℕ) →
     Is_formed (scene config era rules db key) n (view db key (node_at n w))
-member_formed config era rules row w h low n t db key = by_test (is_of_records (kind_at config db))
+member_formed config era rules row w h n t db key = by_test (is_of_records (kind_at config db))
     (λ of. subst (λ (v : View). Is_formed (scene config era rules db key) n v) (sym (member_view config era.number era.members row w h db key n t of))
-    (born_formed (scene config era rules db key) n (numbers_in w n) (row db key) (wishes_in db key w n) (low.rsns db key) (b.wishes db key of) b.drawn (low.next n t)))
+    (born_formed (scene config era rules db key) n (numbers_in w n) (row db key) (wishes_in db key w n) (h.low db key) (b.wishes db key of) b.drawn b.limit))
     (λ none. subst (λ (v : View). Is_formed (scene config era rules db key) n v) (sym (empty_of n (b.others db none) (b.floors db)))
-    (empty_formed (scene config era rules db key) n (numbers_in w n) b.drawn (low.next n t)))
+    (empty_formed (scene config era rules db key) n (numbers_in w n) b.drawn b.limit))
   where
     b : IsBornNode config era.number era.members row n (node_at n w)
     b = h.born n t

@@ -48,3 +48,4 @@ pub mod Finishing
 pub mod Removing
 pub mod Silent
 pub mod Removed
+pub mod BornStays

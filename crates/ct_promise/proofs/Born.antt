@@ -1,5 +1,5 @@
 -- A small cluster that began with a row.
-use Rattle.std.proofs.Common.{◌≡◌, ℕ, zero, suc, ◌+◌, ◌<◌, ◌≤◌, Bool, true, false, List, [], ◌∷◌, length, refl, sym, subst, ap, arith}
+use Rattle.std.proofs.Common.{◌≡◌, ℕ, zero, suc, ◌+◌, ◌<◌, ◌≤◌, ◌^◌, Bool, true, false, List, [], ◌∷◌, length, refl, sym, subst, ap, arith}
 use Rattle.std.specs.List.{list_all}
 use Rattle.std.specs.Prelude.{if◌then◌else◌, ◌&&◌, ◌||◌, bytes_eq, nat_le, nat_lt, is_none, slice_get, Option, None, Some}
 use Rattle.std.proofs.lemmas.Bool.{and_parts}
@@ -101,6 +101,9 @@ by_db P zeroth first far (suc (suc db)) = far db
 some_drawn : (n : ℕ) → 1 ≤ n + 1
 some_drawn n = omega arith
 
+few_drawn : (n : ℕ) → n ≤ 2 → n < 2 ^ 62
+few_drawn n le = omega arith
+
 no_keys : IsStrictlySortedBy key_cmp []
 unfolding IsStrictlySortedBy
 no_keys = tt
@@ -117,6 +120,7 @@ born_zero = record {
   promise = refl;
   lead = refl;
   drawn = some_drawn 1;
+  limit = few_drawn 2 (omega arith);
   dbs = refl;
   floors = by_db (λ db. (node.db_at db (Nodes.installed 0 (Nodes.frozen Nodes.waits 2))).floor ≡ 0) refl refl (λ db. refl);
   maps = by_db (λ db. Ascends (node.db_at db (Nodes.installed 0 (Nodes.frozen Nodes.waits 2))).records) no_keys (one_key a) (λ db. no_keys);
@@ -133,6 +137,7 @@ born_one = record {
   promise = refl;
   lead = refl;
   drawn = some_drawn 0;
+  limit = few_drawn 1 (omega arith);
   dbs = refl;
   floors = by_db (λ db. (node.db_at db (Nodes.installed 1 (Nodes.frozen [] 1))).floor ≡ 0) refl refl (λ db. refl);
   maps = by_db (λ db. Ascends (node.db_at db (Nodes.installed 1 (Nodes.frozen [] 1))).records) no_keys (one_key a) (λ db. no_keys);
@@ -167,6 +172,17 @@ unfolding Small.begun_with Born.IsMastered
 mastered zero key = tt
 mastered (suc zero) key = of_test (bytes_eq key a)
 mastered (suc (suc db)) key = tt
+
+low_test : (b : Bool) → Born.IsLow (if b then Some the_row else None)
+unfolding Born.IsLow
+low_test true = few_drawn 1 (omega arith)
+low_test false = tt
+
+all_low : (db : ℕ) (key : List ℕ) → Born.IsLow (begun_with db key)
+unfolding Small.begun_with Born.IsLow
+all_low zero key = tt
+all_low (suc zero) key = low_test (bytes_eq key a)
+all_low (suc (suc db)) key = tt
 
 -- is the message of an older generation, or of generation 2 and none that speaks of a record?
 unfoldable pub is_silent : Sent → Bool
@@ -210,11 +226,13 @@ pub is_born : (sent : List Sent) → list_all is_silent sent ≡ true → IsBorn
 unfolding cluster.is_up cluster.is_true cluster.node_at cluster.or_absent cluster.absent node.db_at node.or_untouched node.untouched Words.is_in cluster.pending cluster.pending_from cluster.pending_in cluster.wished_in cluster.wished cluster.committing cluster.by_number cluster.ranked node.opening rounds.installed_node rounds.installed_dbs rounds.installed_db rounds.install_rows rounds.install_row rounds.changed rounds.bared rounds.installed_state node.or_nothing
 is_born sent all = record {
   real = some_drawn 1;
+  size = refl;
   ascend = refl;
   there = of_two (λ n. nat_lt n 2 ≡ true) refl refl;
   up = of_two (λ n. cluster.is_up n (Nodes.with_sent sent) ≡ true) refl refl;
   born = of_two (λ n. IsBornNode config 2 both begun_with n (cluster.node_at n (Nodes.with_sent sent))) born_zero born_one;
   mastered = mastered;
+  low = all_low;
   down = far_off (λ n. cluster.is_up n (Nodes.with_sent sent) ≡ false) (λ n. refl);
   left = far_off (λ n. Born.HasLeft (cluster.node_at n (Nodes.with_sent sent))) (λ n. record { records = λ db. refl; floors = λ db. refl; commits = λ db. refl; drawn = some_drawn 0 });
   numbered = refl;

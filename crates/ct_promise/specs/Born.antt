@@ -1,5 +1,5 @@
 -- What is promised of records in a generation that began with some.
-use Rattle.std.specs.Prelude.{◌≡◌, ℕ, ◌<◌, ◌≤◌, nat_eq, nat_lt, Bool, true, false, not, List, [], length, map, Option, None, Some}
+use Rattle.std.specs.Prelude.{◌≡◌, ℕ, ◌+◌, ◌<◌, ◌≤◌, ◌^◌, nat_eq, nat_lt, Bool, true, false, not, List, [], length, map, Option, None, Some}
 use Rattle.std.specs.List.{list_all}
 use Rattle.ct_msg.specs.declared.config.Config.{Config}
 use Rattle.ct_frame.specs.Fields.{ascends}
@@ -51,6 +51,11 @@ unfoldable pub IsMastered : List ℕ → Option TableRow → Type 0
 IsMastered members None = Unit {0}
 IsMastered members (Some row) = is_in (row_master row) members ≡ true
 
+-- the RSNs that an installation makes of a row, where there is one, are below 2^62
+unfoldable pub IsLow : Option TableRow → Type 0
+IsLow None = Unit {0}
+IsLow (Some row) = row.rsn + 1 < 2 ^ 62
+
 -- Does the node lead no round whose push is still to come? It leads nothing, or what it leads is the round of this generation,
 -- whose push was sent.
 unfoldable pub has_pushed : ℕ → Lead → Bool
@@ -67,7 +72,9 @@ pub record IsBornNode (config : Config) (g : ℕ) (members : List ℕ) (row : Ro
   pub knows : node.members ≡ members
   pub promise : node.promise ≡ g
   pub lead : has_pushed g node.lead ≡ true
+  -- request numbers begin at 1, and stay below 2^62
   pub drawn : 1 ≤ node.next
+  pub limit : node.next < 2 ^ 62
   -- it has a state for each database, with floor 0 and a map of records
   pub dbs : length node.dbs ≡ length config.dbs
   pub floors : (db : ℕ) → (db_at db node).floor ≡ 0
@@ -89,6 +96,7 @@ pub record HasLeft (node : Node) : Type 0 where
 -- the cluster is in one generation, which all members have installed with these rows, and nothing was done since
 pub record IsBornWith (config : Config) (g : ℕ) (members : List ℕ) (row : Rows) (w : Cluster) : Type 0 where
   pub real : 1 ≤ g
+  pub size : length w.nodes ≡ config.nodes
   -- members ascend and are nodes of the configuration; they run
   pub ascend : ascends nat_lt members ≡ true
   pub there : (n : ℕ) → is_in n members ≡ true → nat_lt n config.nodes ≡ true
@@ -96,6 +104,7 @@ pub record IsBornWith (config : Config) (g : ℕ) (members : List ℕ) (row : Ro
   pub born : (n : ℕ) → is_in n members ≡ true → IsBornNode config g members row n (node_at n w)
   -- a data master is one of them
   pub mastered : (db : ℕ) (key : List ℕ) → IsMastered members (row db key)
+  pub low : (db : ℕ) (key : List ℕ) → IsLow (row db key)
   -- every other node is down, and has left as a stop lets it: it keeps nothing of any record, and none of its commits waits
   pub down : (n : ℕ) → is_in n members ≡ false → is_up n w ≡ false
   pub left : (n : ℕ) → is_in n members ≡ false → HasLeft (node_at n w)

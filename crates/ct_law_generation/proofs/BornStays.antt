@@ -1,0 +1,69 @@
+-- Where a generation began with rows, what stays of the cluster through the steps of one generation holds, and no schedule is needed.
+use Rattle.std.proofs.Common.{◌≡◌, ℕ, ◌≤◌, true, List, [], ◌∷◌, None, refl, sym, ◌∙◌}
+use Rattle.std.specs.List.{AllByRecursion}
+use Rattle.ct_msg.specs.declared.config.Config.{Config}
+use Rattle.ct_call.specs.Rules.{Rules}
+use Rattle.ct_rules_node.specs.Admission.{record_in}
+use Rattle.ct_cluster.specs.Cluster.{Cluster, Sent, node_at}
+use Rattle.ct_register.specs.Words.{is_in}
+use Rattle.ct_register.specs.Lines.{Lines}
+use Rattle.ct_register.proofs.Small.{none_not_some}
+use Rattle.ct_promise.specs.Promises.{IsConfig}
+use Rattle.ct_promise.specs.Born.{Rows, IsBornWith, BornRegisters}
+use Rattle.ct_law_record.specs.World.{trace}
+use Rattle.ct_law_generation.specs.Shown.{Era, scene, project, heard, told_by_all, Schedules}
+use Rattle.ct_law_generation.proofs.Plain.{IsPlain, AllPlain}
+use Rattle.ct_law_generation.proofs.Staying.{NodeStays}
+use Rattle.ct_law_generation.proofs.Clusters.{ClusterStays}
+use Rattle.ct_law_generation.proofs.Hearing.{accepts_asked}
+use Rattle.ct_law_generation.proofs.Following.{IsEra}
+use Rattle.ct_law_generation.proofs.BornWorlds.{era_from}
+use Rattle.ct_law_generation.proofs.BornStarts.{born_real, each_leads}
+use Rattle.ct_law_generation.proofs.BornCalls.{callers_in, born_known}
+use Rattle.ct_law_generation.proofs.BornForms.{member_formed}
+use Rattle.ct_law_generation.proofs.BornNodes.{born_up, born_left, born_sent}
+
+born_node : (config : Config) (era : Era) (rules : Rules) (row : Rows) (w : Cluster) → IsBornWith config era.number era.members row w → (n : ℕ) → is_in n era.members ≡ true → NodeStays config era rules (callers_in w) w.calls n (node_at n w)
+born_node config era rules row w h n t = (let b = h.born n t in record {
+  present = b.present;
+  knows = b.knows;
+  promise = b.promise;
+  lead = b.lead;
+  size = b.dbs;
+  known = born_known config era.number era.members row w h n;
+  formed = member_formed config era rules row w h n t;
+})
+
+-- where no message of the generation speaks of a record, all are plain
+silent_plain : (g : ℕ) (ss : List Sent) → AllByRecursion (λ (s : Sent). (s.frame.generation ≤ g) × (s.frame.generation ≡ g → record_in s.frame.msg ≡ None)) ss → AllPlain g ss
+unfolding IsPlain
+silent_plain g [] h = tt
+silent_plain g (s ∷ ss) h = ((h.0.0, λ r is now. absurd (none_not_some (sym (h.0.1 now) ∙ is))), silent_plain g ss h.1)
+
+-- what stays of the cluster holds
+pub born_stays : (config : Config) (era : Era) (rules : Rules) (row : Rows) (w : Cluster) → IsBornWith config era.number era.members row w → ClusterStays config era rules (callers_in w) w
+born_stays config era rules row w h = record {
+  size = h.size;
+  there = h.there;
+  up = born_up config era.number era.members row w h;
+  nodes = born_node config era rules row w h;
+  left = born_left config era.number era.members row w h;
+  left_known = λ n f. born_known config era.number era.members row w h n;
+  sent = silent_plain era.number w.sent (born_sent config era.number era.members row w h);
+}
+
+-- the worlds of all records are those that the cluster shows
+pub born_schedules : (config : Config) (g : ℕ) (members : List ℕ) (rules : Rules) (w : Cluster) → Schedules config (era_from g members w) rules w [] (λ db key. [])
+unfolding heard told_by_all
+born_schedules config g members rules w db key = (refl, refl)
+
+-- it is a generation in which only what was asked is answered
+pub born_is_era : (config : Config) (g : ℕ) (members : List ℕ) (row : Rows) (w : Cluster) (r : Lines) → IsConfig config → IsBornWith config g members row w → BornRegisters config w g members row r → IsEra config (era_from g members w)
+born_is_era config g members row w r is h b = record {
+  real = born_real config g members row w is h;
+  ascend = h.ascend;
+  positive = h.real;
+  asks = λ rules db key es. (let s = scene config (era_from g members w) rules db key in
+      let p = each_leads config (era_from g members w) rules row w r is h b db key es in
+      accepts_asked rules (trace s (project g db key w) es) (r.records g db key) p.0 p.1);
+}
