@@ -32,3 +32,5 @@ pub mod Vacuumed
 pub mod Configured
 pub mod Locked
 pub mod Committed
+pub mod Retried
+pub mod Resending
