@@ -27,6 +27,8 @@ pub mod Refusing
 pub mod Refused
 pub mod Fed
 pub mod Delivered
+pub mod Concluding
+pub mod Vacuumed
 pub mod Configured
 pub mod Locked
 pub mod Committed
