@@ -35,3 +35,4 @@ pub mod Finishing
 pub mod Removing
 pub mod Silent
 pub mod Removed
+pub mod Clearing
