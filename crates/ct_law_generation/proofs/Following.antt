@@ -26,11 +26,12 @@ use Rattle.ct_cluster.specs.Labels.{Label, Answered}
 use Rattle.ct_cluster.specs.declared.step.PendingCall.{PendingCall}
 use Rattle.ct_register.specs.Legal.{db_of, key_of}
 use Rattle.ct_register.specs.Words.{is_in}
+use Rattle.ct_register.specs.Register.{Register}
 use Rattle.ct_law_record.specs.Labels as law
-use Rattle.ct_law_record.specs.World.{Scene, World, Event, last, trace, happens, put, place, starts, view_of, told, sent, waiting_call, own_call, Stepped}
+use Rattle.ct_law_record.specs.World.{Scene, World, Event, LeadsTo, last, trace, happens, put, place, starts, view_of, told, sent, waiting_call, own_call, Stepped}
 use Rattle.ct_law_generation.specs.Shown.{Era, scene, view, project, AllAsked, Finds, amid, Follows, Schedules}
 use Rattle.ct_law_generation.proofs.Plain.{AllPlain, plain_more, plain_sends}
-use Rattle.ct_law_generation.proofs.Hearing.{frames_more, asked_left, asked_right}
+use Rattle.ct_law_generation.proofs.Hearing.{frames_more, accepts_asked, asked_left, asked_right}
 use Rattle.ct_law_generation.proofs.Speaking.{Told, move_told}
 use Rattle.ct_law_generation.proofs.Wishing.{Wishful}
 use Rattle.ct_law_generation.proofs.Pending.{Callers, is_call, Known, KnownAt, NodeKnown, answered_as, pending_fits, pending_has}
@@ -63,6 +64,10 @@ asked_now s w e asks = asked_left (happens s w e).labels [] (asks (e ∷ []))
 -- so does every one from where it leads
 pub asks_on : (s : Scene) (w v : World) (es : List Event) → last s w es ≡ v → Asks s w → Asks s v
 asks_on s w v es at asks = λ fs. subst (λ (x : World). AllAsked (trace s x fs)) at (asked_right (trace s w es) _ (subst AllAsked (trace_more s w es fs) (asks (es ++ fs))))
+
+-- a world whose every schedule is one register's
+pub asks_by_law : (s : Scene) (w : World) (r : Register) → ((es : List Event) → LeadsTo s w r es) → Asks s w
+asks_by_law s w r law es = (let p = law es in accepts_asked s.rules (trace s w es) r p.0 p.1)
 
 -- ---- what is asked of a generation
 

@@ -27,8 +27,13 @@ pub mod Refusing
 pub mod Refused
 pub mod Fed
 pub mod Delivered
+pub mod Concluding
+pub mod Vacuumed
 pub mod Configured
 pub mod Locked
+pub mod Committed
+pub mod Retried
+pub mod Resending
 pub mod Seeing
 pub mod Holding
 pub mod Finishing

@@ -25,8 +25,7 @@ use Rattle.ct_law_generation.proofs.Pending.{Callers, CommitFits, DatabaseKnown,
 use Rattle.ct_law_generation.proofs.Forming.{Is_formed}
 use Rattle.ct_law_generation.proofs.Staying.{NodeStays}
 use Rattle.ct_law_generation.proofs.Clusters.{ClusterStays}
-use Rattle.ct_law_generation.proofs.Hearing.{accepts_asked}
-use Rattle.ct_law_generation.proofs.Following.{Asks, IsEra}
+use Rattle.ct_law_generation.proofs.Following.{asks_by_law, IsEra}
 use Rattle.ct_frame.specs.Fields.{is_node, ascends, ascends_after}
 use Rattle.ct_promise.specs.Born.{has_pushed}
 
@@ -75,13 +74,9 @@ numbers_ascend i (suc k) = after_numbers i (i + 1) k (omega arith)
 abbrev pub first_era : Config → Era
 first_era c = record { number = 1; members = everyone c; start = λ db key. law.opening }
 
--- by the law of one record only what was asked is answered in it
-opened_asks : (s : law.Scene) → list_all is_node s.members ≡ true → Asks s law.opening
-opened_asks s real es = (let p = proved s es real in accepts_asked s.rules (law.trace s law.opening es) (newborn []) p.0 p.1)
-
 pub first_is_era : (c : Config) → list_all is_node (everyone c) ≡ true → IsEra c (first_era c)
 unfolding everyone
-first_is_era c real = record { real = real; ascend = numbers_ascend 0 c.nodes; positive = omega arith; asks = λ rules db key. opened_asks (scene c (first_era c) rules db key) real }
+first_is_era c real = record { real = real; ascend = numbers_ascend 0 c.nodes; positive = omega arith; asks = λ rules db key. asks_by_law (scene c (first_era c) rules db key) law.opening (newborn []) (λ es. proved (scene c (first_era c) rules db key) es real) }
 
 -- one of many that are alike, or what stands for one that is not there
 one_of_all : (P : Node → Type 0) (x : Node) → P cluster.absent → P x → (k n : ℕ) → P (or_absent (slice_get (replicate k x) n))
