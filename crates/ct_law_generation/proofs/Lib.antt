@@ -41,3 +41,4 @@ pub mod Removing
 pub mod Silent
 pub mod Removed
 pub mod Clearing
+pub mod Going
