@@ -42,3 +42,5 @@ pub mod Silent
 pub mod Removed
 pub mod Clearing
 pub mod Going
+pub mod Homing
+pub mod Leaving

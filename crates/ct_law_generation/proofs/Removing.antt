@@ -181,7 +181,7 @@ other_at c n db key part t d k e =
     list_any-append (removes_by d k) t.outs _ ∙ ap (λ (b : Bool). removed_by d k t.outs || b) (other_outs d k t.node.generation n db key (left_by c n db key part t).acts e) ∙ or_none (removed_by d k t.outs)
 
 -- after the step there is no entry where the rule left none
-kept_entry : (s : RecState) → s.entry ≡ None → (or_nothing (unless_blank s)).entry ≡ None
+pub kept_entry : (s : RecState) → s.entry ≡ None → (or_nothing (unless_blank s)).entry ≡ None
 unfolding unless_blank or_nothing
 kept_entry s h = grind (arith, h)
 
@@ -195,7 +195,7 @@ past_entry : (ds : List Database) (db : ℕ) (key : List ℕ) → length ds ≤ 
 unfolding untouched or_nothing
 past_entry ds db key l = ap (λ (d : Database). (or_nothing (look key d.records)).entry) (past_db ds db l)
 
-entry_after : (c : Config) (n db : ℕ) (key : List ℕ) (part : Place → Moving → Moving) (t : Turn) → NodeAscends t.node → (left_by c n db key part t).state.entry ≡ None → (state_at db key (at_record c n db key part t).node).entry ≡ None
+pub entry_after : (c : Config) (n db : ℕ) (key : List ℕ) (part : Place → Moving → Moving) (t : Turn) → NodeAscends t.node → (left_by c n db key part t).state.entry ≡ None → (state_at db key (at_record c n db key part t).node).entry ≡ None
 unfolding at_record acted put_back with_db state_at db_at
 entry_after c n db key part t h none = cond_both (nat_lt db (length t.node.dbs)) true false (λ (_ : Bool). (state_at db key (at_record c n db key part t).node).entry ≡ None)
     (λ l. ap (λ (s : RecState). s.entry) ((moves_at c n db key part t h).seen (ltb-true db (length t.node.dbs) l)) ∙ kept_entry (left_by c n db key part t).state none)
