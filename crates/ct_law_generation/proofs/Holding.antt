@@ -24,12 +24,11 @@ use Rattle.ct_law_generation.proofs.Seeing.{SeenWithin}
 -- ---- what is asked of the cluster and of the line
 
 -- the era's number is a line's, in which every running node is, and every node with a copy; only a location master has an
--- entry, and nobody has seen more of a record than there is
+-- entry
 pub record Lined (era : Era) (w : Cluster) (r : Lines) : Type 0 where
   pub real : 1 ≤ era.number
   pub line : OneLine era.number w r.line
   pub entry : (n db : ℕ) (key : List ℕ) → n ≢ master_of era.members key → (state_at db key (node_at n w)).entry ≡ None
-  pub within : (db : ℕ) (key : List ℕ) → SeenWithin (r.records era.number db key)
 
 -- every world holds with its register and marks
 abbrev pub EachHolds : Config → Era → Rules → Cluster → Lines → LineMarks → Type 0
@@ -119,10 +118,10 @@ has_parent g db key w r within h = record {
 -- ---- all of it
 
 -- where every world holds with its register and marks, the cluster holds with those of the line
-pub records_hold : (c : Config) (era : Era) (rules : Rules) (w : Cluster) (r : Lines) (marks : LineMarks) → Lined era w r → EachHolds c era rules w r marks → RecordsHold era.number w r marks
-records_hold c era rules w r marks one each = record {
+pub records_hold : (c : Config) (era : Era) (rules : Rules) (w : Cluster) (r : Lines) (marks : LineMarks) → Lined era w r → ((db : ℕ) (key : List ℕ) → SeenWithin (r.records era.number db key)) → EachHolds c era rules w r marks → RecordsHold era.number w r marks
+records_hold c era rules w r marks one within each = record {
   stand = stands era w r one (λ db key. (each db key).stands);
   marked = marks_hold c era rules w r marks one each;
   kept = λ db key. keeps_seen era.number db key w r (each db key).kept;
-  parents = λ db key. has_parent era.number db key w r (one.within db key) (each db key).kept;
+  parents = λ db key. has_parent era.number db key w r (within db key) (each db key).kept;
 }

@@ -51,3 +51,7 @@ pub mod Removing
 pub mod Silent
 pub mod Removed
 pub mod BornStays
+pub mod Clearing
+pub mod Going
+pub mod Homing
+pub mod Leaving

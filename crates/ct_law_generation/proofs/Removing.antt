@@ -2,7 +2,7 @@
 use Rattle.std.proofs.Common.{◌≡◌, ℕ, zero, suc, ◌≤◌, Bool, true, false, ◌&&◌, ◌||◌, List, [], ◌∷◌, ◌++◌, map, length, None, refl, sym, ap, ◌∙◌, arith, subst, ⊎_elim, inl, inr}
 use Rattle.std.specs.Prelude.{◌⊎◌, nat_eq, nat_lt, bytes_eq, slice_get}
 use Rattle.std.specs.List.{AllByRecursion, list_any}
-use Rattle.std.proofs.lemmas.Bool.{cond_both, eq-eqb, ltb-true, ltb-false}
+use Rattle.std.proofs.lemmas.Bool.{cond_both, eqb-true, eq-eqb, ltb-true, ltb-false}
 use Rattle.std.proofs.lemmas.List.Folds.{list_any-append}
 use Rattle.ct_msg.specs.declared.client.Answer.{Answer}
 use Rattle.ct_msg.specs.declared.client.ClientOp.{ClientOp}
@@ -139,6 +139,19 @@ not_told r g db key n calls (out.Note x ∷ xs) e = (let p = no_parts (removes d
 pub done_where_told : (r : Lines) (g db : ℕ) (key : List ℕ) (n : ℕ) (calls : List PendingCall) (xs : List Out) → is_removed r g db key (labels_of n calls xs) ≡ true → removed_by db key xs ≡ true
 done_where_told r g db key n calls xs e = ⊎_elim (λ (t : removed_by db key xs ≡ true). t) (λ (f : removed_by db key xs ≡ false). absurd (let k = sym e ∙ not_told r g db key n calls xs f in cc)) (true_or_false (removed_by db key xs))
 
+-- and they tell it of a node that is in the line
+not_in_line : (r : Lines) (g db : ℕ) (key : List ℕ) (n : ℕ) (calls : List PendingCall) (xs : List Out) → nat_eq (r.line n) g ≡ false → is_removed r g db key (labels_of n calls xs) ≡ false
+unfolding labels_of is_removal
+not_in_line r g db key n calls [] e = refl
+not_in_line r g db key n calls (out.Send f ∷ xs) e =
+    list_any-append (is_removal r g db key) (sent_label f.sender f.generation f.msg) (labels_of n calls xs) ∙ (λ i. sent_none r g db key f.sender f.generation f.msg i || not_in_line r g db key n calls xs e i)
+not_in_line r g db key n calls (out.Answer call a ∷ xs) e =
+    list_any-append (is_removal r g db key) (answered call a calls) (labels_of n calls xs) ∙ (λ i. answered_none r g db key call a calls i || not_in_line r g db key n calls xs e i)
+not_in_line r g db key n calls (out.Note x ∷ xs) e = (λ i. (e i && removes db key x) || not_in_line r g db key n calls xs e i)
+
+pub told_in_line : (r : Lines) (g db : ℕ) (key : List ℕ) (n : ℕ) (calls : List PendingCall) (xs : List Out) → is_removed r g db key (labels_of n calls xs) ≡ true → r.line n ≡ g
+told_in_line r g db key n calls xs e = ⊎_elim (λ (t : nat_eq (r.line n) g ≡ true). eqb-true (r.line n) g t) (λ (f : nat_eq (r.line n) g ≡ false). absurd (let k = sym e ∙ not_in_line r g db key n calls xs f in cc)) (true_or_false (nat_eq (r.line n) g))
+
 -- ---- a step at one record
 
 unfinished_outs : (db : ℕ) (key : List ℕ) (g n d : ℕ) (k : List ℕ) (acts : List Act) → Unfinished acts → removed_by db key (map (out_of g n d k) acts) ≡ false
@@ -168,7 +181,7 @@ other_at c n db key part t d k e =
     list_any-append (removes_by d k) t.outs _ ∙ ap (λ (b : Bool). removed_by d k t.outs || b) (other_outs d k t.node.generation n db key (left_by c n db key part t).acts e) ∙ or_none (removed_by d k t.outs)
 
 -- after the step there is no entry where the rule left none
-kept_entry : (s : RecState) → s.entry ≡ None → (or_nothing (unless_blank s)).entry ≡ None
+pub kept_entry : (s : RecState) → s.entry ≡ None → (or_nothing (unless_blank s)).entry ≡ None
 unfolding unless_blank or_nothing
 kept_entry s h = grind (arith, h)
 
@@ -182,7 +195,7 @@ past_entry : (ds : List Database) (db : ℕ) (key : List ℕ) → length ds ≤ 
 unfolding untouched or_nothing
 past_entry ds db key l = ap (λ (d : Database). (or_nothing (look key d.records)).entry) (past_db ds db l)
 
-entry_after : (c : Config) (n db : ℕ) (key : List ℕ) (part : Place → Moving → Moving) (t : Turn) → NodeAscends t.node → (left_by c n db key part t).state.entry ≡ None → (state_at db key (at_record c n db key part t).node).entry ≡ None
+pub entry_after : (c : Config) (n db : ℕ) (key : List ℕ) (part : Place → Moving → Moving) (t : Turn) → NodeAscends t.node → (left_by c n db key part t).state.entry ≡ None → (state_at db key (at_record c n db key part t).node).entry ≡ None
 unfolding at_record acted put_back with_db state_at db_at
 entry_after c n db key part t h none = cond_both (nat_lt db (length t.node.dbs)) true false (λ (_ : Bool). (state_at db key (at_record c n db key part t).node).entry ≡ None)
     (λ l. ap (λ (s : RecState). s.entry) ((moves_at c n db key part t h).seen (ltb-true db (length t.node.dbs) l)) ∙ kept_entry (left_by c n db key part t).state none)
