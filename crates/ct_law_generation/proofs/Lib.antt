@@ -41,14 +41,14 @@ pub mod BornStarts
 pub mod BornCalls
 pub mod BornForms
 pub mod BornNodes
-pub mod Beside
+pub mod Asides
 pub mod Rounding
 pub mod Yielding
 pub mod Seeing
 pub mod Holding
 pub mod Finishing
 pub mod Removing
-pub mod Silent
+pub mod Unremoved
 pub mod Removed
 pub mod BornStays
 pub mod Clearing

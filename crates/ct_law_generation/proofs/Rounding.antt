@@ -24,7 +24,7 @@ use Rattle.ct_rules_node.specs.Rounds.{on_freeze, on_freezeack, on_pull, on_pull
 use Rattle.ct_rules_node.specs.Takeovers.{begin_takeover, runs, send_releases, on_release, on_releaseack, released_by, all_released, on_take, takes, has_address, share, assigned_in}
 use Rattle.ct_rules_node.specs.Retries.{retry_lead, retry_run}
 use Rattle.ct_promise.specs.Born.{has_pushed}
-use Rattle.ct_law_generation.proofs.Beside.{Beside, Settled, beside_none, beside_then, beside_makes, beside_leads, beside_places, beside_posts, beside_posts_all, beside_releases, beside_takes, beside_send_releases}
+use Rattle.ct_law_generation.proofs.Asides.{Beside, Settled, beside_none, beside_then, beside_makes, beside_leads, beside_places, beside_posts, beside_posts_all, beside_releases, beside_takes, beside_send_releases}
 
 -- ---- messages of a round: a freeze is too late, the node is not frozen, and it waits at most for acknowledgements of a push
 
