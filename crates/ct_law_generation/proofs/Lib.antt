@@ -34,3 +34,4 @@ pub mod Locked
 pub mod Committed
 pub mod Retried
 pub mod Resending
+pub mod Retrying
