@@ -13,7 +13,7 @@ use Rattle.ct_cluster.specs.Labels.{Label}
 use Rattle.ct_cluster.specs.Steps.{frames_of, put, with_fate}
 use Rattle.ct_cluster.specs.declared.step.PendingCall.{PendingCall}
 use Rattle.ct_register.specs.Words.{is_in}
-use Rattle.ct_law_record.specs.World.{Scene, Mail, World}
+use Rattle.ct_law_record.specs.World.{World}
 use Rattle.ct_law_record.specs.World as law
 use Rattle.ct_law_generation.specs.Shown.{Era, project, heard, labels_of, Schedules}
 use Rattle.ct_law_generation.proofs.Weave.{true_or_false}
@@ -39,12 +39,11 @@ Cluster_goes c era rules who w labels = ClusterStays c era rules who w × (es : 
 pub put_goes : (c : Config) (era : Era) (rules : Rules) (who : Callers) (w : Cluster) (n : ℕ) (u : Turn) (labels : List Label) (es : ℕ → List ℕ → List law.Event) → is_in n era.members ≡ true → ClusterStays c era rules who w → Schedules c era rules w labels es →
     Goes_on c era rules who w.calls n (pending w) (λ db key. project era.number db key w) (begins (node_at n w)) u → Cluster_goes c era rules who (put n u [] w).cluster (labels ++ labels_of n (pending w) u.outs)
 unfolding frames_of
-put_goes c era rules who w n u labels es t h sched g =
-    (
-      put_stays c era rules who w n u t h g.0 (g.2 tt),
-      (λ db key. es db key ++ (g.1 db key).0),
-      extends c era rules n (begins (node_at n w)) u [] w (pending w) labels es (inside c era rules who w n h t) refl (λ db key. begun era.number db key n w) sched g.1,
-    )
+put_goes c era rules who w n u labels es t h sched g = (
+  put_stays c era rules who w n u t h g.0 (g.2 tt),
+  (λ db key. es db key ++ (g.1 db key).0),
+  extends c era rules n (begins (node_at n w)) u [] w (pending w) labels es (inside c era rules who w n h t) refl (λ db key. begun era.number db key n w) sched g.1,
+)
 
 -- a message of a record that was sent comes to a node that runs
 pub comes_on : (c : Config) (era : Era) (rules : Rules) (who : Callers) (w : Cluster) (k : ℕ) (s : Sent) (r : ℕ × List ℕ) (labels : List Label) (es : ℕ → List ℕ → List law.Event) →

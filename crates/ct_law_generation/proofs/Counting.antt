@@ -72,9 +72,8 @@ pub turn_goes : (c : Config) (era : Era) (rules : Rules) (who : Callers) (w : Cl
     ((db : ℕ) (key : List ℕ) → project era.number db key w ≡ amid era.number db key n (project era.number db key w) t) → ClusterStays c era rules who w → Schedules c era rules w labels es →
     Goes_on c era rules who w.calls n pend (λ db key. project era.number db key w) t u → Cluster_goes c era rules who (put n u [] w).cluster (labels ++ labels_of n pend u.outs)
 unfolding frames_of
-turn_goes c era rules who w n t u pend labels es is empty begun h sched g =
-    (
-      put_stays c era rules who w n u is h g.0 (g.2 (subst (λ xs. AllPlain era.number (frames_of xs)) (sym empty) tt)),
-      (λ db key. es db key ++ (g.1 db key).0),
-      extends c era rules n t u [] w pend labels es (inside c era rules who w n h is) empty begun sched g.1,
-    )
+turn_goes c era rules who w n t u pend labels es is empty begun h sched g = (
+  put_stays c era rules who w n u is h g.0 (g.2 (subst (λ xs. AllPlain era.number (frames_of xs)) (sym empty) tt)),
+  (λ db key. es db key ++ (g.1 db key).0),
+  extends c era rules n t u [] w pend labels es (inside c era rules who w n h is) empty begun sched g.1,
+)

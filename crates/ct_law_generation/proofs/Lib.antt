@@ -35,3 +35,4 @@ pub mod Committed
 pub mod Retried
 pub mod Resending
 pub mod Retrying
+pub mod Assembled

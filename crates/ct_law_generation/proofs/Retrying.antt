@@ -139,9 +139,11 @@ retry_goes c era rules who calls n pend ws t member r h =
     let a = updates_add era.number n pend 0 t.node.dbs u (let e = of_era c era rules who calls n u.node g.0 in omega arith) in
     let stays : NodeStays c era rules who calls n v.node = subst (λ (x : Node). NodeStays c era rules who calls n x) (sym a.node) g.0 in
     let b = adds_more era.number n pend u v (retry_lead n v v.node.lead) a (lead_adds era.number n pend v v.node.lead stays.lead) in
-    subst (λ (x : Turn). Goes_on c era rules who calls n pend ws t x) (sym (retry_is c n t (phase_of era.number t.node h.present)))
-    (subst (λ (x : Node). NodeStays c era rules who calls n x) (sym b.node) g.0,
-    (λ db key. adds_follow (scene c era rules db key) era.number n (ws db key) pend t u (retry_lead n v v.node.lead) b (g.1 db key)), λ before. b.plain (g.2 before))
+    subst (λ (x : Turn). Goes_on c era rules who calls n pend ws t x) (sym (retry_is c n t (phase_of era.number t.node h.present))) (
+      subst (λ (x : Node). NodeStays c era rules who calls n x) (sym b.node) g.0,
+      (λ db key. adds_follow (scene c era rules db key) era.number n (ws db key) pend t u (retry_lead n v v.node.lead) b (g.1 db key)),
+      λ before. b.plain (g.2 before),
+    )
 
 -- so the cluster goes on
 pub retry_cluster : (c : Config) (era : Era) (rules : Rules) (who : Callers) (w : Cluster) (n : ℕ) (labels : List Label) (es : ℕ → List ℕ → List Event) → IsEra c era → ((db : ℕ) → db < length c.dbs → is_db db ≡ true) →
