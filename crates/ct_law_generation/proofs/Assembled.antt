@@ -192,7 +192,7 @@ not_faulty true f e = refl
 not_faulty false f e = absurd (cc)
 
 -- the node runs
-runs : (c : Config) (w : Cluster) (n : ℕ) (xs : List (Option StepFault)) → first_of (no_such_node c n ∷ node_down w n ∷ xs) ≡ None → is_up n w ≡ true
+pub runs : (c : Config) (w : Cluster) (n : ℕ) (xs : List (Option StepFault)) → first_of (no_such_node c n ∷ node_down w n ∷ xs) ≡ None → is_up n w ≡ true
 unfolding node_down
 runs c w n xs e = not_faulty (is_up n w) _ (first_none _ _ (first_none _ _ e).1).0
 
@@ -222,7 +222,7 @@ drop_taken c era rules reg w ls (suc k) h x ok e = either (slice_get w.sent k) r
 
 -- ---- a step of a node
 
-lines_tell : (s : Step) (calls : List PendingCall) (n k : ℕ) (xs : List Out) → line_labels s calls (lines_of n k xs) ≡ labels_of n calls xs
+pub lines_tell : (s : Step) (calls : List PendingCall) (n k : ℕ) (xs : List Out) → line_labels s calls (lines_of n k xs) ≡ labels_of n calls xs
 unfolding line_labels traces.label_of lines_of labels_of
 lines_tell s calls n k [] = refl
 lines_tell s calls n k (out.Send f ∷ xs) = ap (λ (l : List Label). traces.sent_label f.sender f.generation f.msg ++ l) (lines_tell s calls n (k + 1) xs)
@@ -364,7 +364,7 @@ retry_taken c era rules reg w ls n is kept h x ok e =
 abbrev pub client_turn : Config → Rules → Cluster → ℕ → ClientOp → Turn
 client_turn c rules w n o = client c rules n (w.calls + 1) o (begins (node_at n (counted w)))
 
-counted_calls : (w : Cluster) (n : ℕ) (o : ClientOp) → own_pending n (w.calls + 1) o ∷ pending (counted w) ≡ traces.calls_of w (step.Client n o)
+pub counted_calls : (w : Cluster) (n : ℕ) (o : ClientOp) → own_pending n (w.calls + 1) o ∷ pending (counted w) ≡ traces.calls_of w (step.Client n o)
 unfolding traces.calls_of pending
 counted_calls w n o = refl
 

@@ -36,3 +36,4 @@ pub mod Retried
 pub mod Resending
 pub mod Retrying
 pub mod Assembled
+pub mod Joined
