@@ -1,17 +1,17 @@
 -- A run of one generation: where each step lets the cluster go on, so does the run, and the promise follows.
 use Rattle.std.proofs.Common.{◌≡◌, ℕ, zero, suc, ◌+◌, ◌<◌, Bool, true, false, cond, ◌&&◌, List, [], ◌∷◌, ◌++◌, length, Option, Some, None, refl, sym, ap, ◌∙◌, append-nil, subst, ⊎_elim}
-use Rattle.std.specs.Prelude.{not, slice_get, slice_set, Result, Ok, Err}
+use Rattle.std.specs.Prelude.{not, slice_get, slice_set, Result, Ok, Err, is_none}
 use Rattle.std.specs.List.{list_all, filter, AllByRecursion}
 use Rattle.ct_msg.specs.declared.client.ClientOp.{ClientOp}
 use Rattle.ct_msg.specs.declared.client.ClientOp.TheVariants as op
 use Rattle.ct_msg.specs.declared.config.Config.{Config}
 use Rattle.ct_call.specs.Rules.{Rules}
 use Rattle.ct_frame.specs.declared.header.RecCopy.{RecCopy}
-use Rattle.ct_rules_node.specs.Node.{state_at, is_persistent, kind_at}
+use Rattle.ct_rules_node.specs.Node.{state_at, is_persistent, has_records, kind_at}
 use Rattle.ct_cluster.specs.Cluster.{Cluster, Sent, Fate, Delivered, Dropped, is_up, pending, node_at, sent_at, opening}
 use Rattle.ct_cluster.specs.Labels.{Label, Noted}
 use Rattle.ct_rules_node.specs.Retries.{retry}
-use Rattle.ct_cluster.specs.Faults.{is_allowed, fault_of, no_such_node, node_down, faulty_if, first_of}
+use Rattle.ct_cluster.specs.Faults.{is_allowed, fault_of, no_such_node, node_down, no_such_db, wrong_kind, faulty_if, first_of}
 use Rattle.ct_frame.specs.declared.event.Out.{Out}
 use Rattle.ct_frame.specs.declared.event.Out.TheVariants as out
 use Rattle.ct_frame.specs.declared.event.Event.TheVariants as event
@@ -63,7 +63,7 @@ use Rattle.ct_law_generation.proofs.Delivered.{fed_goes}
 use Rattle.ct_law_generation.proofs.Vacuumed.{vacuum_fed}
 use Rattle.ct_law_generation.proofs.Coming.{Cluster_goes, fate_goes}
 use Rattle.ct_law_generation.proofs.Refusing.{able_goes}
-use Rattle.ct_law_generation.proofs.Configured.{all_real, all_small}
+use Rattle.ct_law_generation.proofs.Configured.{all_real, all_small, has_kind}
 use Rattle.ct_law_generation.proofs.Opening.{first_era, first_is_era, below_everyone, opened_schedules, opened_stays}
 use Rattle.ct_law_generation.proofs.Concluding.{EachIsOne, concluded}
 
@@ -191,6 +191,19 @@ unfolding faulty_if
 not_faulty true f e = refl
 not_faulty false f e = absurd (cc)
 
+unfaulty : (b : Bool) (f : StepFault) → faulty_if b f ≡ None → b ≡ false
+unfolding faulty_if
+unfaulty true f e = absurd (cc)
+unfaulty false f e = refl
+
+-- a vacuum is of a database that has records
+vacuum_kind : (c : Config) (w : Cluster) (n db : ℕ) → fault_of c w (step.Vacuum n db) ≡ None → has_records (kind_at c db) ≡ true
+unfolding fault_of no_such_db wrong_kind
+vacuum_kind c w n db e =
+    let a = first_none _ _ (first_none _ _ e).1 in
+    let b = first_none _ _ a.1 in
+    has_kind (kind_at c db) (unfaulty (is_none (kind_at c db)) _ b.0) (unfaulty (is_persistent (kind_at c db)) _ (first_none _ _ b.1).0)
+
 -- the node runs
 pub runs : (c : Config) (w : Cluster) (n : ℕ) (xs : List (Option StepFault)) → first_of (no_such_node c n ∷ node_down w n ∷ xs) ≡ None → is_up n w ≡ true
 unfolding node_down
@@ -262,10 +275,11 @@ turn_tells c era rules reg who ls w v s n u x own fit none is goes =
     (goes.0, goes.1, λ db key. ((goes.2 db key).0, (goes.2 db key).1 ∙ sym (told_same db key ls (record_labels c told) told (fit_told c era.number reg db key told fit))))
 
 -- a vacuum, where all that the node tells is of records
-pub vacuum_taken : (c : Config) (era : Era) (rules : Rules) (reg : Lines) (w : Cluster) (ls : List Label) (n db : ℕ) → Starts c era rules reg → Tells c era reg n (pending w) (vacuums c n db (begins (node_at n w))) → Run_goes c era rules reg ls w → Taken_goes c era rules reg w ls (step.Vacuum n db)
+pub vacuum_taken : (c : Config) (era : Era) (rules : Rules) (reg : Lines) (w : Cluster) (ls : List Label) (n db : ℕ) → Starts c era rules reg → ((vacuums c n db (begins (node_at n w))).spent ≡ false → Tells c era reg n (pending w) (vacuums c n db (begins (node_at n w)))) → Run_goes c era rules reg ls w → Taken_goes c era rules reg w ls (step.Vacuum n db)
 unfolding fault_of steps own_labels traces.calls_of node_steps.happens
 vacuum_taken c era rules reg w ls n db is kept h x ok e =
-    turn_tells c era rules reg h.who ls w w (step.Vacuum n db) n (vacuums c n db (begins (node_at n w))) x h.own kept refl (fed_is c rules n (event.Vacuum db) [] w x e).1
+    let f = fed_is c rules n (event.Vacuum db) [] w x e in
+    turn_tells c era rules reg h.who ls w w (step.Vacuum n db) n (vacuums c n db (begins (node_at n w))) x h.own (kept f.0) refl f.1
     (vacuum_fed c era rules h.who w n db ls h.goes.1 x is.era_is is.small h.goes.0 h.goes.2 (runs c w n _ ok) e)
 
 -- ---- messages
@@ -273,7 +287,7 @@ vacuum_taken c era rules reg w ls n db is kept h x ok e =
 -- what is left to show of a message: what its receiver tells of a record fits, and one that speaks of no record lets the run go on
 pub record Left_of_messages (c : Config) (era : Era) (rules : Rules) (reg : Lines) : Type 0 where
   pub fits : (w : Cluster) (ls : List Label) (k : ℕ) (m : Sent) (r : ℕ × List ℕ) → Run_goes c era rules reg ls w → slice_get w.sent k ≡ Some m → is_up m.frame.receiver w ≡ true → record_in m.frame.msg ≡ Some r →
-      Tells c era reg m.frame.receiver (pending w) (arrives c rules m.frame.receiver m.frame (begins (node_at m.frame.receiver w)) m.frame.msg)
+      (arrives c rules m.frame.receiver m.frame (begins (node_at m.frame.receiver w)) m.frame.msg).spent ≡ false → Tells c era reg m.frame.receiver (pending w) (arrives c rules m.frame.receiver m.frame (begins (node_at m.frame.receiver w)) m.frame.msg)
   pub other : (w v : Cluster) (ls : List Label) (k : ℕ) (m : Sent) (s : Step) (x : Stepped) → Run_goes c era rules reg ls v → slice_get v.sent k ≡ Some m → is_up m.frame.receiver v ≡ true → record_in m.frame.msg ≡ None → traces.calls_of w s ≡ pending v →
       record_labels c (own_labels w s x.lines) ≡ [] → fed c rules m.frame.receiver (event.Arrive m.frame) [] v ≡ Ok x → Run_goes c era rules reg (ls ++ record_labels c (traces.labels w s x.lines)) x.cluster
 
@@ -291,7 +305,7 @@ message_taken c era rules reg w v ls k m s x is rest h at up calls none e = eith
     either None of = rest.other w v ls k m s x h at up of calls none e
     either (Some p) of =
         turn_tells c era rules reg h.who ls w v s m.frame.receiver u x h.own
-        (subst (λ (l : List PendingCall). Tells c era reg m.frame.receiver l u) (sym calls) (rest.fits v ls k m p h at up of))
+        (subst (λ (l : List PendingCall). Tells c era reg m.frame.receiver l u) (sym calls) (rest.fits v ls k m p h at up of (fed_is c rules m.frame.receiver (event.Arrive m.frame) [] v x e).0))
         none (fed_is c rules m.frame.receiver (event.Arrive m.frame) [] v x e).1
         (subst (λ (l : List PendingCall). Cluster_goes c era rules h.who x.cluster (ls ++ labels_of m.frame.receiver l u.outs)) (sym calls)
         (fed_goes c era rules h.who v k m p ls h.goes.1 x is.era_is is.small h.goes.0 h.goes.2 at up of e))
@@ -436,7 +450,8 @@ pub record Left_to_show (c : Config) (era : Era) (rules : Rules) (reg : Lines) :
   pub yields : (w : Cluster) (ls : List Label) (n : ℕ) → Run_goes c era rules reg ls w → Taken_goes c era rules reg w ls (step.Yield n)
   pub takeover : (w : Cluster) (ls : List Label) (n : ℕ) → Run_goes c era rules reg ls w → Taken_goes c era rules reg w ls (step.Takeover n)
   pub messages : Left_of_messages c era rules reg
-  pub vacuum : (w : Cluster) (ls : List Label) (n db : ℕ) → Run_goes c era rules reg ls w → is_up n w ≡ true → Tells c era reg n (pending w) (vacuums c n db (begins (node_at n w)))
+  pub vacuum : (w : Cluster) (ls : List Label) (n db : ℕ) → Run_goes c era rules reg ls w → is_up n w ≡ true → has_records (kind_at c db) ≡ true → (vacuums c n db (begins (node_at n w))).spent ≡ false →
+      Tells c era reg n (pending w) (vacuums c n db (begins (node_at n w)))
 
 pub each_goes : (c : Config) (era : Era) (rules : Rules) (reg : Lines) → Starts c era rules reg → Left_to_show c era rules reg → Each_goes c era rules reg
 unfolding is_of_one_generation fault_of
@@ -445,7 +460,7 @@ each_goes c era rules reg is rest w ls (step.Deliver k) e h = step_goes c era ru
 each_goes c era rules reg is rest w ls (step.Drop k) e h = step_goes c era rules reg w ls (step.Drop k) h (drop_taken c era rules reg w ls k h)
 each_goes c era rules reg is rest w ls (step.Repeat k) e h = step_goes c era rules reg w ls (step.Repeat k) h (repeat_taken c era rules reg w ls k is rest.messages h)
 each_goes c era rules reg is rest w ls (step.Retry n) e h = step_goes c era rules reg w ls (step.Retry n) h (λ x ok. retry_taken c era rules reg w ls n is (rest.retry w ls n h (runs c w n _ ok)) h x ok)
-each_goes c era rules reg is rest w ls (step.Vacuum n db) e h = step_goes c era rules reg w ls (step.Vacuum n db) h (λ x ok. vacuum_taken c era rules reg w ls n db is (rest.vacuum w ls n db h (runs c w n _ ok)) h x ok)
+each_goes c era rules reg is rest w ls (step.Vacuum n db) e h = step_goes c era rules reg w ls (step.Vacuum n db) h (λ x ok. vacuum_taken c era rules reg w ls n db is (rest.vacuum w ls n db h (runs c w n _ ok) (vacuum_kind c w n db ok)) h x ok)
 each_goes c era rules reg is rest w ls (step.Recover n members) e h = absurd (cc)
 each_goes c era rules reg is rest w ls (step.Yield n) e h = step_goes c era rules reg w ls (step.Yield n) h (rest.yields w ls n h)
 each_goes c era rules reg is rest w ls (step.Stop n) e h = absurd (cc)

@@ -37,3 +37,7 @@ pub mod Resending
 pub mod Retrying
 pub mod Assembled
 pub mod Joined
+pub mod Kept
+pub mod Keeping
+pub mod Silent
+pub mod Beside

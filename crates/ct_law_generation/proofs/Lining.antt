@@ -1,5 +1,5 @@
 -- What a step at a record tells is of records of one line, and nothing of it is left out.
-use Rattle.std.proofs.Common.{◌≡◌, ℕ, Bool, true, cond, not, List, [], ◌∷◌, ◌++◌, map, Option, Some, None, refl, sym, ap, ◌∙◌, subst, false, inl, ⊎_elim}
+use Rattle.std.proofs.Common.{◌≡◌, ℕ, Bool, true, cond, not, List, [], ◌∷◌, ◌++◌, map, Option, Some, None, refl, sym, ap, ◌∙◌, subst, false, inl, ⊎_elim, inr}
 use Rattle.std.specs.List.{AllByRecursion, filter}
 use Rattle.std.specs.Prelude.{◌⊎◌}
 use Rattle.ct_msg.specs.declared.client.Answer.{Answer}
@@ -33,7 +33,7 @@ pub record Is_kept (config : Config) (line : ℕ) (r : Lines) (x : Label) : Type
   pub own : IsOfLine config line r x
   pub speaks : speaks_of_records config x ≡ true
 
-record_quiet : (n g : ℕ) (m : Msg) (r : ℕ × List ℕ) → record_in m ≡ Some r → sent_label n g m ≡ []
+pub record_quiet : (n g : ℕ) (m : Msg) (r : ℕ × List ℕ) → record_in m ≡ Some r → sent_label n g m ≡ []
 unfolding record_in sent_label
 record_quiet n g (msg.Push members table ptables assigned) r e = absurd (cc)
 record_quiet n g (msg.Take number assigned) r e = absurd (cc)
@@ -128,3 +128,10 @@ pub fit_told : (config : Config) (line : ℕ) (r : Lines) (db : ℕ) (key : List
 unfolding told_by_all
 fit_told config line r db key [] h = refl
 fit_told config line r db key (x ∷ xs) h = first_told config line r db key x (record_labels config xs) xs h.0 (fit_told config line r db key xs h.1)
+
+-- what a message tells by being sent is aside
+pub sent_fits : (config : Config) (line : ℕ) (r : Lines) (n g : ℕ) (m : Msg) → AllByRecursion (Is_fit config line r) (sent_label n g m)
+unfolding sent_label Is_fit speaks_of_records told_by
+sent_fits config line r n g (msg.Push members table ptables assigned) = (inr (record { quiet = refl; untold = λ db key. refl }), tt)
+sent_fits config line r n g (msg.Take number assigned) = (inr (record { quiet = refl; untold = λ db key. refl }), tt)
+sent_fits config line r n g _ = tt
