@@ -55,3 +55,8 @@ pub mod Clearing
 pub mod Going
 pub mod Homing
 pub mod Leaving
+pub mod Joined
+pub mod Kept
+pub mod Keeping
+pub mod Silent
+pub mod Passing
