@@ -47,7 +47,7 @@ use Rattle.ct_law_generation.proofs.Admitted.{admits, may_lock, may_read, may_wr
 use Rattle.ct_law_generation.proofs.Served.{has_database, serves_lock, serves_read, serves_write, serves_apply}
 use Rattle.ct_law_generation.proofs.Clients.{wants_go}
 use Rattle.ct_law_generation.proofs.Locked.{stores_go, unlocks_go}
-use Rattle.ct_law_record.specs.World as law
+use Rattle.ct_law_world.specs.World as law
 use Rattle.ct_law_generation.proofs.Called.{counted, called_by}
 use Rattle.ct_law_generation.proofs.Calling.{own_pending}
 use Rattle.ct_law_generation.proofs.Fed.{fed_is}

@@ -12,8 +12,8 @@ use Rattle.ct_register.specs.Register.{newborn}
 use Rattle.ct_register.specs.Lines
 use Rattle.ct_register.specs.Lines.{Lines}
 use Rattle.ct_promise.specs.Generation.{record_labels, KeepsRecords}
-use Rattle.ct_law_record.specs.Labels.{AcceptsAll}
-use Rattle.ct_law_record.specs.World.{World, Event, Stands, opening, trace, LeadsTo}
+use Rattle.ct_law_world.specs.Labels.{AcceptsAll}
+use Rattle.ct_law_world.specs.World.{World, Event, Stands, opening, trace, LeadsTo}
 use Rattle.ct_law_record.proofs.Law.{proved}
 use Rattle.ct_law_generation.specs.Shown.{scene, project, IsOfLineOne, Schedules}
 use Rattle.ct_law_generation.proofs.Weave.{Each, weave}

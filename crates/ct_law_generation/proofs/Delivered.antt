@@ -13,7 +13,7 @@ use Rattle.ct_rules_node.specs.Steps.{happens, arrives}
 use Rattle.ct_cluster.specs.Cluster.{Cluster, Sent, everyone, is_up, node_at, pending}
 use Rattle.ct_cluster.specs.Labels.{Label}
 use Rattle.ct_cluster.specs.Steps.{Stepped, fed}
-use Rattle.ct_law_record.specs.World as law
+use Rattle.ct_law_world.specs.World as law
 use Rattle.ct_law_generation.specs.Shown.{labels_of, Schedules}
 use Rattle.ct_law_generation.proofs.Pending.{Callers}
 use Rattle.ct_law_generation.proofs.Forming.{Is_sound_mail}

@@ -12,8 +12,8 @@ use Rattle.ct_rules_node.specs.Node.{Node, Database}
 use Rattle.ct_rules_node.proofs.Starting.{starts_in_order}
 use Rattle.ct_cluster.specs.Cluster as cluster
 use Rattle.ct_cluster.specs.Cluster.{Cluster, everyone, node_at, or_absent}
-use Rattle.ct_law_record.specs.World as law
-use Rattle.ct_law_record.specs.World.{View}
+use Rattle.ct_law_world.specs.World as law
+use Rattle.ct_law_world.specs.World.{View}
 use Rattle.ct_register.proofs.Opened.{untouched_one}
 use Rattle.ct_law_generation.specs.Shown.{scene, view, mails, project, heard, told_by_all, Schedules}
 use Rattle.ct_law_generation.proofs.Pending.{Callers, CommitFits, DatabaseKnown, none_known}

@@ -17,7 +17,7 @@ use Rattle.ct_cluster.specs.Traces.{sent_label}
 use Rattle.ct_cluster.specs.Steps.{frames_of}
 use Rattle.ct_cluster.specs.declared.step.PendingCall.{PendingCall}
 use Rattle.ct_register.specs.Words.{is_in}
-use Rattle.ct_law_record.specs.World.{Scene, World}
+use Rattle.ct_law_world.specs.World.{Scene, World}
 use Rattle.ct_law_generation.specs.Shown.{scene, view, mail_of, mails, told_by_all, labels_of, amid, Follows}
 use Rattle.ct_law_generation.proofs.Pending.{Callers}
 use Rattle.ct_law_generation.proofs.Plain.{IsPlain, AllPlain, plain_more}
@@ -34,7 +34,7 @@ use Rattle.ct_cluster.specs.Cluster.{Cluster, is_up, node_at, pending}
 use Rattle.ct_cluster.specs.Labels.{Label}
 use Rattle.ct_cluster.specs.Steps.{put}
 use Rattle.ct_law_generation.specs.Shown.{project, Schedules}
-use Rattle.ct_law_record.specs.World.{Event}
+use Rattle.ct_law_world.specs.World.{Event}
 use Rattle.ct_law_generation.proofs.Delivering.{begun}
 use Rattle.ct_law_generation.proofs.Putting.{extends}
 use Rattle.ct_law_generation.proofs.Clusters.{ClusterStays, put_stays}
