@@ -10,7 +10,7 @@ use Rattle.ct_rules.specs.Form.{is_wanting}
 use Rattle.ct_rules.specs.State.{is_read_op}
 use Rattle.ct_rules_node.specs.Node.{Node, state_at}
 use Rattle.ct_rules_node.specs.Clients.{refusal, first_of, refused_if, call_pending, pending_of, already_locked, not_locked, no_such_db, wrong_kind, wants_record, wants_change, is_read, is_under_lock, is_commit, is_locked, db_of, key_of}
-use Rattle.ct_law_record.specs.World.{may_want}
+use Rattle.ct_law_world.specs.World.{may_want}
 
 first_none : (x : Option Why) (xs : List (Option Why)) → first_of (x ∷ xs) ≡ None → x ≡ None
 unfolding first_of

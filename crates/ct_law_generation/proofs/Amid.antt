@@ -21,8 +21,8 @@ use Rattle.ct_rules_node.proofs.AtRecord.{moves_at, at_set}
 use Rattle.ct_cluster.specs.Steps.{frames_of}
 use Rattle.ct_cluster.specs.declared.step.PendingCall.{PendingCall}
 use Rattle.ct_register.specs.Words.{is_in}
-use Rattle.ct_law_record.specs.Labels as law
-use Rattle.ct_law_record.specs.World.{Scene, View, Mail, World, Event, Rises, place, view_of, told, sent, Stepped, put, happens, waiting_call}
+use Rattle.ct_law_world.specs.Labels as law
+use Rattle.ct_law_world.specs.World.{Scene, View, Mail, World, Event, Rises, place, view_of, told, sent, Stepped, put, happens, waiting_call}
 use Rattle.ct_law_generation.specs.Shown.{Era, scene, view, is_it, mails, told_by_all, heard, AllAsked, labels_of, Finds, amid, Comes_by}
 use Rattle.ct_law_generation.proofs.Weave.{it_is_itself}
 use Rattle.ct_law_generation.proofs.Speaking.{Told}

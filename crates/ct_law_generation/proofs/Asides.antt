@@ -21,8 +21,8 @@ use Rattle.ct_cluster.specs.Labels.{Label, Noted}
 use Rattle.ct_cluster.specs.Steps.{frames_of}
 use Rattle.ct_cluster.specs.Traces.{answered, sent_label}
 use Rattle.ct_cluster.specs.declared.step.PendingCall.{PendingCall}
-use Rattle.ct_law_record.specs.Labels as law
-use Rattle.ct_law_record.specs.World.{Scene, Mail, World}
+use Rattle.ct_law_world.specs.Labels as law
+use Rattle.ct_law_world.specs.World.{Scene, Mail, World}
 use Rattle.ct_frame.specs.declared.frame.Frame.{Frame}
 use Rattle.ct_law_generation.specs.Shown.{view, mail_of, mails, told_by, told_by_all, heard, labels_of, amid, Follows}
 use Rattle.ct_msg.specs.declared.config.Config.{Config}

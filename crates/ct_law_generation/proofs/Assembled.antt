@@ -48,8 +48,8 @@ use Rattle.ct_law_generation.proofs.Admitted.{admits, may_lock, may_read, may_wr
 use Rattle.ct_law_generation.proofs.Served.{has_database, serves_lock, serves_read, serves_write, serves_apply}
 use Rattle.ct_law_generation.proofs.Clients.{wants_go}
 use Rattle.ct_law_generation.proofs.Locked.{stores_go, unlocks_go}
-use Rattle.ct_law_record.specs.World as law
-use Rattle.ct_law_record.specs.Labels as law_labels
+use Rattle.ct_law_world.specs.World as law
+use Rattle.ct_law_world.specs.Labels as law_labels
 use Rattle.ct_law_record.proofs.Law.{proved}
 use Rattle.ct_law_generation.proofs.Following.{IsEra}
 use Rattle.ct_law_generation.proofs.Hearing.{told_by_more}

@@ -18,7 +18,7 @@ use Rattle.ct_cluster.specs.Cluster.{Cluster, node_at}
 use Rattle.ct_register.specs.Legal.{kind_at, is_of_records}
 use Rattle.ct_register.specs.Words.{is_in}
 use Rattle.ct_promise.specs.Born.{Rows, IsLow, IsBornNode, IsBornWith, WishIsSound, born_state}
-use Rattle.ct_law_record.specs.World.{Scene, View, place}
+use Rattle.ct_law_world.specs.World.{Scene, View, place}
 use Rattle.ct_law_generation.specs.Shown.{Era, scene, view}
 use Rattle.ct_law_generation.proofs.Forming.{Is_formed}
 use Rattle.ct_law_generation.proofs.BornWorlds.{numbers_in, wishes_in, by_test, seen_as, state_none, member_view}

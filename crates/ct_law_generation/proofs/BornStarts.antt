@@ -22,7 +22,7 @@ use Rattle.ct_register.specs.Words.{is_in}
 use Rattle.ct_register.proofs.Small.{none_not_some, some_not_none}
 use Rattle.ct_promise.specs.Promises.{IsConfig}
 use Rattle.ct_promise.specs.Born.{Rows, IsBornWith, BornRegisters, WishIsSound, IsMastered, IsBirthOf}
-use Rattle.ct_law_record.specs.World.{Scene, World, Event, LeadsTo, bare, born, AreDrawn, SeesAtMost}
+use Rattle.ct_law_world.specs.World.{Scene, World, Event, LeadsTo, bare, born, AreDrawn, SeesAtMost}
 use Rattle.ct_law_record.proofs.Law.{proved_bare}
 use Rattle.ct_law_record.proofs.Births.{proved_born}
 use Rattle.ct_law_record.proofs.Worlds.{member_real}

@@ -10,7 +10,7 @@ use Rattle.ct_register.specs.Lines.{Lines}
 use Rattle.ct_register.proofs.Small.{none_not_some}
 use Rattle.ct_promise.specs.Promises.{IsConfig}
 use Rattle.ct_promise.specs.Born.{Rows, IsBornWith, BornRegisters}
-use Rattle.ct_law_record.specs.World.{trace}
+use Rattle.ct_law_world.specs.World.{trace}
 use Rattle.ct_law_generation.specs.Shown.{Era, scene, project, heard, told_by_all, Schedules}
 use Rattle.ct_law_generation.proofs.Plain.{IsPlain, AllPlain}
 use Rattle.ct_law_generation.proofs.Staying.{NodeStays}

@@ -19,7 +19,7 @@ use Rattle.ct_register.specs.Words.{is_in}
 use Rattle.ct_register.proofs.Small.{some_not_none}
 use Rattle.ct_promise.specs.Born as began
 use Rattle.ct_promise.specs.Born.{Rows, IsBornNode, IsBornWith, BornRegisters, MayWait, WishIsSound, IsMastered, IsBirthOf}
-use Rattle.ct_law_record.specs.World.{View, Mail, World, bare, born, born_state}
+use Rattle.ct_law_world.specs.World.{View, Mail, World, bare, born, born_state}
 use Rattle.ct_law_generation.specs.Shown.{Era, scene, view, is_it, mail_of, mails, project}
 
 -- ---- the generation

@@ -24,7 +24,7 @@ use Rattle.ct_cluster.specs.Traces.{answered}
 use Rattle.ct_cluster.specs.declared.step.PendingCall.{PendingCall}
 use Rattle.ct_register.specs.Legal.{db_of, key_of}
 use Rattle.ct_register.specs.Words.{is_in}
-use Rattle.ct_law_record.specs.World.{World, Event, Wants, Stores, Unlocks, happens, put, place, own_call, may_want}
+use Rattle.ct_law_world.specs.World.{World, Event, Wants, Stores, Unlocks, happens, put, place, own_call, may_want}
 use Rattle.ct_law_generation.specs.Shown.{Era, scene, view, project, amid, Finds}
 use Rattle.ct_law_generation.proofs.Wishing.{Wishful, want_wish, store_wish, unlock_wish}
 use Rattle.ct_law_generation.proofs.Pending.{Callers, Known, KnownAt}

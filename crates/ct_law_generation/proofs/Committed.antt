@@ -43,8 +43,8 @@ use Rattle.ct_register.specs.Laws.{is_persistent}
 use Rattle.ct_register.specs.Legal.{db_of, kind_at}
 use Rattle.ct_register.specs.Words.{is_in}
 use Rattle.ct_promise.specs.Generation.{speaks_of_records, record_labels}
-use Rattle.ct_law_record.specs.World as law
-use Rattle.ct_law_record.specs.World.{View, Mail, World}
+use Rattle.ct_law_world.specs.World as law
+use Rattle.ct_law_world.specs.World.{View, Mail, World}
 use Rattle.ct_law_generation.specs.Shown.{Era, scene, view, mail_of, mails, labels_of, amid, project, Schedules}
 use Rattle.ct_law_generation.proofs.Hearing.{frames_more, mails_more, labels_more}
 use Rattle.ct_law_generation.proofs.Plain.{IsPlain, AllPlain, plain_more}

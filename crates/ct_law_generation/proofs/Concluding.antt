@@ -9,8 +9,8 @@ use Rattle.ct_cluster.specs.Labels.{Label}
 use Rattle.ct_cluster.specs.Traces.{Ran}
 use Rattle.ct_register.specs.Lines.{Lines}
 use Rattle.ct_promise.specs.Generation.{record_labels, KeepsRecords}
-use Rattle.ct_law_record.specs.Labels.{AcceptsAll}
-use Rattle.ct_law_record.specs.World.{World, Event, Stands, trace, LeadsTo}
+use Rattle.ct_law_world.specs.Labels.{AcceptsAll}
+use Rattle.ct_law_world.specs.World.{World, Event, Stands, trace, LeadsTo}
 use Rattle.ct_law_generation.specs.Shown.{Era, scene, project, IsOfLine, Schedules}
 use Rattle.ct_law_generation.proofs.Weave.{Each, weave}
 use Rattle.ct_law_generation.proofs.Standing.{OneLine, records_stand}

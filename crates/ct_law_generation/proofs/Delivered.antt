@@ -11,7 +11,7 @@ use Rattle.ct_rules_node.specs.Steps.{happens, arrives}
 use Rattle.ct_cluster.specs.Cluster.{Cluster, Sent, is_up, node_at, pending}
 use Rattle.ct_cluster.specs.Labels.{Label}
 use Rattle.ct_cluster.specs.Steps.{Stepped, fed}
-use Rattle.ct_law_record.specs.World as law
+use Rattle.ct_law_world.specs.World as law
 use Rattle.ct_law_generation.specs.Shown.{Era, labels_of, Schedules}
 use Rattle.ct_law_generation.proofs.Pending.{Callers}
 use Rattle.ct_law_generation.proofs.Clusters.{ClusterStays}

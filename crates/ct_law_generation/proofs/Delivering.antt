@@ -22,7 +22,7 @@ use Rattle.ct_rules_node.specs.Laws.{left_by}
 use Rattle.ct_cluster.specs.Cluster.{Cluster, Sent, node_at, pending}
 use Rattle.ct_cluster.specs.Steps.{frames_of}
 use Rattle.ct_register.specs.Words.{is_in}
-use Rattle.ct_law_record.specs.World.{View, Mail, Comes, waiting_call, World}
+use Rattle.ct_law_world.specs.World.{View, Mail, Comes, waiting_call, World}
 use Rattle.ct_law_generation.specs.Shown.{Era, scene, view, mail_of, mails, project, amid}
 use Rattle.ct_law_generation.proofs.Weave.{it_is_itself}
 use Rattle.ct_law_generation.proofs.Wishing.{arrive_wish}

@@ -21,7 +21,7 @@ use Rattle.ct_rules_node.specs.Admission.{record_in, is_current}
 use Rattle.ct_rules_node.specs.Steps.{arrives, on_record_of}
 use Rattle.ct_rules_node.specs.Laws.{left_by}
 use Rattle.ct_cluster.specs.declared.step.PendingCall.{PendingCall}
-use Rattle.ct_law_record.specs.World.{View, Mail, World, Event, Wants, Stores, Unlocks, Comes, place, starts, may_want, own_call, waiting_call, put, comes, happens}
+use Rattle.ct_law_world.specs.World.{View, Mail, World, Event, Wants, Stores, Unlocks, Comes, place, starts, may_want, own_call, waiting_call, put, comes, happens}
 use Rattle.ct_law_generation.specs.Shown.{Era, scene, view, is_it, amid, Follows}
 use Rattle.ct_law_generation.proofs.Weave.{it_is, true_or_false}
 use Rattle.ct_law_generation.proofs.Amid.{self, place_is, Fair, own_step, other_step}

@@ -23,7 +23,7 @@ use Rattle.ct_rules_node.specs.Admission.{record_in}
 use Rattle.ct_rules_node.specs.Laws.{unless_blank}
 use Rattle.ct_rules_node.specs.Node.{or_nothing}
 use Rattle.ct_rules_node.proofs.AtRecord.{formed_is_kept}
-use Rattle.ct_law_record.specs.World.{Scene, View, Mail, place, starts, view_of, sent, sends, may_want}
+use Rattle.ct_law_world.specs.World.{Scene, View, Mail, place, starts, view_of, sent, sends, may_want}
 use Rattle.ct_law_generation.proofs.Speaking.{About, Told, move_told}
 
 -- what holds of a node's state of the record

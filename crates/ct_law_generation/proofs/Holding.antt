@@ -14,9 +14,9 @@ use Rattle.ct_register.specs.Marks.{value_at}
 use Rattle.ct_register.specs.Stands.{HasCopy, RecordsStand}
 use Rattle.ct_promise.specs.Marked.{LineMarks, MarksHoldIn}
 use Rattle.ct_promise.specs.Kept.{StandsForSeen, KeepsSeen, HasParent, RecordsHold}
-use Rattle.ct_law_record.specs.World.{World, Stands, NothingIsLost}
-use Rattle.ct_law_record.specs.World as law
-use Rattle.ct_law_record.specs.Marked as law_marked
+use Rattle.ct_law_world.specs.World.{World, Stands, NothingIsLost}
+use Rattle.ct_law_world.specs.World as law
+use Rattle.ct_law_world.specs.Marked as law_marked
 use Rattle.ct_law_generation.specs.Shown.{Era, scene, project}
 use Rattle.ct_law_generation.proofs.Standing.{OneLine, records_stand}
 use Rattle.ct_law_generation.proofs.Seeing.{SeenWithin}

@@ -30,7 +30,7 @@ use Rattle.ct_cluster.specs.declared.step.Line.{Line}
 use Rattle.ct_cluster.specs.declared.step.PendingCall.{PendingCall}
 use Rattle.ct_cluster.specs.declared.step.Step.TheVariants as step
 use Rattle.ct_promise.specs.Generation.{speaks_of_records, record_labels}
-use Rattle.ct_law_record.specs.World as law
+use Rattle.ct_law_world.specs.World as law
 use Rattle.ct_law_generation.specs.Shown.{Era, is_telling, told_by, told_by_all, labels_of, IsOfLine, Schedules}
 use Rattle.ct_law_generation.proofs.Hearing.{told_by_more}
 use Rattle.ct_law_generation.proofs.Weave.{true_or_false}

@@ -19,7 +19,7 @@ use Rattle.ct_rules_node.specs.Steps.{arrives, vacuum_all, vacuums}
 use Rattle.ct_cluster.specs.Cluster.{Cluster, Sent, is_up, node_at, pending}
 use Rattle.ct_cluster.specs.Labels.{Label}
 use Rattle.ct_cluster.specs.declared.step.PendingCall.{PendingCall}
-use Rattle.ct_law_record.specs.World.{World, Event, Comes, Vacuums, waiting_call}
+use Rattle.ct_law_world.specs.World.{World, Event, Comes, Vacuums, waiting_call}
 use Rattle.ct_law_generation.specs.Shown.{Era, scene, view, mails, project, amid, labels_of}
 use Rattle.ct_law_generation.proofs.Weave.{true_or_false}
 use Rattle.ct_law_generation.proofs.Wishing.{arrive_wish, vacuum_wish}

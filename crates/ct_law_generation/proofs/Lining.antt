@@ -22,8 +22,8 @@ use Rattle.ct_register.specs.Laws.{is_persistent}
 use Rattle.ct_register.specs.Legal.{db_of, kind_at, is_of_records}
 use Rattle.ct_register.specs.Lines.{Lines}
 use Rattle.ct_promise.specs.Generation.{speaks_of_records, is_note_of_records, record_labels}
-use Rattle.ct_law_record.specs.Labels as law
-use Rattle.ct_law_record.specs.World.{told, answers, call_of}
+use Rattle.ct_law_world.specs.Labels as law
+use Rattle.ct_law_world.specs.World.{told, answers, call_of}
 use Rattle.ct_law_generation.specs.Shown.{AllAsked, labels_of, Finds, IsOfLine, told_by, told_by_all}
 use Rattle.ct_law_generation.proofs.Hearing.{asked_right}
 use Rattle.ct_law_generation.proofs.Speaking.{Told, About}

@@ -14,8 +14,8 @@ use Rattle.ct_rules_node.proofs.Starting.{starts_in_order}
 use Rattle.ct_rules_node.specs.Laws.{AllAscend}
 use Rattle.ct_cluster.specs.Cluster as cluster
 use Rattle.ct_cluster.specs.Cluster.{everyone, node_at, or_absent, numbers}
-use Rattle.ct_law_record.specs.World as law
-use Rattle.ct_law_record.specs.World.{View}
+use Rattle.ct_law_world.specs.World as law
+use Rattle.ct_law_world.specs.World.{View}
 use Rattle.ct_law_record.proofs.Law.{proved}
 use Rattle.ct_register.proofs.Opened.{untouched_one}
 use Rattle.ct_register.specs.Words.{is_in}

@@ -10,7 +10,7 @@ use Rattle.ct_rules_node.specs.Records.{out_of}
 use Rattle.ct_rules_node.specs.Admission.{record_in}
 use Rattle.ct_cluster.specs.Cluster.{Sent, Fate}
 use Rattle.ct_cluster.specs.Steps.{frames_of}
-use Rattle.ct_law_record.specs.World.{sent, sends}
+use Rattle.ct_law_world.specs.World.{sent, sends}
 use Rattle.ct_law_generation.proofs.Speaking.{Told, About}
 use Rattle.ct_law_generation.proofs.Forming.{Is_sound_mail}
 

@@ -12,8 +12,8 @@ use Rattle.ct_cluster.specs.Labels.{Label}
 use Rattle.ct_cluster.specs.Steps.{frames_of, with_node, put, with_fate}
 use Rattle.ct_cluster.specs.declared.step.Line.{Line}
 use Rattle.ct_cluster.specs.declared.step.PendingCall.{PendingCall}
-use Rattle.ct_law_record.specs.Labels as law
-use Rattle.ct_law_record.specs.World.{Scene, View, Mail, World, Event, last, trace}
+use Rattle.ct_law_world.specs.Labels as law
+use Rattle.ct_law_world.specs.World.{Scene, View, Mail, World, Event, last, trace}
 use Rattle.ct_law_generation.specs.Shown.{Era, scene, view, mail_of, mails, told_by_all, heard, labels_of, project, amid, Follows, Schedules}
 use Rattle.ct_law_generation.proofs.Hearing.{mails_more, told_by_more, heard_more}
 use Rattle.ct_law_generation.proofs.Following.{last_more, trace_more}

@@ -29,8 +29,8 @@ use Rattle.ct_cluster.specs.declared.step.PendingCall.{PendingCall}
 use Rattle.ct_register.specs.Lines.{Lines}
 use Rattle.ct_promise.specs.Generation.{speaks_of_records, is_note_of_records, record_labels}
 use Rattle.ct_promise.specs.Marked.{removes, is_removal, is_removed}
-use Rattle.ct_law_record.specs.Labels as law
-use Rattle.ct_law_record.specs.Marked as law_marked
+use Rattle.ct_law_world.specs.Labels as law
+use Rattle.ct_law_world.specs.Marked as law_marked
 use Rattle.ct_law_generation.specs.Shown.{is_it, is_telling, told_of, told_by, told_by_all, heard, IsOfLine, labels_of}
 use Rattle.ct_law_generation.proofs.Weave.{true_or_false, it_is}
 use Rattle.ct_law_generation.proofs.Finishing.{IsNoFinish, Unfinished, Finishes}

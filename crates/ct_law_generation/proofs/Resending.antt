@@ -21,7 +21,7 @@ use Rattle.ct_rules_node.specs.Laws.{AllAscend, is_called_at}
 use Rattle.ct_rules_node.proofs.Keys.{below_unseen}
 use Rattle.ct_rules_node.proofs.Installed.{same_number}
 use Rattle.ct_rules_node.proofs.Told.{another_db}
-use Rattle.ct_law_record.specs.World.{Mail}
+use Rattle.ct_law_world.specs.World.{Mail}
 use Rattle.ct_law_generation.proofs.Retried.{at_all, times, AllInside}
 use Rattle.std.specs.Prelude.{nat_eq}
 use Rattle.ct_msg.specs.declared.client.ClientOp.{ClientOp}
@@ -34,8 +34,8 @@ use Rattle.ct_rules_node.proofs.Waiting.{calls_each}
 use Rattle.ct_cluster.specs.Steps.{frames_of}
 use Rattle.ct_cluster.specs.declared.step.PendingCall.{PendingCall}
 use Rattle.ct_register.specs.Words.{is_in}
-use Rattle.ct_law_record.specs.Labels as law
-use Rattle.ct_law_record.specs.World.{View, World, Resends, place, starts, sent, told, answers, call_of, waiting_call, Stepped, put, happens}
+use Rattle.ct_law_world.specs.Labels as law
+use Rattle.ct_law_world.specs.World.{View, World, Resends, place, starts, sent, told, answers, call_of, waiting_call, Stepped, put, happens}
 use Rattle.ct_law_generation.specs.Shown.{Era, scene, view, mails, told_by_all, heard, labels_of, amid, Comes_by}
 use Rattle.ct_law_generation.proofs.Pending.{Callers}
 use Rattle.ct_law_generation.proofs.Amid.{self, put_world}

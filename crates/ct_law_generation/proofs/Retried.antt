@@ -12,8 +12,8 @@ use Rattle.ct_rules.specs.declared.event.Act.TheVariants as act
 use Rattle.ct_rules.specs.declared.event.Place.{Place}
 use Rattle.ct_rules.specs.declared.state.Wish.{Wish}
 use Rattle.ct_deleg.specs.Tracked.{Revocation}
-use Rattle.ct_law_record.specs.World.{Mail, sent, sends, told, answers, call_of}
-use Rattle.ct_law_record.specs.Labels as law
+use Rattle.ct_law_world.specs.World.{Mail, sent, sends, told, answers, call_of}
+use Rattle.ct_law_world.specs.Labels as law
 use Rattle.std.specs.List.{AllByRecursion}
 use Rattle.std.proofs.lemmas.Bool.{cases_eq}
 use Rattle.ct_msg.specs.declared.config.Config.{Config}
@@ -28,7 +28,7 @@ use Rattle.ct_rules_node.proofs.AtRecord.{moves_at}
 use Rattle.ct_cluster.specs.Cluster.{Sent}
 use Rattle.ct_cluster.specs.Steps.{frames_of}
 use Rattle.ct_cluster.specs.declared.step.PendingCall.{PendingCall}
-use Rattle.ct_law_record.specs.World.{view_of}
+use Rattle.ct_law_world.specs.World.{view_of}
 use Rattle.ct_law_generation.specs.Shown.{Era, scene, view, is_it, mails, told_by_all, heard, AllAsked, labels_of, Finds}
 use Rattle.ct_law_generation.proofs.Weave.{it_is, true_or_false}
 use Rattle.ct_law_generation.proofs.Speaking.{Told}
@@ -50,7 +50,7 @@ use Rattle.ct_rules.specs.declared.event.MoveEvent.TheVariants as event
 use Rattle.ct_rules_node.specs.Rounds.{Called}
 use Rattle.ct_rules_node.specs.Laws.{is_called_at}
 use Rattle.ct_rules_node.proofs.Installed.{same_number, own_key}
-use Rattle.ct_law_record.specs.World.{View, place, starts}
+use Rattle.ct_law_world.specs.World.{View, place, starts}
 use Rattle.ct_law_generation.proofs.Speaking.{call_again_told, revoke_again_told}
 use Rattle.ct_law_generation.proofs.Forming.{sound_moves}
 use Rattle.ct_law_generation.proofs.Amid.{place_is}

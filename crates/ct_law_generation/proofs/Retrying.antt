@@ -23,8 +23,8 @@ use Rattle.ct_cluster.specs.Steps.{frames_of, put}
 use Rattle.ct_cluster.specs.declared.step.PendingCall.{PendingCall}
 use Rattle.ct_register.specs.Words.{is_in}
 use Rattle.ct_promise.specs.Born.{has_pushed}
-use Rattle.ct_law_record.specs.Labels as law
-use Rattle.ct_law_record.specs.World.{Scene, World, Event}
+use Rattle.ct_law_world.specs.Labels as law
+use Rattle.ct_law_world.specs.World.{Scene, World, Event}
 use Rattle.ct_law_generation.specs.Shown.{Era, scene, view, mail_of, mails, told_by_all, labels_of, amid, project, Follows, Schedules}
 use Rattle.ct_law_generation.proofs.Pending.{Callers}
 use Rattle.ct_law_generation.proofs.Plain.{IsPlain, AllPlain, plain_more}

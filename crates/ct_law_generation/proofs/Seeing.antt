@@ -12,8 +12,8 @@ use Rattle.ct_cluster.specs.Labels.{Label, Answered, Noted}
 use Rattle.ct_register.specs.Register.{Register, Accepts, AcceptsVacuum, seen_by, with_version}
 use Rattle.ct_register.specs.Legal.{db_of, key_of}
 use Rattle.ct_register.proofs.Places.{at_all}
-use Rattle.ct_law_record.specs.Labels.{AcceptsLabel, AcceptsAll}
-use Rattle.ct_law_record.specs.Labels as law
+use Rattle.ct_law_world.specs.Labels.{AcceptsLabel, AcceptsAll}
+use Rattle.ct_law_world.specs.Labels as law
 use Rattle.ct_law_generation.specs.Shown.{is_it, is_telling, told_of, told_by, told_by_all}
 
 -- no node has seen more versions of a record than there are

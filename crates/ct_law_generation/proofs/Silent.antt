@@ -24,7 +24,7 @@ use Rattle.ct_cluster.specs.Cluster.{Cluster, is_up, node_at, pending}
 use Rattle.ct_cluster.specs.Labels.{Label}
 use Rattle.ct_cluster.specs.Traces.{sent_label}
 use Rattle.ct_cluster.specs.declared.step.PendingCall.{PendingCall}
-use Rattle.ct_law_record.specs.World.{View, told, answers, call_of}
+use Rattle.ct_law_world.specs.World.{View, told, answers, call_of}
 use Rattle.ct_law_generation.specs.Shown.{Era, labels_of}
 use Rattle.ct_law_generation.proofs.Speaking.{About, Told}
 use Rattle.ct_law_generation.proofs.Hearing.{labels_more}

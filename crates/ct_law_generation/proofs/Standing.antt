@@ -8,8 +8,8 @@ use Rattle.ct_cluster.specs.Cluster.{Cluster, is_up, node_at}
 use Rattle.ct_register.specs.Register.{Register, reading}
 use Rattle.ct_register.specs.Lines.{Lines}
 use Rattle.ct_register.specs.Stands.{RecordsStand, HasCopy}
-use Rattle.ct_law_record.specs.World.{World, View, Stands}
-use Rattle.ct_law_record.specs.World as law
+use Rattle.ct_law_world.specs.World.{World, View, Stands}
+use Rattle.ct_law_world.specs.World as law
 use Rattle.ct_law_generation.specs.Shown.{Shows}
 
 -- all nodes that run are in line g, and there is nothing of what is no node

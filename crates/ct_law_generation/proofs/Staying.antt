@@ -19,7 +19,7 @@ use Rattle.ct_rules_node.specs.Laws.{unless_blank, left_by}
 use Rattle.ct_rules_node.proofs.AtRecord.{moves_at, at_set, at_ascends}
 use Rattle.ct_rules_node.proofs.Keys.{kept_seen, kept_others}
 use Rattle.ct_promise.specs.Born.{has_pushed}
-use Rattle.ct_law_record.specs.World.{View, view_of}
+use Rattle.ct_law_world.specs.World.{View, view_of}
 use Rattle.ct_law_generation.specs.Shown.{Era, scene, view, is_it}
 use Rattle.ct_law_generation.proofs.Weave.{it_is, true_or_false}
 use Rattle.ct_law_generation.proofs.Wishing.{Wishful}

@@ -13,8 +13,8 @@ use Rattle.ct_cluster.specs.Labels.{Label, Noted}
 use Rattle.ct_cluster.specs.Traces.{answered, sent_label}
 use Rattle.ct_cluster.specs.declared.step.PendingCall.{PendingCall}
 use Rattle.ct_register.specs.Legal.{db_of, key_of}
-use Rattle.ct_law_record.specs.Labels as law
-use Rattle.ct_law_record.specs.World.{told, answers, call_of}
+use Rattle.ct_law_world.specs.Labels as law
+use Rattle.ct_law_world.specs.World.{told, answers, call_of}
 use Rattle.ct_law_generation.specs.Shown.{is_it, is_telling, told_of, told_by, told_by_all, heard, AllAsked, labels_of, Finds}
 use Rattle.ct_law_generation.proofs.Weave.{it_is_itself}
 use Rattle.ct_law_generation.proofs.Hearing.{asked_right}

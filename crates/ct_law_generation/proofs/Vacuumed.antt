@@ -33,8 +33,8 @@ use Rattle.ct_cluster.specs.Traces.{answered}
 use Rattle.ct_cluster.specs.declared.step.PendingCall.{PendingCall}
 use Rattle.ct_register.specs.Legal.{db_of, key_of}
 use Rattle.ct_register.specs.Words.{is_in}
-use Rattle.ct_law_record.specs.World.{Scene, View, World, Vacuums, happens, put, last, trace, place, starts, own_call, waiting_call}
-use Rattle.ct_law_record.specs.World as law
+use Rattle.ct_law_world.specs.World.{Scene, View, World, Vacuums, happens, put, last, trace, place, starts, own_call, waiting_call}
+use Rattle.ct_law_world.specs.World as law
 use Rattle.ct_law_generation.specs.Shown.{Era, scene, view, is_it, heard, told_by_all, labels_of, project, amid, Finds, Follows, Schedules}
 use Rattle.ct_law_generation.proofs.Weave.{it_is, true_or_false}
 use Rattle.ct_law_generation.proofs.Wishing.{Wishful, vacuum_wish}

@@ -19,8 +19,8 @@ use Rattle.ct_register.specs.Lines.{Lines, with_record}
 use Rattle.ct_register.specs.Legal.{db_of, key_of, is_of_records, kind_at, AtRecord, AcceptsAnswer, AcceptsThawed, AcceptsLabel, AcceptsLabels}
 use Rattle.ct_register.specs.Words.{is_in}
 use Rattle.ct_register.proofs.Places.{at_same, at_other, at_key_same, at_key_other}
-use Rattle.ct_law_record.specs.Labels.{AcceptsAll}
-use Rattle.ct_law_record.specs.Labels as law
+use Rattle.ct_law_world.specs.Labels.{AcceptsAll}
+use Rattle.ct_law_world.specs.Labels as law
 use Rattle.ct_law_generation.specs.Shown.{is_it, is_telling, told_of, told_by, told_by_all, AllInstalled, IsOfLine}
 
 pub true_or_false : (b : Bool) → (b ≡ true) ⊎ (b ≡ false)

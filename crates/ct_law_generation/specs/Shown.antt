@@ -20,10 +20,10 @@ use Rattle.ct_register.specs.Legal.{db_of, key_of}
 use Rattle.ct_register.specs.Legal as legal
 use Rattle.ct_register.specs.Lines.{Lines}
 use Rattle.ct_register.specs.Words.{is_in}
-use Rattle.ct_law_record.specs.Labels as law
+use Rattle.ct_law_world.specs.Labels as law
 use Rattle.ct_rules_node.specs.Turn.{Turn}
 use Rattle.ct_cluster.specs.Steps.{frames_of}
-use Rattle.ct_law_record.specs.World.{Scene, View, Mail, World, Event, last, trace}
+use Rattle.ct_law_world.specs.World.{Scene, View, Mail, World, Event, last, trace}
 
 -- a generation: its number, its members, and the world of each record from which on it is followed
 pub record Era : Type 0 where

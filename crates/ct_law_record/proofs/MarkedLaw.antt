@@ -7,9 +7,9 @@ use Rattle.ct_frame.specs.declared.frame.TableRow.{TableRow}
 use Rattle.ct_rules_node.specs.Rounds.{row_master, or_nobody}
 use Rattle.ct_register.specs.Register.{Register, newborn}
 use Rattle.ct_register.specs.Words.{is_in}
-use Rattle.ct_law_record.specs.Marked.{Holds, Runs, RunsFrom, OpensWithMarks, BeginsWithMarks, IsBornWithMarks}
-use Rattle.ct_law_record.specs.World.{Scene, World, Event, happens}
-use Rattle.ct_law_record.proofs.Invariant.{Ghost}
+use Rattle.ct_law_world.specs.Marked.{Holds, Runs, RunsFrom, OpensWithMarks, BeginsWithMarks, IsBornWithMarks}
+use Rattle.ct_law_world.specs.World.{Scene, World, Event, happens}
+use Rattle.ct_law_world.proofs.Invariant.{Ghost}
 use Rattle.ct_law_record.proofs.Law.{stands, kept_all, parent, bare_ghost, bare_holds}
 use Rattle.ct_law_record.proofs.Births.{born_ghost, born_holds}
 use Rattle.ct_law_record.proofs.MarkLists.{dense}

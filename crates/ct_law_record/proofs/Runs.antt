@@ -9,9 +9,9 @@ use Rattle.ct_rules.specs.Parts
 use Rattle.ct_rules.specs.Frames
 use Rattle.ct_rules.specs.Moves
 use Rattle.ct_register.specs.Words.{is_in}
-use Rattle.ct_law_record.specs.Labels.{Told, Vacuumed}
-use Rattle.ct_law_record.specs.World
-use Rattle.ct_law_record.specs.World.{Scene, Event, Wants, Stores, Unlocks, Comes, Vacuums, opening, trace}
+use Rattle.ct_law_world.specs.Labels.{Told, Vacuumed}
+use Rattle.ct_law_world.specs.World
+use Rattle.ct_law_world.specs.World.{Scene, Event, Wants, Stores, Unlocks, Comes, Vacuums, opening, trace}
 
 -- a record, without functions
 abbrev scene : Bool → Scene

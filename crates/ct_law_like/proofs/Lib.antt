@@ -1,0 +1,4 @@
+pub mod Likeness
+pub mod Alike
+pub mod Likewise
+pub mod Coming

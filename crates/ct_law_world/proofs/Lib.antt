@@ -1,0 +1,4 @@
+pub mod Rule
+pub mod Invariant
+pub mod Nodes
+pub mod Copies
