@@ -146,7 +146,7 @@ sends_sound c era rules who calls n db key e t pend asks w ev node h k =
     subst (λ (o : Moving). AllByRecursion Is_sound_mail (sent n o.acts)) (sym is)
     (sound_moves (scene c era rules db key) n (view db key t.node) e k.has node (h.formed db key) k.may k.from (ap (λ (o : Moving). o.spent) (sym is) ∙ k.whole))
 
-all_plain : (c : Config) (era : Era) (n db : ℕ) (key : List ℕ) (part : Place → Moving → Moving) (t : Turn) → t.node.generation ≡ era.number → Told (place_of c n db key t.node) (left_by c n db key part t).acts → AllByRecursion Is_sound_mail (sent n (left_by c n db key part t).acts) →
+pub all_plain : (c : Config) (era : Era) (n db : ℕ) (key : List ℕ) (part : Place → Moving → Moving) (t : Turn) → t.node.generation ≡ era.number → Told (place_of c n db key t.node) (left_by c n db key part t).acts → AllByRecursion Is_sound_mail (sent n (left_by c n db key part t).acts) →
     AllPlain era.number (frames_of t.outs) → AllPlain era.number (frames_of (at_record c n db key part t).outs)
 unfolding at_record acted place_of
 all_plain c era n db key part t is told sound before =

@@ -60,3 +60,4 @@ pub mod Kept
 pub mod Keeping
 pub mod Silent
 pub mod Passing
+pub mod Thawed
