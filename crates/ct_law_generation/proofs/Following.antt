@@ -190,7 +190,7 @@ waits None call asked e = absurd (cc)
 waits (Some x) call asked e = cond_both (nat_eq x.call call) (Some x.op) None (λ (r : Option ClientOp). r ≡ Some asked → (y : Wish) × (Some x ≡ Some y) × (y.call ≡ call) × (y.op ≡ asked))
     (λ t k. (x, refl, eqb-true x.call call t, (cc))) (λ f k. absurd (cc)) e
 
-known_wish : (P : ℕ → ClientOp → Type 0) (w : Option Wish) (x : Wish) → w ≡ Some x → Wishful P w → P x.call x.op
+pub known_wish : (P : ℕ → ClientOp → Type 0) (w : Option Wish) (x : Wish) → w ≡ Some x → Wishful P w → P x.call x.op
 unfolding Wishful
 known_wish P None x e h = absurd (cc)
 known_wish P (Some y) x e h = (let same : y ≡ x = cc in subst (λ (z : Wish). P z.call z.op) same h)

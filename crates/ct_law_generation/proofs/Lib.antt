@@ -61,3 +61,4 @@ pub mod Keeping
 pub mod Silent
 pub mod Passing
 pub mod Thawed
+pub mod Thawing
