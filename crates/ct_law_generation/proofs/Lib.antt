@@ -23,7 +23,6 @@ pub mod Admitted
 pub mod Served
 pub mod Clients
 pub mod Lining
-pub mod Refusing
 pub mod Refused
 pub mod Fed
 pub mod Delivered
@@ -62,3 +61,5 @@ pub mod Silent
 pub mod Passing
 pub mod Thawed
 pub mod Thawing
+pub mod Messages
+pub mod Stepping
