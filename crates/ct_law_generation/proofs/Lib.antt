@@ -43,7 +43,6 @@ pub mod BornNodes
 pub mod Asides
 pub mod Rounding
 pub mod Yielding
-pub mod Seeing
 pub mod Holding
 pub mod Finishing
 pub mod Removing

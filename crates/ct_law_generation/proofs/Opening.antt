@@ -1,4 +1,4 @@
--- At the opening what holds of the cluster in its first generation holds, and no schedule is needed.
+-- At the opening what holds of the cluster in its first generation holds.
 use Rattle.std.proofs.Common.{◌≡◌, ℕ, zero, suc, Bool, true, List, [], length, refl, sym, ap, arith, subst, ◌≢◌, ◌+◌, ◌<◌, ◌≤◌, ◌||◌, false, ⊎_elim}
 use Rattle.std.specs.Prelude.{nat_lt, slice_get, replicate, nat_eq}
 use Rattle.std.specs.List.{list_all}
@@ -20,7 +20,7 @@ use Rattle.ct_law_record.proofs.Law.{proved}
 use Rattle.ct_register.proofs.Opened.{untouched_one}
 use Rattle.ct_register.specs.Words.{is_in}
 use Rattle.ct_register.specs.Register.{newborn}
-use Rattle.ct_law_generation.specs.Shown.{Era, scene, view, mails, project, heard, told_by_all, Schedules}
+use Rattle.ct_law_generation.specs.Shown.{Era, scene, view, mails, project}
 use Rattle.ct_law_generation.proofs.Pending.{Callers, CommitFits, DatabaseKnown, NodeKnown, none_known}
 use Rattle.ct_law_generation.proofs.Forming.{Is_formed}
 use Rattle.ct_law_generation.proofs.Staying.{NodeStays, Of_records}
@@ -121,10 +121,6 @@ opened_world c db key =
     let each : (n : ℕ) → nothing ≡ view db key (or_absent (slice_get (replicate c.nodes (node.opening c (everyone c))) n))
     = λ n. sym (one_of_all (λ (x : Node). view db key x ≡ nothing) (node.opening c (everyone c)) (absent_view db key) (opened_view c db key) c.nodes n) in
     λ i. record { nodes = λ n. each n i; joined = λ _. true; mail = [] }
-
-pub opened_schedules : (c : Config) (rules : Rules) → Schedules c (first_era c) rules (cluster.opening c) [] (λ db key. [])
-unfolding heard told_by_all
-opened_schedules c rules db key = (opened_world c db key, refl)
 
 opened_form : (c : Config) (rules : Rules) (n db : ℕ) (key : List ℕ) → Is_formed (scene c (first_era c) rules db key) n nothing
 opened_form c rules n db key = record {

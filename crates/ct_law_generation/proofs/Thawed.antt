@@ -23,7 +23,7 @@ use Rattle.ct_rules_node.specs.Rounds.{Called, pending_calls, want_again_of, wan
 use Rattle.ct_rules_node.specs.Laws.{NodeAscends, left_by}
 use Rattle.ct_rules_node.proofs.Growing.{want_again_grows}
 use Rattle.ct_cluster.specs.Cluster.{Sent}
-use Rattle.ct_cluster.specs.Labels.{Label, Noted}
+use Rattle.ct_cluster.specs.Labels.{Label}
 use Rattle.ct_cluster.specs.Steps.{frames_of}
 use Rattle.ct_cluster.specs.declared.step.PendingCall.{PendingCall}
 use Rattle.ct_register.specs.Words.{is_in}
@@ -280,11 +280,6 @@ served_stays c era rules who calls n x h = record {
   serves = λ _. refl;
   formed = h.formed;
 }
-
--- its label tells nothing of any record
-pub thawed_untold : (db n g : ℕ) (key : List ℕ) → told_by db key (Noted n (note.Thawed g)) ≡ []
-unfolding told_by
-thawed_untold db n g key = refl
 
 -- no record sees it
 pub thawing_goes : (c : Config) (era : Era) (rules : Rules) (who : Callers) (calls n g : ℕ) (pend : List PendingCall) (ws : ℕ → List ℕ → World) (t : Turn) → NodeStays c era rules who calls n t.node → Goes_on c era rules who calls n pend ws t (thawing g t)
