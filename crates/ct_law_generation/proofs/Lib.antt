@@ -44,3 +44,5 @@ pub mod Clearing
 pub mod Going
 pub mod Homing
 pub mod Leaving
+pub mod Keeping
+pub mod Entries
