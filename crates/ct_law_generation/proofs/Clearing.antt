@@ -53,13 +53,13 @@ Clears r g db key w v told = is_removed r g db key told ≡ true → IsCleared r
 
 -- ---- the node's step becomes the cluster's
 
-past_node : (ns : List Node) (n : ℕ) (x : Node) → length ns ≤ n → or_absent (slice_get (set ns n x) n) ≡ absent
+pub past_node : (ns : List Node) (n : ℕ) (x : Node) → length ns ≤ n → or_absent (slice_get (set ns n x) n) ≡ absent
 unfolding or_absent
 past_node [] n x l = refl
 past_node (y ∷ ys) zero x l = absurd (omega arith)
 past_node (y ∷ ys) (suc n) x l = past_node ys n x (omega arith)
 
-absent_entry : (db : ℕ) (key : List ℕ) → (state_at db key absent).entry ≡ None
+pub absent_entry : (db : ℕ) (key : List ℕ) → (state_at db key absent).entry ≡ None
 unfolding state_at db_at absent or_untouched untouched or_nothing
 absent_entry db key = refl
 
@@ -94,7 +94,7 @@ done_clears r g db key s calls lines w v x none ok told = absurd (let same : rec
 
 -- ---- every step
 
-same_node : (k n : ℕ) (m : Sent) (f : Fate) (w : Cluster) → node_at n (with_fate k m f w) ≡ node_at n w
+pub same_node : (k n : ℕ) (m : Sent) (f : Fate) (w : Cluster) → node_at n (with_fate k m f w) ≡ node_at n w
 unfolding with_fate node_at
 same_node zero n m f w = refl
 same_node (suc k) n m f w = refl

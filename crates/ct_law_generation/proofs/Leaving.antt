@@ -238,7 +238,7 @@ unfolding makes_rows
 makes_rows_home me members [] u s = s
 makes_rows_home me members (row ∷ rows) u s = makes_rows_home me members rows _ (either _ (makes_home _ s) s)
 
-own_entry : (me l : ℕ) (row : TableRow) → me ≢ l → entry_from me l row ≡ None
+pub own_entry : (me l : ℕ) (row : TableRow) → me ≢ l → entry_from me l row ≡ None
 unfolding entry_from
 own_entry me l row ne = cond_both (nat_eq me l) _ None (λ (e : Option Entry). e ≡ None) (λ t. absurd (ne (eqb-true me l t))) (λ _. refl)
 

@@ -60,3 +60,5 @@ pub mod Kept
 pub mod Keeping
 pub mod Silent
 pub mod Passing
+pub mod Entries
+pub mod Abiding
