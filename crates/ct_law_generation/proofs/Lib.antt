@@ -62,3 +62,4 @@ pub mod Silent
 pub mod Passing
 pub mod Entries
 pub mod Abiding
+pub mod Running
