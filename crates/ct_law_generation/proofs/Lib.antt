@@ -63,3 +63,4 @@ pub mod Passing
 pub mod Entries
 pub mod Abiding
 pub mod Running
+pub mod Lawful
