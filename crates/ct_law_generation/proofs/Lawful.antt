@@ -10,9 +10,11 @@ use Rattle.ct_register.specs.Register.{newborn}
 use Rattle.ct_register.specs.Lines
 use Rattle.ct_register.specs.Words.{is_in}
 use Rattle.ct_promise.specs.Promises.{IsConfig}
-use Rattle.ct_promise.specs.Born.{Rows, IsBornWith, BornRegisters}
+use Rattle.ct_promise.specs.Born.{Rows, IsBornWith, BornRegisters, PromiseFromRows}
 use Rattle.ct_promise.specs.Marked.{LineMarks}
 use Rattle.ct_promise.specs.Kept.{RunsFrom, LawOfOneGeneration, LawFromRows}
+use Rattle.ct_promise.specs.Generation.{PromiseOfOneGeneration}
+use Rattle.ct_promise.proofs.Follows.{one_generation_follows, rows_follow}
 use Rattle.ct_law_world.specs.World.{World}
 use Rattle.ct_law_world.proofs.Invariant.{Ghost}
 use Rattle.ct_law_record.proofs.Worlds.{WorldInv}
@@ -92,3 +94,11 @@ law_from_rows go config rules g members row w r steps is h b all = (
   marks_of_all (λ db key. (born_ghosts config g members rules row w r is h b db key).0),
   runs_from config (era_from g members w) rules w r (λ db key. (born_ghosts config g members rules row w r is h b db key).0) steps go (born_is_generation config g members row w is h) all (born_lives config g members rules row w r is h b),
 )
+
+-- ---- the promises
+
+pub promise_of_one_generation : StepsGoOn → PromiseOfOneGeneration
+promise_of_one_generation go = one_generation_follows (law_of_one_generation go)
+
+pub promise_from_rows : StepsGoOn → PromiseFromRows
+promise_from_rows go = rows_follow (law_from_rows go)
