@@ -48,9 +48,10 @@ use Rattle.ct_law_world.specs.World.{View, Mail, World}
 use Rattle.ct_law_generation.specs.Shown.{Era, scene, view, mail_of, mails, labels_of, amid, project, Schedules}
 use Rattle.ct_law_generation.proofs.Hearing.{frames_more, mails_more, labels_more}
 use Rattle.ct_law_generation.proofs.Plain.{IsPlain, AllPlain, plain_more}
+use Rattle.ct_law_generation.proofs.Wishing.{Wishful}
 use Rattle.ct_law_generation.proofs.Pending.{Callers, Fits, KnownAt, CommitFits, DatabaseKnown, NodeKnown, pending_fits}
 use Rattle.ct_law_generation.proofs.Forming.{Is_formed}
-use Rattle.ct_law_generation.proofs.Staying.{NodeStays, of_era}
+use Rattle.ct_law_generation.proofs.Staying.{NodeStays, Of_records, of_era}
 use Rattle.ct_law_generation.proofs.Calling.{own_pending}
 use Rattle.ct_law_generation.proofs.Putting.{put_shows}
 use Rattle.ct_law_generation.proofs.Clusters.{ClusterStays, inside, all_known, put_stays}
@@ -111,6 +112,8 @@ stays_with c era rules who calls n db x node h s f = record {
     order = all_set (λ d. Ascends d.records) node.dbs db x (subst (λ m. Ascends m) (sym s.0) (at_ascends node.dbs db h.known.order)) h.known.order;
     dbs = λ d. database_with who calls n db d x node h.known s f;
   };
+  waits = λ d key. subst (λ (v : View). Wishful (Of_records c d key) v.state.wish) (sym (view_with db d key x node s)) (h.waits d key);
+  serves = h.serves;
   formed = λ d key. subst (λ (v : View). Is_formed (scene c era rules d key) n v) (sym (view_with db d key x node s)) (h.formed d key);
 }
 

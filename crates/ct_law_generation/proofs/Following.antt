@@ -37,7 +37,7 @@ use Rattle.ct_law_generation.proofs.Wishing.{Wishful}
 use Rattle.ct_law_generation.proofs.Pending.{Callers, is_call, Known, KnownAt, NodeKnown, answered_as, pending_fits, pending_has}
 use Rattle.ct_law_generation.proofs.Forming.{Is_formed, Is_sound_mail, formed_moves, formed_blank, sound_moves}
 use Rattle.ct_law_generation.proofs.Amid.{Fair, put_world, place_is}
-use Rattle.ct_law_generation.proofs.Staying.{NodeStays, of_era, Sure, stays_at}
+use Rattle.ct_law_generation.proofs.Staying.{NodeStays, Of_records, of_era, Sure, stays_at}
 use Rattle.ct_law_generation.proofs.Events.{each_follows}
 
 list_more : {X : Type 0} (xs ys zs : List X) → xs ++ (ys ++ zs) ≡ (xs ++ ys) ++ zs
@@ -93,6 +93,7 @@ pub record Comes_to (c : Config) (era : Era) (rules : Rules) (who : Callers) (ca
   pub from : is_from_node e ≡ true
   pub whole : (left_by c n db key (λ at o. move at rules e o) t).spent ≡ false
   pub known : Wishful (Known who calls n db key) (left_by c n db key (λ at o. move at rules e o) t).state.wish
+  pub waits : Wishful (Of_records c db key) (left_by c n db key (λ at o. move at rules e o) t).state.wish
   pub finds : Finds db key n pend asks
   pub lawful : Asks (scene c era rules db key) (amid era.number db key n w t)
   pub is_event : happens (scene c era rules db key) (amid era.number db key n w t) ev ≡ put (scene c era rules db key) (amid era.number db key n w t) n asks (left_by c n db key (λ at o. move at rules e o) t)
@@ -116,6 +117,7 @@ sure c era rules who calls n db key e t pend asks w ev h k = record {
   grows = move_grows (place_of c n db key t.node) rules e (node.view db key t.node);
   formed = formed_after c era rules who calls n db key e t pend asks w ev h k;
   known = k.known;
+  waits = k.waits;
 }
 
 pub fair : (c : Config) (era : Era) (rules : Rules) (who : Callers) (calls n db : ℕ) (key : List ℕ) (e : MoveEvent) (t : Turn) (pend : List PendingCall) (asks : ℕ → Option ClientOp) (w : World) (ev : Event) → is_in n era.members ≡ true →

@@ -40,8 +40,8 @@ use Rattle.ct_law_generation.proofs.Coming.{Cluster_goes}
 use Rattle.ct_law_generation.proofs.Counting.{own_caller, more_calls}
 use Rattle.ct_law_generation.proofs.Calling.{own_pending, Goes}
 use Rattle.ct_law_generation.proofs.Called.{counted, called_by, call_goes}
-use Rattle.ct_law_generation.proofs.Admitted.{Admits, admits}
-use Rattle.ct_law_generation.proofs.Served.{client_serves}
+use Rattle.ct_law_generation.proofs.Admitted.{admits}
+use Rattle.ct_law_generation.proofs.Served.{client_serves, record_kind}
 use Rattle.ct_law_generation.proofs.Refused.{untold, refused_follows}
 use Rattle.ct_law_generation.proofs.Configured.{refusals_silent}
 use Rattle.ct_law_generation.proofs.Fed.{fed_is}
@@ -225,11 +225,6 @@ taken_kept : (c : Config) (era : Era) (rules : Rules) (reg : Lines) (w : Cluster
     Run_goes c era rules reg ls w → fault_of c w (step.Client n o) ≡ None → steps c rules w (step.Client n o) ≡ Ok x → Tells c era reg n (own_pending n (w.calls + 1) o ∷ pending (counted w)) (client_turn c rules w n o)
 unfolding fault_of steps node_steps.happens
 taken_kept c era rules reg w ls n o x is kept kind free h ok e = kept w ls n o is kind free h (runs c w n _ ok) (fed_is c rules n (event.Client (w.calls + 1) o) [] (counted w) x e).0
-
--- only a commit or a read that is not refused is of a persistent database
-record_kind : (c : Config) (n : Node) (o : ClientOp) → Admits c n o → is_commit o ≡ false → is_read o ≡ false → node.is_persistent (node.kind_at c (clients.db_of o)) ≡ false
-unfolding wrong_kind refused_if
-record_kind c n o h e f = (let a = h.kind in grind arith)
 
 -- ---- every call
 

@@ -23,11 +23,12 @@ use Rattle.ct_register.specs.Register.{newborn}
 use Rattle.ct_law_generation.specs.Shown.{Era, scene, view, mails, project, heard, told_by_all, Schedules}
 use Rattle.ct_law_generation.proofs.Pending.{Callers, CommitFits, DatabaseKnown, NodeKnown, none_known}
 use Rattle.ct_law_generation.proofs.Forming.{Is_formed}
-use Rattle.ct_law_generation.proofs.Staying.{NodeStays}
+use Rattle.ct_law_generation.proofs.Staying.{NodeStays, Of_records}
 use Rattle.ct_law_generation.proofs.Clusters.{ClusterStays}
 use Rattle.ct_law_generation.proofs.Following.{asks_by_law, IsEra}
 use Rattle.ct_frame.specs.Fields.{is_node, ascends, ascends_after}
 use Rattle.ct_promise.specs.Born.{has_pushed}
+use Rattle.ct_law_generation.proofs.Wishing.{Wishful}
 
 -- ---- its members
 
@@ -72,7 +73,7 @@ numbers_ascend i (suc k) = after_numbers i (i + 1) k (omega arith)
 
 -- the first generation
 abbrev pub first_era : Config → Era
-first_era c = record { number = 1; members = everyone c; start = λ db key. law.opening }
+first_era c = record { number = 1; members = everyone c; thawed = true; start = λ db key. law.opening }
 
 pub first_is_era : (c : Config) → list_all is_node (everyone c) ≡ true → IsEra c (first_era c)
 unfolding everyone
@@ -144,7 +145,7 @@ unfolding node.opening node.db_at node.untouched CommitFits
 opened_known c who calls n db = subst (λ (d : Database). DatabaseKnown who calls n db d) (sym (untouched_one c.dbs db)) (record { records = λ key. none_known who calls n db key; commit = tt })
 
 opened_node : (c : Config) (rules : Rules) (who : Callers) (calls n : ℕ) → NodeStays c (first_era c) rules who calls n (node.opening c (everyone c))
-unfolding node.opening node.is_present_in node.is_present has_pushed
+unfolding node.opening node.is_present_in node.is_present has_pushed Wishful
 opened_node c rules who calls n = record {
   present = refl;
   knows = refl;
@@ -152,6 +153,8 @@ opened_node c rules who calls n = record {
   lead = refl;
   size = (starts_in_order c (everyone c)).0;
   known = record { order = (starts_in_order c (everyone c)).1; dbs = λ db. opened_known c who calls n db };
+  waits = λ db key. subst (λ (v : View). Wishful (Of_records c db key) v.state.wish) (sym (opened_view c db key)) tt;
+  serves = λ _. refl;
   formed = λ db key. subst (λ (v : View). Is_formed (scene c (first_era c) rules db key) n v) (sym (opened_view c db key)) (opened_form c rules n db key);
 }
 

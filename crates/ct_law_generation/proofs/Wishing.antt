@@ -20,6 +20,12 @@ unfoldable pub Wishful : (ℕ → ClientOp → Type 0) → Option Wish → Type 
 Wishful P None = Unit {0}
 Wishful P (Some w) = P w.call w.op
 
+-- what every call has, the one that waits has
+pub all_wishful : (P : ℕ → ClientOp → Type 0) (w : Option Wish) → ((call : ℕ) (asked : ClientOp) → P call asked) → Wishful P w
+unfolding Wishful
+all_wishful P None h = tt
+all_wishful P (Some w) h = h w.call w.op
+
 send_all_same : (ns : List ℕ) (m : Msg) (o : Moving) → (send_all ns m o).state ≡ o.state
 unfolding send_all send acts
 send_all_same [] m o = refl
