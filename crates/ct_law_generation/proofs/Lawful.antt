@@ -27,7 +27,7 @@ use Rattle.ct_law_generation.proofs.Clusters.{all_known}
 use Rattle.ct_law_generation.proofs.Configured.{all_real, all_small}
 use Rattle.ct_law_generation.proofs.Opening.{first_era, first_is_era, below_everyone, opened_world, opened_stays}
 use Rattle.ct_law_generation.proofs.BornWorlds.{era_from}
-use Rattle.ct_law_generation.proofs.BornStarts.{born_real, each_begins, born_line, born_holder}
+use Rattle.ct_law_generation.proofs.BornStarts.{born_real, each_begins, born_line, born_installed, born_holder}
 use Rattle.ct_law_generation.proofs.BornCalls.{callers_in}
 use Rattle.ct_law_generation.proofs.BornStays.{born_stays}
 use Rattle.ct_law_generation.proofs.Going.{Ghosts, marks_of_all, Followed}
@@ -56,7 +56,7 @@ unfolding opening
 opened_lives c rules = record {
   who = no_callers;
   stays = restart c (first_era c) rules no_callers (opening c) (λ db key. project 1 db key (opening c)) (opened_stays c rules no_callers);
-  line = record { inside = λ n among. ap (λ b. cond b 1 0) (below_everyone c n among); holder = refl };
+  line = record { inside = λ n among. ap (λ b. cond b 1 0) (below_everyone c n among); ready = λ cold. absurd (cc); holder = refl };
   home = opening_home c (λ n. (all_known c (first_era c) rules no_callers (opening c) (opened_stays c rules no_callers) n).order);
   followed = opened_followed c rules;
 }
@@ -83,8 +83,8 @@ born_lives : (config : Config) (g : ℕ) (members : List ℕ) (rules : Rules) (r
     Lives config (era_from g members w) rules w r (λ db key. (born_ghosts config g members rules row w r is h b db key).0)
 born_lives config g members rules row w r is h b = record {
   who = callers_in w;
-  stays = born_stays config (era_from g members w) rules row w h;
-  line = record { inside = born_line config w g members row r b; holder = born_holder config w g members row r b };
+  stays = born_stays config (era_from g members w) rules row w refl h;
+  line = record { inside = born_line config w g members row r b; ready = λ _. born_installed config w g members row r b; holder = born_holder config w g members row r b };
   home = born_home config g members row w h;
   followed = λ db key. (born_ghosts config g members rules row w r is h b db key).1;
 }

@@ -31,7 +31,7 @@ use Rattle.ct_law_world.proofs.Invariant.{Ghost}
 use Rattle.ct_law_record.proofs.Worlds.{WorldInv}
 use Rattle.ct_law_record.proofs.Law.{leads}
 use Rattle.ct_law_record.proofs.MarkedRun.{marks_of}
-use Rattle.ct_law_generation.specs.Shown.{Era, scene, project, heard, told_by_all, Schedules}
+use Rattle.ct_law_generation.specs.Shown.{Era, scene, project, AllInstalled, heard, told_by_all, Schedules}
 use Rattle.ct_law_generation.proofs.Weave.{true_or_false}
 use Rattle.ct_law_generation.proofs.Pending.{Callers}
 use Rattle.ct_law_generation.proofs.Staying.{NodeStays}
@@ -128,9 +128,11 @@ pub record IsGeneration (c : Config) (era : Era) : Type 0 where
   pub positive : 1 ≤ era.number
   pub small : (db : ℕ) → db < length c.dbs → is_db db ≡ true
 
--- the members are in the line of the generation, and the recovery lock is where the cluster has it
+-- the members are in the line of the generation, which they all have installed where not all serve yet; the recovery lock is
+-- where the cluster has it
 pub record InLine (era : Era) (w : Cluster) (r : Lines) : Type 0 where
   pub inside : (n : ℕ) → is_in n era.members ≡ true → r.line n ≡ era.number
+  pub ready : era.thawed ≡ false → AllInstalled era.number r
   pub holder : r.holder ≡ w.holder
 
 -- all that holds of the cluster with its registers and ghosts
@@ -150,7 +152,7 @@ lives_hold c era rules w r ghosts is h =
 -- ---- a generation may be followed from any of its clusters on
 
 restart_node : (c : Config) (era : Era) (rules : Rules) (who : Callers) (calls n : ℕ) (x : Node) (start : ℕ → List ℕ → World) → NodeStays c era rules who calls n x → NodeStays c (record era { start = start }) rules who calls n x
-restart_node c era rules who calls n x start h = record { present = h.present; knows = h.knows; promise = h.promise; lead = h.lead; size = h.size; known = h.known; formed = h.formed }
+restart_node c era rules who calls n x start h = record { present = h.present; knows = h.knows; promise = h.promise; lead = h.lead; size = h.size; known = h.known; formed = h.formed; waits = h.waits; serves = h.serves }
 
 pub restart : (c : Config) (era : Era) (rules : Rules) (who : Callers) (w : Cluster) (start : ℕ → List ℕ → World) → ClusterStays c era rules who w → ClusterStays c (record era { start = start }) rules who w
 restart c era rules who w start h = record {
@@ -209,6 +211,7 @@ StepsGoOn = (c : Config) (era : Era) (rules : Rules) (reg : Lines) (w : Cluster)
 still_in_line : (era : Era) (w v : Cluster) (r t : Lines) → t ≡ record r { records = t.records } → v.holder ≡ w.holder → InLine era w r → InLine era v t
 still_in_line era w v r t rest held h = record {
   inside = λ n among. ap (λ (l : Lines). l.line n) rest ∙ h.inside n among;
+  ready = λ cold m among. ap (λ (l : Lines). l.installed era.number m) rest ∙ h.ready cold m (ap (λ (l : Lines). is_in m (l.members era.number)) (sym rest) ∙ among);
   holder = ap (λ (l : Lines). l.holder) rest ∙ h.holder ∙ sym held;
 }
 
@@ -263,7 +266,7 @@ unfolding node_at
 yielded_lives c era rules w r ghosts h = record {
   who = h.who;
   stays = restart c (era_from era w) rules h.who (yielded w) (λ db key. project era.number db key (yielded w)) (yielded_stays c (era_from era w) rules h.who w h.stays);
-  line = record { inside = h.line.inside; holder = refl };
+  line = record { inside = h.line.inside; ready = h.line.ready; holder = refl };
   home = h.home;
   followed = h.followed;
 }
