@@ -146,7 +146,7 @@ sends_sound c era rules who calls n db key e t pend asks w ev node h k =
     subst (λ (o : Moving). AllByRecursion Is_sound_mail (sent n o.acts)) (sym is)
     (sound_moves (scene c era rules db key) n (view db key t.node) e k.has node (h.formed db key) k.may k.from (ap (λ (o : Moving). o.spent) (sym is) ∙ k.whole))
 
-all_plain : (c : Config) (era : Era) (n db : ℕ) (key : List ℕ) (part : Place → Moving → Moving) (t : Turn) → t.node.generation ≡ era.number → Told (place_of c n db key t.node) (left_by c n db key part t).acts → AllByRecursion Is_sound_mail (sent n (left_by c n db key part t).acts) →
+pub all_plain : (c : Config) (era : Era) (n db : ℕ) (key : List ℕ) (part : Place → Moving → Moving) (t : Turn) → t.node.generation ≡ era.number → Told (place_of c n db key t.node) (left_by c n db key part t).acts → AllByRecursion Is_sound_mail (sent n (left_by c n db key part t).acts) →
     AllPlain era.number (frames_of t.outs) → AllPlain era.number (frames_of (at_record c n db key part t).outs)
 unfolding at_record acted place_of
 all_plain c era n db key part t is told sound before =
@@ -190,7 +190,7 @@ waits None call asked e = absurd (cc)
 waits (Some x) call asked e = cond_both (nat_eq x.call call) (Some x.op) None (λ (r : Option ClientOp). r ≡ Some asked → (y : Wish) × (Some x ≡ Some y) × (y.call ≡ call) × (y.op ≡ asked))
     (λ t k. (x, refl, eqb-true x.call call t, (cc))) (λ f k. absurd (cc)) e
 
-known_wish : (P : ℕ → ClientOp → Type 0) (w : Option Wish) (x : Wish) → w ≡ Some x → Wishful P w → P x.call x.op
+pub known_wish : (P : ℕ → ClientOp → Type 0) (w : Option Wish) (x : Wish) → w ≡ Some x → Wishful P w → P x.call x.op
 unfolding Wishful
 known_wish P None x e h = absurd (cc)
 known_wish P (Some y) x e h = (let same : y ≡ x = cc in subst (λ (z : Wish). P z.call z.op) same h)

@@ -57,7 +57,7 @@ both_kept : (P : Label → Type 0) (xs ys : List Label) → AllByRecursion P xs 
 both_kept P [] ys h k = k
 both_kept P (x ∷ xs) ys h k = (h.0, both_kept P xs ys h.1 k)
 
-tells_more : (c : Config) (era : Era) (reg : Lines) (n : ℕ) (pend : List PendingCall) (xs ys : List Out) → AllByRecursion (Is_fit c era.number reg) (labels_of n pend xs) → AllByRecursion (Is_fit c era.number reg) (labels_of n pend ys) →
+pub tells_more : (c : Config) (era : Era) (reg : Lines) (n : ℕ) (pend : List PendingCall) (xs ys : List Out) → AllByRecursion (Is_fit c era.number reg) (labels_of n pend xs) → AllByRecursion (Is_fit c era.number reg) (labels_of n pend ys) →
     AllByRecursion (Is_fit c era.number reg) (labels_of n pend (xs ++ ys))
 tells_more c era reg n pend xs ys h k = subst (λ (l : List Label). AllByRecursion (Is_fit c era.number reg) l) (sym (labels_more n pend xs ys)) (both_kept (Is_fit c era.number reg) (labels_of n pend xs) (labels_of n pend ys) h k)
 

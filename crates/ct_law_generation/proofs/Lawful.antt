@@ -32,7 +32,7 @@ use Rattle.ct_law_generation.proofs.BornCalls.{callers_in}
 use Rattle.ct_law_generation.proofs.BornStays.{born_stays}
 use Rattle.ct_law_generation.proofs.Going.{Ghosts, marks_of_all, Followed}
 use Rattle.ct_law_generation.proofs.Entries.{opening_home, born_home}
-use Rattle.ct_law_generation.proofs.Running.{IsGeneration, Lives, StepsGoOn, restart, runs_from}
+use Rattle.ct_law_generation.proofs.Running.{IsGeneration, Lives, restart, runs_from}
 
 -- ---- from the opening
 
@@ -61,10 +61,10 @@ opened_lives c rules = record {
   followed = opened_followed c rules;
 }
 
-pub law_of_one_generation : StepsGoOn → LawOfOneGeneration
-law_of_one_generation go config rules steps is all =
+pub law_of_one_generation : LawOfOneGeneration
+law_of_one_generation config rules steps is all =
     subst (λ (marks : LineMarks). RunsFrom config rules 1 (opening config) (Lines.opening config) marks steps) (λ i db key. bare_marks (master_of (everyone config) key) i)
-    (runs_from config (first_era config) rules (opening config) (Lines.opening config) (opened_ghosts config) steps go (first_is_generation config is) all (opened_lives config rules))
+    (runs_from config (first_era config) rules (opening config) (Lines.opening config) (opened_ghosts config) steps (first_is_generation config is) all (opened_lives config rules))
 
 -- ---- from a generation that began with rows
 
@@ -89,16 +89,16 @@ born_lives config g members rules row w r is h b = record {
   followed = λ db key. (born_ghosts config g members rules row w r is h b db key).1;
 }
 
-pub law_from_rows : StepsGoOn → LawFromRows
-law_from_rows go config rules g members row w r steps is h b all = (
+pub law_from_rows : LawFromRows
+law_from_rows config rules g members row w r steps is h b all = (
   marks_of_all (λ db key. (born_ghosts config g members rules row w r is h b db key).0),
-  runs_from config (era_from g members w) rules w r (λ db key. (born_ghosts config g members rules row w r is h b db key).0) steps go (born_is_generation config g members row w is h) all (born_lives config g members rules row w r is h b),
+  runs_from config (era_from g members w) rules w r (λ db key. (born_ghosts config g members rules row w r is h b db key).0) steps (born_is_generation config g members row w is h) all (born_lives config g members rules row w r is h b),
 )
 
 -- ---- the promises
 
-pub promise_of_one_generation : StepsGoOn → PromiseOfOneGeneration
-promise_of_one_generation go = one_generation_follows (law_of_one_generation go)
+pub promise_of_one_generation : PromiseOfOneGeneration
+promise_of_one_generation = one_generation_follows law_of_one_generation
 
-pub promise_from_rows : StepsGoOn → PromiseFromRows
-promise_from_rows go = rows_follow (law_from_rows go)
+pub promise_from_rows : PromiseFromRows
+promise_from_rows = rows_follow law_from_rows

@@ -23,7 +23,6 @@ pub mod Admitted
 pub mod Served
 pub mod Clients
 pub mod Lining
-pub mod Refusing
 pub mod Refused
 pub mod Fed
 pub mod Delivered
@@ -64,3 +63,7 @@ pub mod Entries
 pub mod Abiding
 pub mod Running
 pub mod Lawful
+pub mod Thawed
+pub mod Thawing
+pub mod Messages
+pub mod Stepping

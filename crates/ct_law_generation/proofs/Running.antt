@@ -1,5 +1,5 @@
 -- Through all steps of one generation its records hold with the registers and marks of its line.
-use Rattle.std.proofs.Common.{◌≡◌, ℕ, zero, suc, ◌+◌, ◌<◌, ◌≤◌, Bool, true, false, List, [], ◌∷◌, length, Option, Some, None, refl, sym, ap, ◌∙◌, arith, subst, ⊎_elim}
+use Rattle.std.proofs.Common.{◌≡◌, ℕ, zero, suc, ◌+◌, ◌<◌, ◌≤◌, true, false, List, [], ◌∷◌, length, Option, Some, None, refl, sym, ap, ◌∙◌, arith, subst, ⊎_elim}
 use Rattle.std.specs.Prelude.{nat_lt, Result, Ok, Err}
 use Rattle.std.specs.List.{list_all}
 use Rattle.std.proofs.lemmas.Bool.{cond_both, and_parts}
@@ -40,17 +40,13 @@ use Rattle.ct_law_generation.proofs.Following.{asks_by_law}
 use Rattle.ct_law_generation.proofs.Fed.{fed_is}
 use Rattle.ct_law_generation.proofs.Concluding.{EachIsOne}
 use Rattle.ct_law_generation.proofs.Assembled.{Run_goes, Starts}
+use Rattle.ct_law_generation.proofs.Stepping.{is_yield, step_goes_on}
 use Rattle.ct_law_generation.proofs.Yielding.{yielded, yields, yield_runs, yield_accepted}
 use Rattle.ct_law_generation.proofs.Going.{Ghosts, marks_of_all, Followed, followed_hold, era_from, step_goes}
 use Rattle.ct_law_generation.proofs.Abiding.{AllAtHome, step_home}
 use Rattle.ct_law_generation.proofs.Entries.{lined}
 
 -- ---- the recovery lock stays where it is
-
--- is it the step that gives the recovery lock back?
-unfoldable pub is_yield : Step → Bool
-is_yield (step.Yield n) = true
-is_yield s = false
 
 -- the recovery lock is where it was
 abbrev Held : Cluster → Cluster → Type 0
@@ -183,6 +179,7 @@ starts_here c era rules w r ghosts is h = record {
   };
   law = leads_here c era rules rules w r ghosts is.real h.followed;
   line = h.line.inside;
+  ready = h.line.ready;
   small = is.small;
 }
 
@@ -203,11 +200,6 @@ pub record After (c : Config) (era : Era) (rules : Rules) (r : Lines) (ghosts : 
   pub marks : MarksGoOnIn era.number r run.trace (marks_of_all ghosts) (marks_of_all ghosts_after)
   pub lives : Lives c era rules run.cluster lines ghosts_after
 
--- every step of one generation that does not give the recovery lock back lets the run go on
-abbrev pub StepsGoOn : Type 0
-StepsGoOn = (c : Config) (era : Era) (rules : Rules) (reg : Lines) (w : Cluster) (s : Step) → Starts c era rules reg → Run_goes c era rules reg [] w → is_of_one_generation s ≡ true → is_yield s ≡ false →
-    Run_goes c era rules reg (record_labels c (ran_one c rules w s).trace) (ran_one c rules w s).cluster
-
 still_in_line : (era : Era) (w v : Cluster) (r t : Lines) → t ≡ record r { records = t.records } → v.holder ≡ w.holder → InLine era w r → InLine era v t
 still_in_line era w v r t rest held h = record {
   inside = λ n among. ap (λ (l : Lines). l.line n) rest ∙ h.inside n among;
@@ -215,11 +207,11 @@ still_in_line era w v r t rest held h = record {
   holder = ap (λ (l : Lines). l.holder) rest ∙ h.holder ∙ sym held;
 }
 
-goes_after : (c : Config) (era : Era) (rules : Rules) (w : Cluster) (r : Lines) (ghosts : Ghosts) (s : Step) → StepsGoOn → IsGeneration c era → is_of_one_generation s ≡ true → is_yield s ≡ false → Lives c era rules w r ghosts →
+goes_after : (c : Config) (era : Era) (rules : Rules) (w : Cluster) (r : Lines) (ghosts : Ghosts) (s : Step) → IsGeneration c era → is_of_one_generation s ≡ true → is_yield s ≡ false → Lives c era rules w r ghosts →
     After c era rules r ghosts (ran_one c rules w s)
-goes_after c era rules w r ghosts s go is one other h =
+goes_after c era rules w r ghosts s is one other h =
     let run = ran_one c rules w s in
-    let on = go c (era_from era w) rules r w s (starts_here c era rules w r ghosts is h) (goes_here c era rules w r ghosts h) one other in
+    let on = step_goes_on c (era_from era w) rules r w s (starts_here c era rules w r ghosts is h) (goes_here c era rules w r ghosts h) one other in
     let k = step_goes c era rules w r ghosts s on.goes.1 (record {
       real = is.real;
       positive = is.positive;
@@ -288,27 +280,27 @@ yield_after c era rules w r ghosts n h = either (fault_of c w (step.Yield n)) re
 -- ---- all steps
 
 -- all holds after a step of one generation
-pub step_after : (c : Config) (era : Era) (rules : Rules) (w : Cluster) (r : Lines) (ghosts : Ghosts) (s : Step) → StepsGoOn → IsGeneration c era → is_of_one_generation s ≡ true → Lives c era rules w r ghosts → After c era rules r ghosts (ran_one c rules w s)
+pub step_after : (c : Config) (era : Era) (rules : Rules) (w : Cluster) (r : Lines) (ghosts : Ghosts) (s : Step) → IsGeneration c era → is_of_one_generation s ≡ true → Lives c era rules w r ghosts → After c era rules r ghosts (ran_one c rules w s)
 unfolding is_yield is_of_one_generation
-step_after c era rules w r ghosts (step.Yield n) go is one h = yield_after c era rules w r ghosts n h
-step_after c era rules w r ghosts s go is one h = goes_after c era rules w r ghosts s go is one refl h
+step_after c era rules w r ghosts (step.Yield n) is one h = yield_after c era rules w r ghosts n h
+step_after c era rules w r ghosts s is one h = goes_after c era rules w r ghosts s is one refl h
 
-run_on : (c : Config) (era : Era) (rules : Rules) (w : Cluster) (r : Lines) (ghosts : Ghosts) (steps : List Step) → StepsGoOn → IsGeneration c era → list_all is_of_one_generation steps ≡ true → Lives c era rules w r ghosts →
+run_on : (c : Config) (era : Era) (rules : Rules) (w : Cluster) (r : Lines) (ghosts : Ghosts) (steps : List Step) → IsGeneration c era → list_all is_of_one_generation steps ≡ true → Lives c era rules w r ghosts →
     RecordsRun c rules era.number w r (marks_of_all ghosts) steps
 unfolding RecordsRun
-run_on c era rules w r ghosts [] go is one h = tt
-run_on c era rules w r ghosts (s ∷ ss) go is one h =
+run_on c era rules w r ghosts [] is one h = tt
+run_on c era rules w r ghosts (s ∷ ss) is one h =
     let ok = and_parts (is_of_one_generation s) (list_all is_of_one_generation ss) one in
-    let k = step_after c era rules w r ghosts s go is ok.0 h in (
+    let k = step_after c era rules w r ghosts s is ok.0 h in (
       k.lines,
       marks_of_all k.ghosts_after,
       k.accepts,
       lives_hold c era rules (ran_one c rules w s).cluster k.lines k.ghosts_after is k.lives,
       k.marks,
-      run_on c era rules (ran_one c rules w s).cluster k.lines k.ghosts_after ss go is ok.1 k.lives,
+      run_on c era rules (ran_one c rules w s).cluster k.lines k.ghosts_after ss is ok.1 k.lives,
     )
 
 -- so the records of the generation run from every cluster, registers and ghosts of which all holds
-pub runs_from : (c : Config) (era : Era) (rules : Rules) (w : Cluster) (r : Lines) (ghosts : Ghosts) (steps : List Step) → StepsGoOn → IsGeneration c era → list_all is_of_one_generation steps ≡ true → Lives c era rules w r ghosts →
+pub runs_from : (c : Config) (era : Era) (rules : Rules) (w : Cluster) (r : Lines) (ghosts : Ghosts) (steps : List Step) → IsGeneration c era → list_all is_of_one_generation steps ≡ true → Lives c era rules w r ghosts →
     RunsFrom c rules era.number w r (marks_of_all ghosts) steps
-runs_from c era rules w r ghosts steps go is one h = (lives_hold c era rules w r ghosts is h, run_on c era rules w r ghosts steps go is one h)
+runs_from c era rules w r ghosts steps is one h = (lives_hold c era rules w r ghosts is h, run_on c era rules w r ghosts steps is one h)

@@ -182,7 +182,7 @@ vacuum_goes c era rules who calls n db key pend ws t real member small h there a
 -- ---- at every record of the database
 
 -- a step that was whole at its end was so before
-either_whole : (a b : Bool) → (a || b) ≡ false → a ≡ false
+pub either_whole : (a b : Bool) → (a || b) ≡ false → a ≡ false
 either_whole true b e = absurd (cc)
 either_whole false b e = refl
 
