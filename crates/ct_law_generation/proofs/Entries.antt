@@ -28,7 +28,7 @@ use Rattle.ct_law_generation.proofs.Opening.{opened_world}
 use Rattle.ct_law_generation.proofs.Holding.{Lined}
 use Rattle.ct_law_generation.proofs.Clearing as clearing
 use Rattle.ct_law_generation.proofs.Leaving.{AtHome, own_entry}
-use Rattle.ct_law_generation.proofs.Abiding.{AllAtHome, empty_home}
+use Rattle.ct_law_generation.proofs.AtHome.{AllAtHome, empty_home}
 
 -- ---- at the start
 

@@ -60,7 +60,7 @@ pub mod Keeping
 pub mod Silent
 pub mod Passing
 pub mod Entries
-pub mod Abiding
+pub mod AtHome
 pub mod Running
 pub mod Lawful
 pub mod Thawed

@@ -43,7 +43,7 @@ use Rattle.ct_law_generation.proofs.Assembled.{Run_goes, Starts}
 use Rattle.ct_law_generation.proofs.Stepping.{is_yield, step_goes_on}
 use Rattle.ct_law_generation.proofs.Yielding.{yielded, yields, yield_runs, yield_accepted}
 use Rattle.ct_law_generation.proofs.Going.{Ghosts, marks_of_all, Followed, followed_hold, era_from, step_goes}
-use Rattle.ct_law_generation.proofs.Abiding.{AllAtHome, step_home}
+use Rattle.ct_law_generation.proofs.AtHome.{AllAtHome, step_home}
 use Rattle.ct_law_generation.proofs.Entries.{lined}
 
 -- ---- the recovery lock stays where it is
