@@ -46,3 +46,4 @@ pub mod Homing
 pub mod Leaving
 pub mod Keeping
 pub mod Entries
+pub mod Running
