@@ -34,17 +34,22 @@ use Rattle.ct_law_generation.proofs.Entries.{lined}
 
 -- ---- what holds at every step
 
--- the registers have the line of the generation, which its members are in and have installed; the recovery lock is where the
--- cluster has it
-pub record InLine (era : Era) (w : Cluster) (r : Lines) : Type 0 where
+-- The registers are as they were at first, but for those of records and the recovery lock, which is where the cluster has it.
+-- The members are in the line of the generation.
+pub record InLine (era : Era) (base : Lines) (w : Cluster) (r : Lines) : Type 0 where
+  pub same : r ≡ record base { records = r.records; holder = r.holder }
   pub inside : (n : ℕ) → is_in n era.members ≡ true → r.line n ≡ era.number
-  pub installed : AllInstalled era.number r
   pub holder : r.holder ≡ w.holder
 
--- all that holds of the cluster
-pub record Holds_so (c : Config) (era : Era) (rules : Rules) (who : Callers) (w : Cluster) (r : Lines) (ghosts : Ghosts) : Type 0 where
+-- so all have installed the line that had at first
+pub still_installed : (g : ℕ) (base r : Lines) → r ≡ record base { records = r.records; holder = r.holder } → AllInstalled g base → AllInstalled g r
+still_installed g base r same h m among = ap (λ (l : Lines). l.installed g m) same ∙ h m (ap (λ (l : Lines). is_in m (l.members g)) (sym same) ∙ among)
+
+-- all that holds of the cluster, and what else each step keeps of it
+pub record Holds_so (c : Config) (era : Era) (rules : Rules) (base : Lines) (also : Cluster → Type 0) (who : Callers) (w : Cluster) (r : Lines) (ghosts : Ghosts) : Type 0 where
   pub stays : ClusterStays c era rules who w
-  pub line : InLine era w r
+  pub line : InLine era base w r
+  pub more : also w
   pub home : AllAtHome w
   pub followed : Followed c era rules w r ghosts
 
@@ -52,25 +57,27 @@ pub record Holds_so (c : Config) (era : Era) (rules : Rules) (who : Callers) (w 
 
 -- A step is a schedule of the world of each record, from what the cluster shows of it, and tells what that tells. The cluster
 -- stays so, and the recovery lock where it is.
-pub record Goes_by (c : Config) (era : Era) (rules : Rules) (w : Cluster) (r : Lines) (s : Step) : Type 0 where
+pub record Goes_by (c : Config) (era : Era) (rules : Rules) (also : Cluster → Type 0) (w : Cluster) (r : Lines) (s : Step) : Type 0 where
   pub who : Callers
   pub stays : ClusterStays c (era_from era w) rules who (ran_one c rules w s).cluster
   pub events : ℕ → List ℕ → List Event
   pub schedules : Schedules c (era_from era w) rules (ran_one c rules w s).cluster (record_labels c (ran_one c rules w s).trace) events
   pub line : AllByRecursion (IsOfLine c era.number r) (record_labels c (ran_one c rules w s).trace)
   pub holder : (ran_one c rules w s).cluster.holder ≡ w.holder
+  pub more : also (ran_one c rules w s).cluster
 
 -- or it yields the recovery lock, and does nothing else
-pub record Yields_by (c : Config) (rules : Rules) (w : Cluster) (s : Step) : Type 0 where
+pub record Yields_by (c : Config) (rules : Rules) (also : Cluster → Type 0) (w : Cluster) (s : Step) : Type 0 where
   pub node : ℕ
   pub held : w.holder ≡ Some node
   pub trace : (ran_one c rules w s).trace ≡ Yielded node ∷ []
   pub cluster : (ran_one c rules w s).cluster ≡ record w { holder = None }
+  pub more : also (record w { holder = None })
 
 -- so is every step of one generation, from whatever cluster and registers that stay so
-abbrev pub Each_goes : Config → Era → Rules → Type 0
-Each_goes c era rules = (who : Callers) (w : Cluster) (r : Lines) (s : Step) → is_of_one_generation s ≡ true → IsEra c (era_from era w) → ClusterStays c (era_from era w) rules who w → InLine era w r →
-    Goes_by c era rules w r s ⊎ Yields_by c rules w s
+abbrev pub Each_goes : Config → Era → Rules → Lines → (Cluster → Type 0) → Type 0
+Each_goes c era rules base also = (who : Callers) (w : Cluster) (r : Lines) (s : Step) → is_of_one_generation s ≡ true → IsEra c (era_from era w) → ClusterStays c (era_from era w) rules who w → InLine era base w r → also w →
+    Goes_by c era rules also w r s ⊎ Yields_by c rules also w s
 
 -- no schedule has begun yet
 pub starts_here : (c : Config) (era : Era) (rules : Rules) (w : Cluster) → Schedules c (era_from era w) rules w [] (λ db key. [])
@@ -106,24 +113,27 @@ era_here c era rules w r ghosts e f = record {
 -- ---- a step
 
 -- what there is after a step
-pub record After (c : Config) (era : Era) (rules : Rules) (r : Lines) (ghosts : Ghosts) (run : Ran) : Type 0 where
+pub record After (c : Config) (era : Era) (rules : Rules) (base : Lines) (also : Cluster → Type 0) (r : Lines) (ghosts : Ghosts) (run : Ran) : Type 0 where
   pub who : Callers
   pub lines : Lines
   pub ghosts_after : Ghosts
   pub accepts : AcceptsLabels c rules r (record_labels c run.trace) lines
-  pub holds : Holds_so c era rules who run.cluster lines ghosts_after
+  pub holds : Holds_so c era rules base also who run.cluster lines ghosts_after
   pub marks : MarksGoOnIn era.number r run.trace (marks_of_all ghosts) (marks_of_all ghosts_after)
 
-still_in_line : (era : Era) (w v : Cluster) (r t : Lines) → t ≡ record r { records = t.records } → v.holder ≡ w.holder → InLine era w r → InLine era v t
-still_in_line era w v r t rest held h = record {
+still_in_line : (era : Era) (base : Lines) (w v : Cluster) (r t : Lines) → t ≡ record r { records = t.records } → v.holder ≡ w.holder → InLine era base w r → InLine era base v t
+still_in_line era base w v r t rest held h = record {
+  same = rest ∙ ap (λ (l : Lines). record l { records = t.records }) h.same ∙ (λ i. record base { records = t.records; holder = sym lock i });
   inside = λ n among. ap (λ (l : Lines). l.line n) rest ∙ h.inside n among;
-  installed = λ m among. ap (λ (l : Lines). l.installed era.number m) rest ∙ h.installed m (ap (λ (l : Lines). is_in m (l.members era.number)) (sym rest) ∙ among);
-  holder = ap (λ (l : Lines). l.holder) rest ∙ h.holder ∙ sym held;
+  holder = lock ∙ h.holder ∙ sym held;
 }
+  where
+    lock : t.holder ≡ r.holder
+    lock = ap (λ (l : Lines). l.holder) rest
 
-goes_after : (c : Config) (era : Era) (rules : Rules) (who : Callers) (w : Cluster) (r : Lines) (ghosts : Ghosts) (s : Step) → IsEra c era →
-    Holds_so c era rules who w r ghosts → Goes_by c era rules w r s → After c era rules r ghosts (ran_one c rules w s)
-goes_after c era rules who w r ghosts s e h g =
+goes_after : (c : Config) (era : Era) (rules : Rules) (base : Lines) (also : Cluster → Type 0) (who : Callers) (w : Cluster) (r : Lines) (ghosts : Ghosts) (s : Step) → IsEra c era →
+    Holds_so c era rules base also who w r ghosts → Goes_by c era rules also w r s → After c era rules base also r ghosts (ran_one c rules w s)
+goes_after c era rules base also who w r ghosts s e h g =
     let k = step_goes c era rules w r ghosts s g.events (record {
       real = e.real;
       positive = e.positive;
@@ -136,7 +146,7 @@ goes_after c era rules who w r ghosts s e h g =
       lines = k.lines;
       ghosts_after = k.ghosts_after;
       accepts = k.accepts;
-      holds = record { stays = stays_back c era (era_from era w).start rules g.who (ran_one c rules w s).cluster g.stays; line = still_in_line era w (ran_one c rules w s).cluster r k.lines k.rest g.holder h.line; home = step_home c rules w s h.home; followed = k.followed };
+      holds = record { stays = stays_back c era (era_from era w).start rules g.who (ran_one c rules w s).cluster g.stays; line = still_in_line era base w (ran_one c rules w s).cluster r k.lines k.rest g.holder h.line; more = g.more; home = step_home c rules w s h.home; followed = k.followed };
       marks = k.marks;
     }
 
@@ -156,51 +166,52 @@ yielded_stays : (c : Config) (era : Era) (rules : Rules) (who : Callers) (w : Cl
 unfolding node_at is_up
 yielded_stays c era rules who w h = record { size = h.size; there = h.there; up = h.up; nodes = h.nodes; left = h.left; left_known = h.left_known; sent = h.sent }
 
-yielded_holds : (c : Config) (era : Era) (rules : Rules) (who : Callers) (w : Cluster) (r : Lines) (ghosts : Ghosts) → Holds_so c era rules who w r ghosts → Holds_so c era rules who (record w { holder = None }) (record r { holder = None }) ghosts
+yielded_holds : (c : Config) (era : Era) (rules : Rules) (base : Lines) (also : Cluster → Type 0) (who : Callers) (w : Cluster) (r : Lines) (ghosts : Ghosts) → also (record w { holder = None }) → Holds_so c era rules base also who w r ghosts → Holds_so c era rules base also who (record w { holder = None }) (record r { holder = None }) ghosts
 unfolding node_at
-yielded_holds c era rules who w r ghosts h = record {
+yielded_holds c era rules base also who w r ghosts more h = record {
   stays = yielded_stays c era rules who w h.stays;
-  line = record { inside = h.line.inside; installed = h.line.installed; holder = refl };
+  line = record { same = ap (λ (l : Lines). record l { holder = None }) h.line.same; inside = h.line.inside; holder = refl };
+  more = more;
   home = h.home;
   followed = h.followed;
 }
 
-yields_after : (c : Config) (era : Era) (rules : Rules) (who : Callers) (w : Cluster) (r : Lines) (ghosts : Ghosts) (s : Step) → Holds_so c era rules who w r ghosts → Yields_by c rules w s → After c era rules r ghosts (ran_one c rules w s)
+yields_after : (c : Config) (era : Era) (rules : Rules) (base : Lines) (also : Cluster → Type 0) (who : Callers) (w : Cluster) (r : Lines) (ghosts : Ghosts) (s : Step) → Holds_so c era rules base also who w r ghosts → Yields_by c rules also w s → After c era rules base also r ghosts (ran_one c rules w s)
 unfolding speaks_of_records is_removal
-yields_after c era rules who w r ghosts s h y = record {
+yields_after c era rules base also who w r ghosts s h y = record {
   who = who;
   lines = record r { holder = None };
   ghosts_after = ghosts;
   accepts = subst (λ (l : List Label). AcceptsLabels c rules r (record_labels c l) (record r { holder = None })) (sym y.trace) (record r { holder = None }, (h.line.holder ∙ y.held, refl), refl);
-  holds = subst (λ (v : Cluster). Holds_so c era rules who v (record r { holder = None }) ghosts) (sym y.cluster) (yielded_holds c era rules who w r ghosts h);
+  holds = subst (λ (v : Cluster). Holds_so c era rules base also who v (record r { holder = None }) ghosts) (sym y.cluster) (yielded_holds c era rules base also who w r ghosts y.more h);
   marks = λ db key. subst (λ (l : List Label). MarksStep (is_removed r era.number db key l) (marks_of (ghosts db key)) (marks_of (ghosts db key))) (sym y.trace) (marks_stay (marks_of (ghosts db key)));
 }
 
 -- ---- all steps
 
 -- the cluster's records hold with the registers and marks of the line
-pub so_hold : (c : Config) (era : Era) (rules : Rules) (who : Callers) (w : Cluster) (r : Lines) (ghosts : Ghosts) → 1 ≤ era.number → Holds_so c era rules who w r ghosts → RecordsHold era.number w r (marks_of_all ghosts)
-so_hold c era rules who w r ghosts positive h = followed_hold c era rules w r ghosts (lined c era rules who w r positive h.stays h.line.inside h.home) h.followed
+pub so_hold : (c : Config) (era : Era) (rules : Rules) (base : Lines) (also : Cluster → Type 0) (who : Callers) (w : Cluster) (r : Lines) (ghosts : Ghosts) → 1 ≤ era.number → Holds_so c era rules base also who w r ghosts → RecordsHold era.number w r (marks_of_all ghosts)
+so_hold c era rules base also who w r ghosts positive h = followed_hold c era rules w r ghosts (lined c era rules who w r positive h.stays h.line.inside h.home) h.followed
 
-run_on : (c : Config) (era : Era) (rules : Rules) (who : Callers) (w : Cluster) (r : Lines) (ghosts : Ghosts) (steps : List Step) → IsEra c era → Each_goes c era rules → list_all is_of_one_generation steps ≡ true →
-    Holds_so c era rules who w r ghosts → RecordsRun c rules era.number w r (marks_of_all ghosts) steps
+run_on : (c : Config) (era : Era) (rules : Rules) (base : Lines) (also : Cluster → Type 0) (who : Callers) (w : Cluster) (r : Lines) (ghosts : Ghosts) (steps : List Step) → IsEra c era → Each_goes c era rules base also → list_all is_of_one_generation steps ≡ true →
+    Holds_so c era rules base also who w r ghosts → RecordsRun c rules era.number w r (marks_of_all ghosts) steps
 unfolding RecordsRun
-run_on c era rules who w r ghosts [] e each one h = tt
-run_on c era rules who w r ghosts (s ∷ ss) e each one h =
+run_on c era rules base also who w r ghosts [] e each one h = tt
+run_on c era rules base also who w r ghosts (s ∷ ss) e each one h =
     let ok = and_parts (is_of_one_generation s) (list_all is_of_one_generation ss) one in
-    let k : After c era rules r ghosts (ran_one c rules w s) = ⊎_elim
-    (λ (g : Goes_by c era rules w r s). goes_after c era rules who w r ghosts s e h g)
-    (λ (y : Yields_by c rules w s). yields_after c era rules who w r ghosts s h y)
-    (each who w r s ok.0 (era_here c era rules w r ghosts e h.followed) (stays_from c era (era_from era w).start rules who w h.stays) h.line) in (
+    let k : After c era rules base also r ghosts (ran_one c rules w s) = ⊎_elim
+    (λ (g : Goes_by c era rules also w r s). goes_after c era rules base also who w r ghosts s e h g)
+    (λ (y : Yields_by c rules also w s). yields_after c era rules base also who w r ghosts s h y)
+    (each who w r s ok.0 (era_here c era rules w r ghosts e h.followed) (stays_from c era (era_from era w).start rules who w h.stays) h.line h.more) in (
       k.lines,
       marks_of_all k.ghosts_after,
       k.accepts,
-      so_hold c era rules k.who (ran_one c rules w s).cluster k.lines k.ghosts_after e.positive k.holds,
+      so_hold c era rules base also k.who (ran_one c rules w s).cluster k.lines k.ghosts_after e.positive k.holds,
       k.marks,
-      run_on c era rules k.who (ran_one c rules w s).cluster k.lines k.ghosts_after ss e each ok.1 k.holds,
+      run_on c era rules base also k.who (ran_one c rules w s).cluster k.lines k.ghosts_after ss e each ok.1 k.holds,
     )
 
 -- where each step of one generation goes on so, the records run from every cluster and registers that hold so
-pub records_run : (c : Config) (era : Era) (rules : Rules) (who : Callers) (w : Cluster) (r : Lines) (ghosts : Ghosts) (steps : List Step) → IsEra c era → Each_goes c era rules → list_all is_of_one_generation steps ≡ true →
-    Holds_so c era rules who w r ghosts → RunsFrom c rules era.number w r (marks_of_all ghosts) steps
-records_run c era rules who w r ghosts steps e each one h = (so_hold c era rules who w r ghosts e.positive h, run_on c era rules who w r ghosts steps e each one h)
+pub records_run : (c : Config) (era : Era) (rules : Rules) (base : Lines) (also : Cluster → Type 0) (who : Callers) (w : Cluster) (r : Lines) (ghosts : Ghosts) (steps : List Step) → IsEra c era → Each_goes c era rules base also → list_all is_of_one_generation steps ≡ true →
+    Holds_so c era rules base also who w r ghosts → RunsFrom c rules era.number w r (marks_of_all ghosts) steps
+records_run c era rules base also who w r ghosts steps e each one h = (so_hold c era rules base also who w r ghosts e.positive h, run_on c era rules base also who w r ghosts steps e each one h)
