@@ -15,7 +15,7 @@ use Rattle.ct_rules.specs.declared.event.Place.{Place}
 use Rattle.ct_rules_node.specs.Node.{Node, Database, db_at, with_db, state_at, or_nothing, master_of}
 use Rattle.ct_rules_node.specs.Turn.{Turn}
 use Rattle.ct_rules_node.specs.Records as node
-use Rattle.ct_rules_node.specs.Records.{out_of, kept, put_back, acted, at_record, place_of}
+use Rattle.ct_rules_node.specs.Records.{out_of, put_back, acted, at_record, place_of}
 use Rattle.ct_rules_node.specs.Laws.{unless_blank, NodeAscends, left_by}
 use Rattle.ct_rules_node.proofs.AtRecord.{moves_at, at_set}
 use Rattle.ct_cluster.specs.Steps.{frames_of}

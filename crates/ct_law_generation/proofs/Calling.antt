@@ -42,7 +42,7 @@ owns : (call : ℕ) (asked : ClientOp) (k : ℕ) (o : ClientOp) → own_call cal
 unfolding own_call
 owns call asked k o e = cond_both (nat_eq call k) (Some asked) None (λ (r : Option ClientOp). r ≡ Some o → (call ≡ k) × (asked ≡ o)) (λ t same. (eqb-true call k t, (cc))) (λ f same. absurd (cc)) e
 
-finds_own : (n db call : ℕ) (key : List ℕ) (asked : ClientOp) (calls : List PendingCall) → db_of asked ≡ db → key_of asked ≡ key → Finds db key n (own_pending n call asked ∷ calls) (own_call call asked)
+pub finds_own : (n db call : ℕ) (key : List ℕ) (asked : ClientOp) (calls : List PendingCall) → db_of asked ≡ db → key_of asked ≡ key → Finds db key n (own_pending n call asked ∷ calls) (own_call call asked)
 unfolding answered
 finds_own n db call key asked calls d k = record {
   found = λ c o e a. (let p = owns call asked c o e in
@@ -87,7 +87,7 @@ at_call c era rules who calls n db call key asked w e ev h may from known is spe
       is_event = is;
     })
 
-wished_before : (c : Config) (era : Era) (rules : Rules) (who : Callers) (calls n db call : ℕ) (key : List ℕ) (asked : ClientOp) (w : Cluster) → Calls_at c era rules who calls n db call key asked w → Wishful (Known who calls n db key) (state_at db key (node_at n w)).wish
+pub wished_before : (c : Config) (era : Era) (rules : Rules) (who : Callers) (calls n db call : ℕ) (key : List ℕ) (asked : ClientOp) (w : Cluster) → Calls_at c era rules who calls n db call key asked w → Wishful (Known who calls n db key) (state_at db key (node_at n w)).wish
 unfolding KnownAt state_at
 wished_before c era rules who calls n db call key asked w h = (h.stays.known.dbs db).records key
 

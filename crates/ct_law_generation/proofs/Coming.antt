@@ -13,7 +13,7 @@ use Rattle.ct_cluster.specs.Labels.{Label}
 use Rattle.ct_cluster.specs.Steps.{frames_of, put, with_fate}
 use Rattle.ct_cluster.specs.declared.step.PendingCall.{PendingCall}
 use Rattle.ct_register.specs.Words.{is_in}
-use Rattle.ct_law_record.specs.World.{Scene, Mail, World}
+use Rattle.ct_law_record.specs.World.{World}
 use Rattle.ct_law_record.specs.World as law
 use Rattle.ct_law_generation.specs.Shown.{Era, project, heard, labels_of, Schedules}
 use Rattle.ct_law_generation.proofs.Weave.{true_or_false}

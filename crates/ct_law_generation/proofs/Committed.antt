@@ -207,7 +207,7 @@ posts_all_beside c era rules who calls n pend g (r ∷ ns) m t h =
 -- ---- what a persistent database does
 
 -- what holds of a member holds in no newer generation
-not_after : (c : Config) (era : Era) (rules : Rules) (who : Callers) (calls n : ℕ) (x : Node) → NodeStays c era rules who calls n x → x.generation ≤ era.number
+pub not_after : (c : Config) (era : Era) (rules : Rules) (who : Callers) (calls n : ℕ) (x : Node) → NodeStays c era rules who calls n x → x.generation ≤ era.number
 not_after c era rules who calls n x h = (let e = of_era c era rules who calls n x h in omega arith)
 
 updates_beside : (c : Config) (era : Era) (rules : Rules) (who : Callers) (calls n : ℕ) (pend : List PendingCall) (db seq : ℕ) (writes : List Pair) (t : Turn) → Goes_beside c era rules who calls n pend t (updates db seq writes t)

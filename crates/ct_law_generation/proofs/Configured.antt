@@ -1,6 +1,6 @@
 -- What is known of a configuration, of the kind of a database, and of the reasons for which a call is refused.
 use Rattle.std.proofs.Common.{◌≡◌, ℕ, zero, suc, ◌+◌, ◌<◌, ◌≤◌, Bool, true, false, cond, List, [], ◌∷◌, length, Option, Some, None, refl, ap, ◌∙◌, arith, subst}
-use Rattle.std.specs.Prelude.{nat_lt, ◌||◌}
+use Rattle.std.specs.Prelude.{nat_lt, is_none, ◌||◌}
 use Rattle.std.specs.List.{list_all}
 use Rattle.std.proofs.lemmas.Bool.{and_from, or_parts, ltb-false, lt-ltb}
 use Rattle.ct_bytes.specs.declared.address.Address.{Address}
@@ -14,6 +14,7 @@ use Rattle.ct_msg.specs.declared.config.Config.{Config}
 use Rattle.ct_msg.specs.declared.config.ConfigFault.{ConfigFault}
 use Rattle.ct_msg.specs.declared.config.DbDecl.{DbDecl}
 use Rattle.ct_msg.specs.declared.config.DbKind.{DbKind}
+use Rattle.ct_msg.specs.declared.config.DbKind.TheVariants.{Volatile, ReadOnly, Persistent}
 use Rattle.ct_frame.specs.Fields.{is_db, is_node}
 use Rattle.ct_call.specs.Rules.{Rules}
 use Rattle.ct_rules.specs.declared.state.Wish.{Wish}
@@ -70,6 +71,14 @@ all_small c h db l = (let m = at_most_sixteen_dbs c h in lt-ltb db 16 (omega ari
 -- a database whose records migrate is one of records for the registers
 pub of_records : (c : Config) (db : ℕ) → node.has_records (node.kind_at c db) ≡ true → legal.is_of_records (legal.kind_at c db) ≡ true
 of_records c db e = ap (λ (k : Option DbKind). legal.is_of_records k) (same_kind c db) ∙ same_records (node.kind_at c db) ∙ e
+
+-- one that is there and is not persistent has records
+pub has_kind : (k : Option DbKind) → is_none k ≡ false → node.is_persistent k ≡ false → node.has_records k ≡ true
+unfolding node.is_persistent node.has_records
+has_kind None e f = absurd (cc)
+has_kind (Some Volatile) e f = refl
+has_kind (Some ReadOnly) e f = refl
+has_kind (Some Persistent) e f = absurd (cc)
 
 -- ---- the reasons for which a call is refused
 

@@ -39,7 +39,7 @@ further : (ys xs : List Mail) (m : Mail) → (which : ℕ) × (slice_get xs whic
 further [] xs m h = h
 further (y ∷ ys) xs m h = (let p = further ys xs m h in (suc p.0, p.1))
 
-longer : (xs ys : List Mail) (which : ℕ) (m : Mail) → slice_get xs which ≡ Some m → slice_get (xs ++ ys) which ≡ Some m
+pub longer : (xs ys : List Mail) (which : ℕ) (m : Mail) → slice_get xs which ≡ Some m → slice_get (xs ++ ys) which ≡ Some m
 longer [] ys which m e = absurd (cc)
 longer (x ∷ xs) ys zero m e = e
 longer (x ∷ xs) ys (suc k) m e = longer xs ys k m e

@@ -16,7 +16,7 @@ use Rattle.ct_rules.specs.declared.event.Place.{Place}
 use Rattle.ct_rules_node.specs.Node.{state_at, has_records, kind_at}
 use Rattle.ct_rules_node.specs.Turn.{Turn}
 use Rattle.ct_rules_node.specs.Records as node
-use Rattle.ct_rules_node.specs.Records.{at_record, place_of}
+use Rattle.ct_rules_node.specs.Records.{at_record}
 use Rattle.ct_rules_node.specs.Admission.{record_in, is_current}
 use Rattle.ct_rules_node.specs.Steps.{arrives, on_record_of}
 use Rattle.ct_rules_node.specs.Laws.{left_by}

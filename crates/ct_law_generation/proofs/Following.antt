@@ -151,7 +151,7 @@ all_plain c era n db key part t is told sound before =
     subst (λ (l : List Sent). AllPlain era.number l) (sym (frames_more t.outs (map (out_of t.node.generation n db key) (left_by c n db key part t).acts)))
     (plain_more era.number (frames_of t.outs) _ before (plain_sends era.number (place_of c n db key t.node) t.node.generation n (left_by c n db key part t).acts (omega arith) told sound))
 
-node_of : (n : ℕ) (ns : List ℕ) → list_all is_node ns ≡ true → is_in n ns ≡ true → is_node n ≡ true
+pub node_of : (n : ℕ) (ns : List ℕ) → list_all is_node ns ≡ true → is_in n ns ≡ true → is_node n ≡ true
 unfolding is_in
 node_of n [] all e = absurd (cc)
 node_of n (m ∷ ms) all e = ⊎_elim

@@ -23,7 +23,7 @@ use Rattle.ct_cluster.specs.Traces.{answered, sent_label, label_of, line_labels}
 use Rattle.ct_cluster.specs.declared.step.PendingCall.{PendingCall}
 use Rattle.ct_cluster.specs.declared.step.Step.{Step}
 use Rattle.ct_register.specs.Register.{Register, Accepts}
-use Rattle.ct_law_record.specs.Labels.{AcceptsAll, AcceptsLabel}
+use Rattle.ct_law_record.specs.Labels.{AcceptsAll}
 use Rattle.ct_law_record.specs.Labels as law
 use Rattle.ct_law_record.specs.World.{Mail, sent, sends}
 use Rattle.ct_law_generation.specs.Shown.{is_it, mail_of, mails, is_telling, told_of, told_by, told_by_all, heard, AllAsked, labels_of}

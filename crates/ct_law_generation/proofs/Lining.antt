@@ -1,6 +1,7 @@
 -- What a step at a record tells is of records of one line, and nothing of it is left out.
-use Rattle.std.proofs.Common.{◌≡◌, ℕ, Bool, true, cond, not, List, [], ◌∷◌, ◌++◌, map, Option, Some, None, refl, sym, ap, ◌∙◌, subst}
+use Rattle.std.proofs.Common.{◌≡◌, ℕ, Bool, true, cond, not, List, [], ◌∷◌, ◌++◌, map, Option, Some, None, refl, sym, ap, ◌∙◌, subst, false, inl, ⊎_elim, inr}
 use Rattle.std.specs.List.{AllByRecursion, filter}
+use Rattle.std.specs.Prelude.{◌⊎◌}
 use Rattle.ct_msg.specs.declared.client.Answer.{Answer}
 use Rattle.ct_msg.specs.declared.client.ClientOp.{ClientOp}
 use Rattle.ct_msg.specs.declared.config.Config.{Config}
@@ -23,7 +24,7 @@ use Rattle.ct_register.specs.Lines.{Lines}
 use Rattle.ct_promise.specs.Generation.{speaks_of_records, is_note_of_records, record_labels}
 use Rattle.ct_law_record.specs.Labels as law
 use Rattle.ct_law_record.specs.World.{told, answers, call_of}
-use Rattle.ct_law_generation.specs.Shown.{AllAsked, labels_of, Finds, IsOfLine}
+use Rattle.ct_law_generation.specs.Shown.{AllAsked, labels_of, Finds, IsOfLine, told_by, told_by_all}
 use Rattle.ct_law_generation.proofs.Hearing.{asked_right}
 use Rattle.ct_law_generation.proofs.Speaking.{Told, About}
 
@@ -32,7 +33,7 @@ pub record Is_kept (config : Config) (line : ℕ) (r : Lines) (x : Label) : Type
   pub own : IsOfLine config line r x
   pub speaks : speaks_of_records config x ≡ true
 
-record_quiet : (n g : ℕ) (m : Msg) (r : ℕ × List ℕ) → record_in m ≡ Some r → sent_label n g m ≡ []
+pub record_quiet : (n g : ℕ) (m : Msg) (r : ℕ × List ℕ) → record_in m ≡ Some r → sent_label n g m ≡ []
 unfolding record_in sent_label
 record_quiet n g (msg.Push members table ptables assigned) r e = absurd (cc)
 record_quiet n g (msg.Take number assigned) r e = absurd (cc)
@@ -83,3 +84,54 @@ labels_kept config line r at g n calls asks (act.Finished floor ∷ xs) l k t f 
 pub all_speak : (config : Config) (line : ℕ) (r : Lines) (xs : List Label) → AllByRecursion (Is_kept config line r) xs → record_labels config xs ≡ xs
 all_speak config line r [] h = refl
 all_speak config line r (x ∷ xs) h = ap (λ (b : Bool). cond b (x ∷ filter (speaks_of_records config) xs) (filter (speaks_of_records config) xs)) (h.0).speaks ∙ ap (λ (l : List Label). x ∷ l) (all_speak config line r xs h.1)
+
+-- ---- what is told beside records
+
+-- the label does not speak of records, and tells nothing of any
+pub record Is_aside (config : Config) (x : Label) : Type 0 where
+  pub quiet : speaks_of_records config x ≡ false
+  pub untold : (db : ℕ) (key : List ℕ) → told_by db key x ≡ []
+
+-- the label is of the line and speaks of records, or it is aside
+unfoldable pub Is_fit : Config → ℕ → Lines → Label → Type 0
+Is_fit config line r x = Is_kept config line r x ⊎ Is_aside config x
+
+pub kept_fit : (config : Config) (line : ℕ) (r : Lines) (xs : List Label) → AllByRecursion (Is_kept config line r) xs → AllByRecursion (Is_fit config line r) xs
+unfolding Is_fit
+kept_fit config line r [] h = tt
+kept_fit config line r (x ∷ xs) h = (inl h.0, kept_fit config line r xs h.1)
+
+pub fit_more : (config : Config) (line : ℕ) (r : Lines) (xs ys : List Label) → AllByRecursion (Is_fit config line r) xs → AllByRecursion (Is_fit config line r) ys → AllByRecursion (Is_fit config line r) (xs ++ ys)
+fit_more config line r [] ys h k = k
+fit_more config line r (x ∷ xs) ys h k = (h.0, fit_more config line r xs ys h.1 k)
+
+first_own : (config : Config) (line : ℕ) (r : Lines) (x : Label) (rest : List Label) → Is_fit config line r x → AllByRecursion (IsOfLine config line r) rest → AllByRecursion (IsOfLine config line r) (cond (speaks_of_records config x) (x ∷ rest) rest)
+unfolding Is_fit
+first_own config line r x rest h k = ⊎_elim
+    (λ (a : Is_kept config line r x). subst (λ (b : Bool). AllByRecursion (IsOfLine config line r) (cond b (x ∷ rest) rest)) (sym a.speaks) (a.own, k))
+    (λ (a : Is_aside config x). subst (λ (b : Bool). AllByRecursion (IsOfLine config line r) (cond b (x ∷ rest) rest)) (sym a.quiet) k) h
+
+-- those of such labels that speak of records are of the line
+pub fit_own : (config : Config) (line : ℕ) (r : Lines) (xs : List Label) → AllByRecursion (Is_fit config line r) xs → AllByRecursion (IsOfLine config line r) (record_labels config xs)
+fit_own config line r [] h = tt
+fit_own config line r (x ∷ xs) h = first_own config line r x (record_labels config xs) h.0 (fit_own config line r xs h.1)
+
+first_told : (config : Config) (line : ℕ) (r : Lines) (db : ℕ) (key : List ℕ) (x : Label) (rest xs : List Label) → Is_fit config line r x → told_by_all db key rest ≡ told_by_all db key xs →
+    told_by_all db key (cond (speaks_of_records config x) (x ∷ rest) rest) ≡ told_by db key x ++ told_by_all db key xs
+unfolding Is_fit told_by_all
+first_told config line r db key x rest xs h e = ⊎_elim
+    (λ (a : Is_kept config line r x). subst (λ (b : Bool). told_by_all db key (cond b (x ∷ rest) rest) ≡ told_by db key x ++ told_by_all db key xs) (sym a.speaks) (ap (λ (l : List law.Label). told_by db key x ++ l) e))
+    (λ (a : Is_aside config x). subst (λ (b : Bool). told_by_all db key (cond b (x ∷ rest) rest) ≡ told_by db key x ++ told_by_all db key xs) (sym a.quiet) (e ∙ ap (λ (l : List law.Label). l ++ told_by_all db key xs) (sym (a.untold db key)))) h
+
+-- and they tell all that is told of records
+pub fit_told : (config : Config) (line : ℕ) (r : Lines) (db : ℕ) (key : List ℕ) (xs : List Label) → AllByRecursion (Is_fit config line r) xs → told_by_all db key (record_labels config xs) ≡ told_by_all db key xs
+unfolding told_by_all
+fit_told config line r db key [] h = refl
+fit_told config line r db key (x ∷ xs) h = first_told config line r db key x (record_labels config xs) xs h.0 (fit_told config line r db key xs h.1)
+
+-- what a message tells by being sent is aside
+pub sent_fits : (config : Config) (line : ℕ) (r : Lines) (n g : ℕ) (m : Msg) → AllByRecursion (Is_fit config line r) (sent_label n g m)
+unfolding sent_label Is_fit speaks_of_records told_by
+sent_fits config line r n g (msg.Push members table ptables assigned) = (inr (record { quiet = refl; untold = λ db key. refl }), tt)
+sent_fits config line r n g (msg.Take number assigned) = (inr (record { quiet = refl; untold = λ db key. refl }), tt)
+sent_fits config line r n g _ = tt

@@ -13,7 +13,7 @@ use Rattle.ct_rules_node.specs.Node.{Node, Database}
 use Rattle.ct_rules_node.proofs.Starting.{starts_in_order}
 use Rattle.ct_rules_node.specs.Laws.{AllAscend}
 use Rattle.ct_cluster.specs.Cluster as cluster
-use Rattle.ct_cluster.specs.Cluster.{Cluster, everyone, node_at, or_absent, numbers}
+use Rattle.ct_cluster.specs.Cluster.{everyone, node_at, or_absent, numbers}
 use Rattle.ct_law_record.specs.World as law
 use Rattle.ct_law_record.specs.World.{View}
 use Rattle.ct_law_record.proofs.Law.{proved}

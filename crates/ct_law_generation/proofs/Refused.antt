@@ -18,7 +18,7 @@ use Rattle.ct_law_generation.proofs.Pending.{Callers}
 use Rattle.ct_law_generation.proofs.Staying.{NodeStays}
 use Rattle.ct_law_generation.proofs.Calling.{Goes}
 
-untold : (db : ℕ) (key : List ℕ) (n : ℕ) (asked : ClientOp) (w : Why) (b : Bool) → is_telling (answer.Refused w) ≡ b → b ≡ false → told_of (b && is_it db key (db_of asked) (key_of asked)) (law.Told n asked (answer.Refused w)) ++ [] ≡ []
+pub untold : (db : ℕ) (key : List ℕ) (n : ℕ) (asked : ClientOp) (w : Why) (b : Bool) → is_telling (answer.Refused w) ≡ b → b ≡ false → told_of (b && is_it db key (db_of asked) (key_of asked)) (law.Told n asked (answer.Refused w)) ++ [] ≡ []
 unfolding told_of
 untold db key n asked w true e f = absurd (cc)
 untold db key n asked w false e f = refl

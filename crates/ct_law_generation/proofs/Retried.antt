@@ -214,7 +214,7 @@ just_same c era rules who calls n db0 db key0 key part t xs h k = ⊎_elim
 finds_none : (db : ℕ) (key : List ℕ) (n : ℕ) (pend : List PendingCall) → Finds db key n pend nothing_asked
 finds_none db key n pend = record { found = λ call asked e a. absurd (cc); about = λ call asked e. absurd (cc) }
 
-outs_are : (c : Config) (n db : ℕ) (key : List ℕ) (part : Place → Moving → Moving) (t : Turn) (xs : List Act) → Just_sends c n db key part t xs → (at_record c n db key part t).outs ≡ t.outs ++ map (out_of t.node.generation n db key) xs
+pub outs_are : (c : Config) (n db : ℕ) (key : List ℕ) (part : Place → Moving → Moving) (t : Turn) (xs : List Act) → Just_sends c n db key part t xs → (at_record c n db key part t).outs ≡ t.outs ++ map (out_of t.node.generation n db key) xs
 unfolding at_record acted node.view
 outs_are c n db key part t xs k = ap (λ (o : Moving). t.outs ++ map (out_of t.node.generation n db key) o.acts) k.is
 

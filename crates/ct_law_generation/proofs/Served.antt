@@ -56,7 +56,7 @@ decl_there [] db e = absurd (cc)
 decl_there (d ∷ ds) zero e = omega arith
 decl_there (d ∷ ds) (suc k) e = (let l = decl_there ds k e in omega arith)
 
-refused_not : (b : Bool) (w : Why) → refused_if b w ≡ None → b ≡ false
+pub refused_not : (b : Bool) (w : Why) → refused_if b w ≡ None → b ≡ false
 unfolding refused_if
 refused_not true w e = absurd (cc)
 refused_not false w e = refl

@@ -14,7 +14,7 @@ use Rattle.ct_rules.specs.declared.state.RecState.{RecState}
 use Rattle.ct_rules_node.specs.Node.{Node, Database, is_present, is_present_in, db_at, with_db, or_nothing}
 use Rattle.ct_rules_node.specs.Turn.{Turn}
 use Rattle.ct_rules_node.specs.Records as node
-use Rattle.ct_rules_node.specs.Records.{kept, put_back, acted, at_record, place_of}
+use Rattle.ct_rules_node.specs.Records.{kept, put_back, acted, at_record}
 use Rattle.ct_rules_node.specs.Laws.{unless_blank, left_by}
 use Rattle.ct_rules_node.proofs.AtRecord.{moves_at, at_set, at_ascends}
 use Rattle.ct_rules_node.proofs.Keys.{kept_seen, kept_others}

@@ -19,7 +19,7 @@ use Rattle.ct_law_generation.specs.Shown.{is_it, is_telling, told_of, told_by, t
 use Rattle.ct_law_generation.proofs.Weave.{it_is_itself}
 use Rattle.ct_law_generation.proofs.Hearing.{asked_right}
 
-sent_quiet : (db : ℕ) (key : List ℕ) (n g : ℕ) (m : Msg) (rest : List Label) → told_by_all db key (sent_label n g m ++ rest) ≡ told_by_all db key rest
+pub sent_quiet : (db : ℕ) (key : List ℕ) (n g : ℕ) (m : Msg) (rest : List Label) → told_by_all db key (sent_label n g m ++ rest) ≡ told_by_all db key rest
 unfolding sent_label told_by_all told_by
 sent_quiet db key n g (msg.Push members table ptables assigned) rest = refl
 sent_quiet db key n g (msg.Take number assigned) rest = refl

@@ -145,7 +145,7 @@ kept_wish P s h = grind (arith, h)
 abbrev pub vacuumed : ℕ → Turn → Place → Moving → Moving
 vacuumed n t at o = vacuum at (without n t.node.members) o
 
-vacuums_happen : (c : Config) (era : Era) (rules : Rules) (n db : ℕ) (key : List ℕ) (t : Turn) (w : World) → t.node.members ≡ era.members →
+pub vacuums_happen : (c : Config) (era : Era) (rules : Rules) (n db : ℕ) (key : List ℕ) (t : Turn) (w : World) → t.node.members ≡ era.members →
     happens (scene c era rules db key) (amid era.number db key n w t) (Vacuums n) ≡ put (scene c era rules db key) (amid era.number db key n w t) n (waiting_call (state_at db key t.node).wish) (left_by c n db key (vacuumed n t) t)
 unfolding node.view without
 vacuums_happen c era rules n db key t w h =
@@ -154,7 +154,7 @@ vacuums_happen c era rules n db key t w h =
     ∙ ap (λ (ms : List ℕ). put (scene c era rules db key) (amid era.number db key n w t) n (waiting_call (state_at db key t.node).wish) (vacuum (place_of c n db key t.node) (others n ms) (starts (view db key t.node)))) (sym h)
 
 -- the calls that wait are found after the step
-waited_on : (c : Config) (era : Era) (rules : Rules) (who : Callers) (calls n db : ℕ) (key : List ℕ) (pend : List PendingCall) (t : Turn) → NodeStays c era rules who calls n t.node → db < length t.node.dbs →
+pub waited_on : (c : Config) (era : Era) (rules : Rules) (who : Callers) (calls n db : ℕ) (key : List ℕ) (pend : List PendingCall) (t : Turn) → NodeStays c era rules who calls n t.node → db < length t.node.dbs →
     AllWaited db n pend t.node → AllWaited db n pend (at_record c n db key (vacuumed n t) t).node
 unfolding node.view
 waited_on c era rules who calls n db key pend t h there all k = ⊎_elim
@@ -189,7 +189,7 @@ either_whole : (a b : Bool) → (a || b) ≡ false → a ≡ false
 either_whole true b e = absurd (cc)
 either_whole false b e = refl
 
-whole_before : (c : Config) (n db : ℕ) (m : Pairs RecState) (t : Turn) → (vacuum_all c n db m t).spent ≡ false → t.spent ≡ false
+pub whole_before : (c : Config) (n db : ℕ) (m : Pairs RecState) (t : Turn) → (vacuum_all c n db m t).spent ≡ false → t.spent ≡ false
 unfolding vacuum_all at_record acted
 whole_before c n db [] t e = e
 whole_before c n db (x ∷ m) t e = either_whole t.spent (left_by c n db x.0 (vacuumed n t) t).spent (whole_before c n db m (at_record c n db x.0 (vacuumed n t) t) e)
