@@ -45,10 +45,13 @@ pub mod Seeing
 pub mod Holding
 pub mod Finishing
 pub mod Removing
+pub mod Unremoving
 pub mod Removed
 pub mod Clearing
 pub mod Going
 pub mod Homing
 pub mod Leaving
+pub mod AtHome
 pub mod Entries
 pub mod Running
+pub mod First

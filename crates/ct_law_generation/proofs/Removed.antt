@@ -40,7 +40,7 @@ use Rattle.ct_law_generation.specs.Shown.{labels_of}
 use Rattle.ct_law_generation.proofs.Weave.{true_or_false}
 use Rattle.ct_law_generation.proofs.Finishing.{Unfinished, Finishes, want_unfinished, store_unfinished, release_unfinished, unlock_unfinished, call_again_unfinished, revoke_again_unfinished, want_again_unfinished, vacuum_finishes, arrive_finishes}
 use Rattle.ct_law_generation.proofs.Removing.{removed_by, done_where_told, not_told, unfinished_at, finished_at, IsGone}
-use Rattle.ct_law_generation.proofs.Silent.{Silent, either, with_phase_silent, makes_silent, answers_silent, notes_silent, commit_silent, on_pupdate_silent, on_pack_silent, read_pair_silent, begin_round_silent, frozen_silent, on_freeze_silent, on_freezeack_silent, on_pull_silent, on_pullreply_silent, on_push_silent, on_pushack_silent, begin_takeover_silent, on_release_silent, on_releaseack_silent, on_take_silent, update_in_silent, retry_lead_silent}
+use Rattle.ct_law_generation.proofs.Unremoving.{Silent, either, with_phase_silent, makes_silent, answers_silent, notes_silent, commit_silent, on_pupdate_silent, on_pack_silent, read_pair_silent, begin_round_silent, frozen_silent, on_freeze_silent, on_freezeack_silent, on_pull_silent, on_pullreply_silent, on_push_silent, on_pushack_silent, begin_takeover_silent, on_release_silent, on_releaseack_silent, on_take_silent, update_in_silent, retry_lead_silent}
 
 -- ---- a step at one record that removes nothing
 

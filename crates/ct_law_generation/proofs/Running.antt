@@ -29,7 +29,7 @@ use Rattle.ct_law_generation.proofs.Hearing.{accepts_asked}
 use Rattle.ct_law_generation.proofs.Following.{IsEra}
 use Rattle.ct_law_generation.proofs.Clusters.{ClusterStays}
 use Rattle.ct_law_generation.proofs.Going.{Ghosts, marks_of_all, Followed, followed_hold, era_from, step_goes}
-use Rattle.ct_law_generation.proofs.Keeping.{AllAtHome, step_home}
+use Rattle.ct_law_generation.proofs.AtHome.{AllAtHome, step_home}
 use Rattle.ct_law_generation.proofs.Entries.{lined}
 
 -- ---- what holds at every step

@@ -20,7 +20,7 @@ unfoldable pub Wishful : (ℕ → ClientOp → Type 0) → Option Wish → Type 
 Wishful P None = Unit {0}
 Wishful P (Some w) = P w.call w.op
 
-send_all_same : (ns : List ℕ) (m : Msg) (o : Moving) → (send_all ns m o).state ≡ o.state
+pub send_all_same : (ns : List ℕ) (m : Msg) (o : Moving) → (send_all ns m o).state ≡ o.state
 unfolding send_all send acts
 send_all_same [] m o = refl
 send_all_same (n ∷ ns) m o = send_all_same ns m (send n m o)
