@@ -3,7 +3,6 @@ use Rattle.std.proofs.Common.{◌≡◌, Bool, true, List, [], None, refl, ap, a
 use Rattle.std.specs.Prelude.{if◌then◌else◌}
 use Rattle.std.specs.List.{list_all}
 use Rattle.ct_msg.specs.declared.config.Config.{Config}
-use Rattle.ct_frame.specs.Fields.{is_node}
 use Rattle.ct_call.specs.Rules.{Rules}
 use Rattle.ct_rules_node.specs.Node.{master_of}
 use Rattle.ct_cluster.specs.Cluster as cluster
@@ -12,6 +11,7 @@ use Rattle.ct_cluster.specs.declared.step.Step.{Step}
 use Rattle.ct_register.specs.Register.{newborn}
 use Rattle.ct_register.specs.Lines as lines
 use Rattle.ct_register.specs.Lines.{Lines}
+use Rattle.ct_promise.specs.Promises.{IsConfig}
 use Rattle.ct_promise.specs.Generation.{is_of_one_generation}
 use Rattle.ct_promise.specs.Marked.{LineMarks, no_marks}
 use Rattle.ct_promise.specs.Kept.{RunsFrom}
@@ -22,10 +22,11 @@ use Rattle.ct_law_record.proofs.MarkedLaw.{bare_marks}
 use Rattle.ct_law_generation.specs.Shown.{scene}
 use Rattle.ct_law_generation.proofs.Pending.{Callers}
 use Rattle.ct_law_generation.proofs.Clusters.{all_known}
+use Rattle.ct_law_generation.proofs.Configured.{all_real, all_small}
 use Rattle.ct_law_generation.proofs.Opening.{below_everyone, first_era, first_is_era, opened_world, opened_stays}
 use Rattle.ct_law_generation.proofs.Going.{Ghosts}
 use Rattle.ct_law_generation.proofs.Entries.{opening_home}
-use Rattle.ct_law_generation.proofs.Running.{InLine, Holds_so, Each_goes, records_run}
+use Rattle.ct_law_generation.proofs.Running.{InLine, Holds_so, Each_step_goes, records_run}
 
 -- every record is at its beginning
 abbrev first_ghosts : Config → Ghosts
@@ -52,7 +53,7 @@ first_holds c rules also who more = record {
 }
 
 -- so its records run from there, with no marks at first
-pub first_runs : (c : Config) (rules : Rules) (also : Cluster → Type 0) (who : Callers) (steps : List Step) → list_all is_node (everyone c) ≡ true → Each_goes c (first_era c) rules (lines.opening c) also → also (cluster.opening c) →
+pub first_runs : (c : Config) (rules : Rules) (also : Cluster → Type 0) (who : Callers) (steps : List Step) → IsConfig c → Each_step_goes c (first_era c) rules (lines.opening c) also → also (cluster.opening c) →
     list_all is_of_one_generation steps ≡ true → RunsFrom c rules 1 (cluster.opening c) (lines.opening c) no_marks steps
-first_runs c rules also who steps real each more one = subst (λ (m : LineMarks). RunsFrom c rules 1 (cluster.opening c) (lines.opening c) m steps) (λ i db key. bare_marks (master_of (everyone c) key) i)
-    (records_run c (first_era c) rules (lines.opening c) also who (cluster.opening c) (lines.opening c) (first_ghosts c) steps (first_is_era c real) each one (first_holds c rules also who more))
+first_runs c rules also who steps is each more one = subst (λ (m : LineMarks). RunsFrom c rules 1 (cluster.opening c) (lines.opening c) m steps) (λ i db key. bare_marks (master_of (everyone c) key) i)
+    (records_run c (first_era c) rules (lines.opening c) also who (cluster.opening c) (lines.opening c) (first_ghosts c) steps (first_is_era c (all_real c is)) (all_small c is) each one (first_holds c rules also who more))

@@ -1,9 +1,10 @@
 -- Through all steps of one generation its records hold with the registers and marks of its line, where each step goes on so.
-use Rattle.std.proofs.Common.{◌≡◌, ℕ, ◌≤◌, true, false, List, [], ◌∷◌, Some, None, refl, sym, ap, ◌∙◌, arith, subst, ⊎_elim}
+use Rattle.std.proofs.Common.{◌≡◌, ℕ, ◌<◌, ◌≤◌, length, true, false, List, [], ◌∷◌, Some, None, refl, sym, ap, ◌∙◌, arith, subst, ⊎_elim}
 use Rattle.std.specs.Prelude.{◌⊎◌}
-use Rattle.std.specs.List.{list_all, AllByRecursion}
+use Rattle.std.specs.List.{list_all}
 use Rattle.std.proofs.lemmas.Bool.{and_parts}
 use Rattle.ct_msg.specs.declared.config.Config.{Config}
+use Rattle.ct_frame.specs.Fields.{is_db}
 use Rattle.ct_call.specs.Rules.{Rules}
 use Rattle.ct_cluster.specs.Cluster.{Cluster, is_up, node_at}
 use Rattle.ct_cluster.specs.Labels.{Label, Yielded}
@@ -18,16 +19,18 @@ use Rattle.ct_register.specs.Words.{is_in}
 use Rattle.ct_promise.specs.Generation.{is_of_one_generation, speaks_of_records, record_labels}
 use Rattle.ct_promise.specs.Marked.{MarksGoOnIn, is_removal, is_removed}
 use Rattle.ct_promise.specs.Kept.{RecordsHold, RecordsRun, RunsFrom}
-use Rattle.ct_law_record.specs.World.{Scene, World, Event, trace}
+use Rattle.ct_law_record.specs.World.{Scene, World, trace}
 use Rattle.ct_law_record.proofs.Invariant.{Ghost}
 use Rattle.ct_law_record.proofs.Worlds.{WorldInv, run_holds}
+use Rattle.ct_law_record.proofs.Law.{leads}
 use Rattle.ct_law_record.proofs.MarkedRun.{marks_of}
-use Rattle.ct_law_generation.specs.Shown.{Era, scene, project, told_by_all, heard, AllInstalled, IsOfLine, Schedules}
+use Rattle.ct_law_generation.specs.Shown.{Era, scene, project, told_by_all, heard, AllInstalled, Schedules}
 use Rattle.ct_law_generation.proofs.Pending.{Callers}
 use Rattle.ct_law_generation.proofs.Staying.{NodeStays}
 use Rattle.ct_law_generation.proofs.Hearing.{accepts_asked}
 use Rattle.ct_law_generation.proofs.Following.{IsEra}
 use Rattle.ct_law_generation.proofs.Clusters.{ClusterStays}
+use Rattle.ct_law_generation.proofs.Assembled.{Run_goes, Starts}
 use Rattle.ct_law_generation.proofs.Going.{Ghosts, marks_of_all, Followed, followed_hold, era_from, step_goes}
 use Rattle.ct_law_generation.proofs.AtHome.{AllAtHome, step_home}
 use Rattle.ct_law_generation.proofs.Entries.{lined}
@@ -55,14 +58,10 @@ pub record Holds_so (c : Config) (era : Era) (rules : Rules) (base : Lines) (als
 
 -- ---- what is asked of a step
 
--- A step is a schedule of the world of each record, from what the cluster shows of it, and tells what that tells. The cluster
--- stays so, and the recovery lock where it is.
+-- A step goes on from what the cluster shows, as a schedule of the world of each record, and leaves the recovery lock where it
+-- is.
 pub record Goes_by (c : Config) (era : Era) (rules : Rules) (also : Cluster → Type 0) (w : Cluster) (r : Lines) (s : Step) : Type 0 where
-  pub who : Callers
-  pub stays : ClusterStays c (era_from era w) rules who (ran_one c rules w s).cluster
-  pub events : ℕ → List ℕ → List Event
-  pub schedules : Schedules c (era_from era w) rules (ran_one c rules w s).cluster (record_labels c (ran_one c rules w s).trace) events
-  pub line : AllByRecursion (IsOfLine c era.number r) (record_labels c (ran_one c rules w s).trace)
+  pub goes : Run_goes c (era_from era w) rules r (record_labels c (ran_one c rules w s).trace) (ran_one c rules w s).cluster
   pub holder : (ran_one c rules w s).cluster.holder ≡ w.holder
   pub more : also (ran_one c rules w s).cluster
 
@@ -74,13 +73,13 @@ pub record Yields_by (c : Config) (rules : Rules) (also : Cluster → Type 0) (w
   pub cluster : (ran_one c rules w s).cluster ≡ record w { holder = None }
   pub more : also (record w { holder = None })
 
--- so is every step of one generation, from whatever cluster and registers that stay so
-abbrev pub Each_goes : Config → Era → Rules → Lines → (Cluster → Type 0) → Type 0
-Each_goes c era rules base also = (who : Callers) (w : Cluster) (r : Lines) (s : Step) → is_of_one_generation s ≡ true → IsEra c (era_from era w) → ClusterStays c (era_from era w) rules who w → InLine era base w r → also w →
+-- so is every step of one generation, from whatever cluster and registers that hold so
+abbrev pub Each_step_goes : Config → Era → Rules → Lines → (Cluster → Type 0) → Type 0
+Each_step_goes c era rules base also = (w : Cluster) (r : Lines) (s : Step) → is_of_one_generation s ≡ true → Starts c (era_from era w) rules r → Run_goes c (era_from era w) rules r [] w → InLine era base w r → also w →
     Goes_by c era rules also w r s ⊎ Yields_by c rules also w s
 
 -- no schedule has begun yet
-pub starts_here : (c : Config) (era : Era) (rules : Rules) (w : Cluster) → Schedules c (era_from era w) rules w [] (λ db key. [])
+starts_here : (c : Config) (era : Era) (rules : Rules) (w : Cluster) → Schedules c (era_from era w) rules w [] (λ db key. [])
 unfolding heard told_by_all
 starts_here c era rules w db key = (refl, refl)
 
@@ -110,6 +109,21 @@ era_here c era rules w r ghosts e f = record {
       accepts_asked other (trace (scene c era other db key) (project era.number db key w) es) (r.records era.number db key) k.0 k.2);
 }
 
+-- numbers of databases fit in a message
+abbrev pub AllSmall : Config → Type 0
+AllSmall c = (db : ℕ) → db < length c.dbs → is_db db ≡ true
+
+starts_now : (c : Config) (era : Era) (rules : Rules) (base : Lines) (w : Cluster) (r : Lines) (ghosts : Ghosts) → IsEra c era → AllSmall c → Followed c era rules w r ghosts → InLine era base w r → Starts c (era_from era w) rules r
+starts_now c era rules base w r ghosts e small f line = record {
+  era_is = era_here c era rules w r ghosts e f;
+  law = λ db key es. leads (scene c era rules db key) (project era.number db key w) (r.records era.number db key) (ghosts db key) es e.real (f db key);
+  line = line.inside;
+  small = small;
+}
+
+runs_now : (c : Config) (era : Era) (rules : Rules) (who : Callers) (w : Cluster) (r : Lines) → ClusterStays c era rules who w → Run_goes c (era_from era w) rules r [] w
+runs_now c era rules who w r stays = record { who = who; goes = (stays_from c era (era_from era w).start rules who w stays, (λ db key. []), starts_here c era rules w); own = tt }
+
 -- ---- a step
 
 -- what there is after a step
@@ -134,19 +148,19 @@ still_in_line era base w v r t rest held h = record {
 goes_after : (c : Config) (era : Era) (rules : Rules) (base : Lines) (also : Cluster → Type 0) (who : Callers) (w : Cluster) (r : Lines) (ghosts : Ghosts) (s : Step) → IsEra c era →
     Holds_so c era rules base also who w r ghosts → Goes_by c era rules also w r s → After c era rules base also r ghosts (ran_one c rules w s)
 goes_after c era rules base also who w r ghosts s e h g =
-    let k = step_goes c era rules w r ghosts s g.events (record {
+    let k = step_goes c era rules w r ghosts s g.goes.goes.1 (record {
       real = e.real;
       positive = e.positive;
       order = λ n. (h.home n).order;
       knows = λ n up. (h.stays.nodes n (h.stays.up n up)).knows;
-      line = g.line;
-    }) h.followed g.schedules in
+      line = g.goes.own;
+    }) h.followed g.goes.goes.2 in
     record {
-      who = g.who;
+      who = g.goes.who;
       lines = k.lines;
       ghosts_after = k.ghosts_after;
       accepts = k.accepts;
-      holds = record { stays = stays_back c era (era_from era w).start rules g.who (ran_one c rules w s).cluster g.stays; line = still_in_line era base w (ran_one c rules w s).cluster r k.lines k.rest g.holder h.line; more = g.more; home = step_home c rules w s h.home; followed = k.followed };
+      holds = record { stays = stays_back c era (era_from era w).start rules g.goes.who (ran_one c rules w s).cluster g.goes.goes.0; line = still_in_line era base w (ran_one c rules w s).cluster r k.lines k.rest g.holder h.line; more = g.more; home = step_home c rules w s h.home; followed = k.followed };
       marks = k.marks;
     }
 
@@ -193,25 +207,25 @@ yields_after c era rules base also who w r ghosts s h y = record {
 pub so_hold : (c : Config) (era : Era) (rules : Rules) (base : Lines) (also : Cluster → Type 0) (who : Callers) (w : Cluster) (r : Lines) (ghosts : Ghosts) → 1 ≤ era.number → Holds_so c era rules base also who w r ghosts → RecordsHold era.number w r (marks_of_all ghosts)
 so_hold c era rules base also who w r ghosts positive h = followed_hold c era rules w r ghosts (lined c era rules who w r positive h.stays h.line.inside h.home) h.followed
 
-run_on : (c : Config) (era : Era) (rules : Rules) (base : Lines) (also : Cluster → Type 0) (who : Callers) (w : Cluster) (r : Lines) (ghosts : Ghosts) (steps : List Step) → IsEra c era → Each_goes c era rules base also → list_all is_of_one_generation steps ≡ true →
+run_on : (c : Config) (era : Era) (rules : Rules) (base : Lines) (also : Cluster → Type 0) (who : Callers) (w : Cluster) (r : Lines) (ghosts : Ghosts) (steps : List Step) → IsEra c era → AllSmall c → Each_step_goes c era rules base also → list_all is_of_one_generation steps ≡ true →
     Holds_so c era rules base also who w r ghosts → RecordsRun c rules era.number w r (marks_of_all ghosts) steps
 unfolding RecordsRun
-run_on c era rules base also who w r ghosts [] e each one h = tt
-run_on c era rules base also who w r ghosts (s ∷ ss) e each one h =
+run_on c era rules base also who w r ghosts [] e small each one h = tt
+run_on c era rules base also who w r ghosts (s ∷ ss) e small each one h =
     let ok = and_parts (is_of_one_generation s) (list_all is_of_one_generation ss) one in
     let k : After c era rules base also r ghosts (ran_one c rules w s) = ⊎_elim
     (λ (g : Goes_by c era rules also w r s). goes_after c era rules base also who w r ghosts s e h g)
     (λ (y : Yields_by c rules also w s). yields_after c era rules base also who w r ghosts s h y)
-    (each who w r s ok.0 (era_here c era rules w r ghosts e h.followed) (stays_from c era (era_from era w).start rules who w h.stays) h.line h.more) in (
+    (each w r s ok.0 (starts_now c era rules base w r ghosts e small h.followed h.line) (runs_now c era rules who w r h.stays) h.line h.more) in (
       k.lines,
       marks_of_all k.ghosts_after,
       k.accepts,
       so_hold c era rules base also k.who (ran_one c rules w s).cluster k.lines k.ghosts_after e.positive k.holds,
       k.marks,
-      run_on c era rules base also k.who (ran_one c rules w s).cluster k.lines k.ghosts_after ss e each ok.1 k.holds,
+      run_on c era rules base also k.who (ran_one c rules w s).cluster k.lines k.ghosts_after ss e small each ok.1 k.holds,
     )
 
 -- where each step of one generation goes on so, the records run from every cluster and registers that hold so
-pub records_run : (c : Config) (era : Era) (rules : Rules) (base : Lines) (also : Cluster → Type 0) (who : Callers) (w : Cluster) (r : Lines) (ghosts : Ghosts) (steps : List Step) → IsEra c era → Each_goes c era rules base also → list_all is_of_one_generation steps ≡ true →
+pub records_run : (c : Config) (era : Era) (rules : Rules) (base : Lines) (also : Cluster → Type 0) (who : Callers) (w : Cluster) (r : Lines) (ghosts : Ghosts) (steps : List Step) → IsEra c era → AllSmall c → Each_step_goes c era rules base also → list_all is_of_one_generation steps ≡ true →
     Holds_so c era rules base also who w r ghosts → RunsFrom c rules era.number w r (marks_of_all ghosts) steps
-records_run c era rules base also who w r ghosts steps e each one h = (so_hold c era rules base also who w r ghosts e.positive h, run_on c era rules base also who w r ghosts steps e each one h)
+records_run c era rules base also who w r ghosts steps e small each one h = (so_hold c era rules base also who w r ghosts e.positive h, run_on c era rules base also who w r ghosts steps e small each one h)
