@@ -1,5 +1,4 @@
--- Where a step of the cluster tells that a record was removed, a node that runs did it as its location master, and has no
--- entry of it.
+-- Where a step of the cluster tells that a record was removed, its location master did it, and has no entry of it.
 use Rattle.std.proofs.Common.{◌≡◌, ℕ, zero, suc, ◌+◌, ◌≤◌, Bool, true, false, ◌||◌, List, [], ◌∷◌, ◌++◌, length, set, Option, Some, None, refl, sym, ap, ◌∙◌, arith, subst, ⊎_elim}
 use Rattle.std.specs.Prelude.{nat_lt, not, slice_get, Result, Ok, Err}
 use Rattle.std.proofs.lemmas.Bool.{cond_both, ltb-true, ltb-false}

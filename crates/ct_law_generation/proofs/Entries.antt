@@ -1,6 +1,5 @@
 -- Where the entries and copies of records stand in a generation: at its start, and while it goes on.
-use Rattle.std.proofs.Common.{◌≡◌, ◌≢◌, ℕ, zero, suc, ◌≤◌, true, false, List, [], ◌∷◌, Option, Some, None, refl, sym, ap, ◌∙◌, subst, ⊎_elim}
-use Rattle.std.specs.Prelude.{slice_get}
+use Rattle.std.proofs.Common.{◌≡◌, ◌≢◌, ℕ, ◌≤◌, true, false, List, [], Option, Some, None, refl, sym, ap, ◌∙◌, subst, ⊎_elim}
 use Rattle.ct_msg.specs.declared.config.Config.{Config}
 use Rattle.ct_frame.specs.declared.frame.TableRow.{TableRow}
 use Rattle.ct_frame.specs.declared.header.RecCopy.{RecCopy}
@@ -10,9 +9,8 @@ use Rattle.ct_store.proofs.Maps.{empty_ascends}
 use Rattle.ct_rules.specs.State.{nothing_kept}
 use Rattle.ct_rules.specs.declared.state.RecState.{RecState}
 use Rattle.ct_rules.specs.declared.state.Wish.{Wish}
-use Rattle.ct_rules_node.specs.Node.{Node, Database, master_of, state_at, db_at, or_nothing, or_untouched}
+use Rattle.ct_rules_node.specs.Node.{Node, master_of, state_at, db_at, or_nothing}
 use Rattle.ct_rules_node.specs.Rounds.{installed_state}
-use Rattle.ct_rules_node.specs.Laws.{AllAscend}
 use Rattle.ct_cluster.specs.Cluster.{Cluster, node_at}
 use Rattle.ct_cluster.specs.Cluster as cluster
 use Rattle.ct_register.specs.Lines.{Lines}
@@ -27,7 +25,7 @@ use Rattle.ct_law_generation.proofs.Clusters.{ClusterStays}
 use Rattle.ct_law_generation.proofs.Opening.{opened_world}
 use Rattle.ct_law_generation.proofs.Holding.{Lined}
 use Rattle.ct_law_generation.proofs.Clearing as clearing
-use Rattle.ct_law_generation.proofs.Leaving.{AtHome, own_entry}
+use Rattle.ct_law_generation.proofs.Leaving.{AtHome, all_ascend, own_entry}
 use Rattle.ct_law_generation.proofs.AtHome.{AllAtHome, empty_home}
 
 -- ---- at the start
@@ -35,11 +33,6 @@ use Rattle.ct_law_generation.proofs.AtHome.{AllAtHome, empty_home}
 -- in a cluster at its opening
 pub opening_home : (c : Config) → clearing.AllAscend (cluster.opening c) → AllAtHome (cluster.opening c)
 opening_home c order n = record { order = order n; entry = λ db key ne. sym (ap (λ (w : World). (w.nodes n).state.entry) (opened_world c db key)) }
-
-all_ascend : (dbs : List Database) → ((i : ℕ) → Ascends (or_untouched (slice_get dbs i)).records) → AllAscend dbs
-unfolding AllAscend or_untouched
-all_ascend [] f = tt
-all_ascend (d ∷ ds) f = (f zero, all_ascend ds (λ i. f (suc i)))
 
 born_none : (me l : ℕ) (row : Option TableRow) (wish : Option Wish) → me ≢ l → (born_state me l row wish).entry ≡ None
 unfolding born_state installed_state
