@@ -58,6 +58,10 @@ pub mod Kept
 pub mod Keeping
 pub mod Silent
 pub mod Passing
+pub mod Entries
+pub mod AtHome
+pub mod Running
+pub mod Lawful
 pub mod Thawed
 pub mod Thawing
 pub mod Messages

@@ -26,7 +26,7 @@ unfolding Wishful
 all_wishful P None h = tt
 all_wishful P (Some w) h = h w.call w.op
 
-send_all_same : (ns : List ℕ) (m : Msg) (o : Moving) → (send_all ns m o).state ≡ o.state
+pub send_all_same : (ns : List ℕ) (m : Msg) (o : Moving) → (send_all ns m o).state ≡ o.state
 unfolding send_all send acts
 send_all_same [] m o = refl
 send_all_same (n ∷ ns) m o = send_all_same ns m (send n m o)
