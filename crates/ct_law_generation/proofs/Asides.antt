@@ -21,12 +21,10 @@ use Rattle.ct_cluster.specs.Labels.{Label, Noted}
 use Rattle.ct_cluster.specs.Steps.{frames_of}
 use Rattle.ct_cluster.specs.Traces.{answered, sent_label}
 use Rattle.ct_cluster.specs.declared.step.PendingCall.{PendingCall}
-use Rattle.ct_law_world.specs.Labels as law
-use Rattle.ct_law_world.specs.World.{Scene, Mail, World}
+use Rattle.ct_law_world.specs.World.{Mail}
 use Rattle.ct_frame.specs.declared.frame.Frame.{Frame}
-use Rattle.ct_law_generation.specs.Shown.{view, mail_of, mails, told_by, told_by_all, heard, labels_of, amid, Follows}
+use Rattle.ct_law_generation.specs.Shown.{view, mail_of, mails, labels_of}
 use Rattle.ct_msg.specs.declared.config.Config.{Config}
-use Rattle.ct_frame.specs.declared.event.Note.{Note}
 use Rattle.ct_store.specs.Map.{look}
 
 -- ---- what is beside the records
@@ -183,30 +181,6 @@ beside_untold c g me n pend (out.Send f ∷ xs) b = sent_untold c f.sender f.gen
 beside_untold c g me n pend (out.Answer call a ∷ xs) b = absurd b.0
 beside_untold c g me n pend (out.Note x ∷ xs) b = ap (λ (s : Bool). cond s (Noted n x ∷ record_labels c (labels_of n pend xs)) (record_labels c (labels_of n pend xs))) b.0 ∙ beside_untold c g me n pend xs b.1
 
-sent_unheard : (db : ℕ) (key : List ℕ) (n g : ℕ) (m : Msg) (rest : List Label) → told_by_all db key (sent_label n g m ++ rest) ≡ told_by_all db key rest
-unfolding sent_label told_by_all told_by
-sent_unheard db key n g (msg.Push members table ptables assigned) rest = refl
-sent_unheard db key n g (msg.Take number assigned) rest = refl
-sent_unheard db key n g _ rest = refl
-
-note_unheard : (db : ℕ) (key : List ℕ) (n : ℕ) (x : Note) → is_note_of_records x ≡ false → told_by db key (Noted n x) ≡ []
-unfolding is_note_of_records told_by
-note_unheard db key n (note.Vacuumed d k) e = absurd (cc)
-note_unheard db key n (note.Ended d k) e = refl
-note_unheard db key n (note.Round h members p q) e = refl
-note_unheard db key n (note.Installed h) e = refl
-note_unheard db key n (note.Thawed h) e = refl
-note_unheard db key n (note.Released a) e = refl
-note_unheard db key n (note.Took a) e = refl
-
--- nor of one record
-pub beside_unheard : (g me db : ℕ) (key : List ℕ) (n : ℕ) (pend : List PendingCall) (more : List Out) → AllBeside g me more → told_by_all db key (labels_of n pend more) ≡ []
-unfolding Is_beside labels_of told_by_all
-beside_unheard g me db key n pend [] b = refl
-beside_unheard g me db key n pend (out.Send f ∷ xs) b = sent_unheard db key f.sender f.generation f.msg (labels_of n pend xs) ∙ beside_unheard g me db key n pend xs b.1
-beside_unheard g me db key n pend (out.Answer call a ∷ xs) b = absurd b.0
-beside_unheard g me db key n pend (out.Note x ∷ xs) b = ap (λ (l : List law.Label). l ++ told_by_all db key (labels_of n pend xs)) (note_unheard db key n x b.0) ∙ beside_unheard g me db key n pend xs b.1
-
 -- ---- so it is of the whole step
 
 -- what each message keeps that speaks of no record and is of no newer generation, all messages keep
@@ -253,37 +227,3 @@ labels_after c g me n pend (out.Note x ∷ xs) more b = same_after c (Noted n x 
 -- nothing more is told of records
 pub beside_labels : (c : Config) (g me n : ℕ) (pend : List PendingCall) (t u : Turn) → Beside g me t u → record_labels c (labels_of n pend u.outs) ≡ record_labels c (labels_of n pend t.outs)
 beside_labels c g me n pend t u b = ap (λ (l : List Out). record_labels c (labels_of n pend l)) b.outs.1 ∙ labels_after c g me n pend t.outs b.outs.0 b.outs.2
-
-heard_after : (db : ℕ) (key : List ℕ) (first xs ys : List Label) → told_by_all db key xs ≡ told_by_all db key ys → told_by_all db key (first ++ xs) ≡ told_by_all db key (first ++ ys)
-unfolding told_by_all
-heard_after db key [] xs ys e = e
-heard_after db key (x ∷ first) xs ys e = ap (λ (l : List law.Label). told_by db key x ++ l) (heard_after db key first xs ys e)
-
-told_after : (g me db : ℕ) (key : List ℕ) (n : ℕ) (pend : List PendingCall) (xs more : List Out) → AllBeside g me more → told_by_all db key (labels_of n pend (xs ++ more)) ≡ told_by_all db key (labels_of n pend xs)
-unfolding labels_of told_by_all
-told_after g me db key n pend [] more b = beside_unheard g me db key n pend more b
-told_after g me db key n pend (out.Send f ∷ xs) more b = heard_after db key (sent_label f.sender f.generation f.msg) (labels_of n pend (xs ++ more)) (labels_of n pend xs) (told_after g me db key n pend xs more b)
-told_after g me db key n pend (out.Answer call a ∷ xs) more b = heard_after db key (answered call a pend) (labels_of n pend (xs ++ more)) (labels_of n pend xs) (told_after g me db key n pend xs more b)
-told_after g me db key n pend (out.Note x ∷ xs) more b = heard_after db key (Noted n x ∷ []) (labels_of n pend (xs ++ more)) (labels_of n pend xs) (told_after g me db key n pend xs more b)
-
--- nor of one record
-pub beside_told : (g me db : ℕ) (key : List ℕ) (n : ℕ) (pend : List PendingCall) (t u : Turn) → Beside g me t u → told_by_all db key (labels_of n pend u.outs) ≡ told_by_all db key (labels_of n pend t.outs)
-beside_told g me db key n pend t u b = ap (λ (l : List Out). told_by_all db key (labels_of n pend l)) b.outs.1 ∙ told_after g me db key n pend t.outs b.outs.0 b.outs.2
-
--- the world of a record is the same
-pub beside_amid : (g me h db : ℕ) (key : List ℕ) (n : ℕ) (w : World) (t u : Turn) → Beside g me t u → amid h db key n w t ≡ amid h db key n w u
-beside_amid g me h db key n w t u b =
-    let seen = sym (beside_views g me db key t u b) in
-    let mail = sym (beside_mail g me h db key t u b) in
-    λ i. record { nodes = λ k. cond (nat_eq k n) (seen i) (w.nodes k); joined = λ _. true; mail = w.mail ++ mail i }
-
--- the world of every record follows by no event
-pub beside_follows : (g me h : ℕ) (s : Scene) (n : ℕ) (w : World) (pend : List PendingCall) (t u : Turn) → Beside g me t u → Follows h s n w pend t u
-unfolding heard
-beside_follows g me h s n w pend t u b = (
-  [],
-  record {
-    world = beside_amid g me h s.db s.key n w t u b;
-    labels = beside_told g me s.db s.key n pend t u b ∙ sym (append-nil _);
-  },
-)

@@ -1,12 +1,12 @@
 -- Where a generation began with rows: members alone run, other nodes keep nothing, and what was sent.
-use Rattle.std.proofs.Common.{◌≡◌, ℕ, zero, suc, ◌<◌, ◌≤◌, true, false, List, [], ◌∷◌, length, Some, None, refl, arith}
+use Rattle.std.proofs.Common.{◌≡◌, ℕ, zero, suc, ◌≤◌, true, false, List, [], ◌∷◌, Some, None, refl}
 use Rattle.std.specs.Prelude.{slice_get}
 use Rattle.std.specs.List.{AllByRecursion}
 use Rattle.ct_msg.specs.declared.config.Config.{Config}
 use Rattle.ct_rules.specs.State.{nothing_kept}
 use Rattle.ct_rules_node.specs.Admission.{record_in}
-use Rattle.ct_rules_node.specs.Node.{Node, is_present, is_present_in, state_at}
-use Rattle.ct_cluster.specs.Cluster.{Cluster, Sent, is_up, node_at, sent_at, absent, or_absent}
+use Rattle.ct_rules_node.specs.Node.{state_at}
+use Rattle.ct_cluster.specs.Cluster.{Cluster, Sent, is_up, node_at, sent_at}
 use Rattle.ct_register.specs.Words.{is_in}
 use Rattle.ct_promise.specs.Born.{Rows, IsBornWith}
 use Rattle.ct_law_generation.proofs.BornWorlds.{by_test, state_none}
@@ -14,17 +14,6 @@ use Rattle.ct_law_generation.proofs.BornWorlds.{by_test, state_none}
 -- who runs is a member
 pub born_up : (config : Config) (g : ℕ) (members : List ℕ) (row : Rows) (w : Cluster) → IsBornWith config g members row w → (n : ℕ) → is_up n w ≡ true → is_in n members ≡ true
 born_up config g members row w h n up = by_test (is_in n members) (λ t. t) (λ f. absurd (let down = h.down n f in cc))
-
-there_is : (g n : ℕ) (ns : List Node) → is_present_in g (or_absent (slice_get ns n)) ≡ true → n < length ns
-unfolding is_present_in is_present or_absent absent
-there_is g n [] e = absurd (cc)
-there_is g zero (x ∷ ns) e = omega arith
-there_is g (suc n) (x ∷ ns) e = (let l = there_is g n ns e in omega arith)
-
--- the cluster has each member among its nodes
-pub born_there : (config : Config) (g : ℕ) (members : List ℕ) (row : Rows) (w : Cluster) → IsBornWith config g members row w → (n : ℕ) → is_in n members ≡ true → n < length w.nodes
-unfolding node_at
-born_there config g members row w h n t = there_is g n w.nodes (h.born n t).present
 
 -- who is no member keeps nothing of any record
 pub born_left : (config : Config) (g : ℕ) (members : List ℕ) (row : Rows) (w : Cluster) → IsBornWith config g members row w → (n : ℕ) → is_in n members ≡ false → (db : ℕ) (key : List ℕ) → state_at db key (node_at n w) ≡ nothing_kept

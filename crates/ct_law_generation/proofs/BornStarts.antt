@@ -22,9 +22,7 @@ use Rattle.ct_register.specs.Words.{is_in}
 use Rattle.ct_register.proofs.Small.{none_not_some, some_not_none}
 use Rattle.ct_promise.specs.Promises.{IsConfig}
 use Rattle.ct_promise.specs.Born.{Rows, IsBornWith, BornRegisters, WishIsSound, IsMastered, IsBirthOf}
-use Rattle.ct_law_world.specs.World.{Scene, World, Event, LeadsTo, bare, born, AreDrawn, SeesAtMost}
-use Rattle.ct_law_record.proofs.Law.{proved_bare}
-use Rattle.ct_law_record.proofs.Births.{proved_born}
+use Rattle.ct_law_world.specs.World.{Scene, World, bare, born, AreDrawn, SeesAtMost}
 use Rattle.ct_law_record.proofs.Worlds.{member_real}
 use Rattle.ct_law_generation.specs.Shown.{Era, scene, project, AllInstalled}
 use Rattle.ct_law_generation.proofs.Configured.{at_most_sixteen_nodes}
@@ -206,13 +204,6 @@ each_begins P config era rules row w r is h b with_row without db key = by_test 
     either : is_of_records (kind_at config db) ≡ true → (o : Option TableRow) → row db key ≡ o → P s (project era.number db key w) t
     either of None e = of_none (inl (of, e))
     either of (Some x) e = of_row x of e
-
--- every schedule of a record from this cluster on is one register's
-pub each_leads : (config : Config) (era : Era) (rules : Rules) (row : Rows) (w : Cluster) (r : Lines) → IsConfig config → IsBornWith config era.number era.members row w → BornRegisters config w era.number era.members row r →
-    (db : ℕ) (key : List ℕ) (es : List Event) → LeadsTo (scene config era rules db key) (project era.number db key w) (r.records era.number db key) es
-each_leads config era rules row w r is h b = each_begins (λ s x q. (es : List Event) → LeadsTo s x q es) config era rules row w r is h b
-    (λ s x master vs seen number wish k es. proved_born s x master vs seen (λ _. true) number wish es k.real k.lmaster k.named k.member k.value k.sees k.drawn)
-    (λ s number wish real drawn es. proved_bare s (λ _. true) number wish es real drawn)
 
 -- ---- the lines
 

@@ -26,7 +26,7 @@ use Rattle.ct_law_generation.specs.Shown.{Era, scene, view, is_it, mail_of, mail
 
 -- the generation, followed from this cluster on
 abbrev pub era_from : ℕ → List ℕ → Cluster → Era
-era_from g members w = record { number = g; members = members; start = λ db key. project g db key w }
+era_from g members w = record { number = g; members = members; thawed = false; start = λ db key. project g db key w }
 
 -- the next request number of each node
 abbrev pub numbers_in : Cluster → ℕ → ℕ

@@ -4,6 +4,7 @@ use Rattle.ct_msg.specs.declared.client.ClientOp.{ClientOp}
 use Rattle.ct_msg.specs.declared.config.Config.{Config}
 use Rattle.ct_frame.specs.Fields.{is_db}
 use Rattle.ct_call.specs.Rules.{Rules}
+use Rattle.ct_rules_node.specs.Node.{has_records, kind_at}
 use Rattle.ct_rules_node.specs.Turn.{Turn, begins, makes}
 use Rattle.ct_cluster.specs.Cluster.{Cluster, is_up, node_at, pending}
 use Rattle.ct_cluster.specs.Labels.{Label}
@@ -12,7 +13,7 @@ use Rattle.ct_register.specs.Legal.{db_of, key_of}
 use Rattle.ct_law_world.specs.World as law
 use Rattle.ct_law_generation.specs.Shown.{Era, labels_of, Schedules}
 use Rattle.ct_law_generation.proofs.Pending.{Callers}
-use Rattle.ct_law_generation.proofs.Delivering.{begun}
+use Rattle.ct_law_generation.proofs.Delivering.{begun, has_place}
 use Rattle.ct_law_generation.proofs.Calling.{own_pending, Calls_at, Goes}
 use Rattle.ct_law_generation.proofs.Clusters.{ClusterStays}
 use Rattle.ct_law_generation.proofs.Coming.{Cluster_goes}
@@ -34,14 +35,14 @@ counted_schedules c era rules w labels es h = h
 
 -- the call comes to a record of a node that runs
 pub calls_at : (c : Config) (era : Era) (rules : Rules) (who : Callers) (w : Cluster) (n db : ℕ) (key : List ℕ) (asked : ClientOp) (labels : List Label) (es : ℕ → List ℕ → List law.Event) → IsEra c era →
-    ((d : ℕ) → d < length c.dbs → is_db d ≡ true) → ClusterStays c era rules who w → Schedules c era rules w labels es → is_up n w ≡ true → db < length c.dbs → db_of asked ≡ db → key_of asked ≡ key →
+    ((d : ℕ) → d < length c.dbs → is_db d ≡ true) → ClusterStays c era rules who w → Schedules c era rules w labels es → is_up n w ≡ true → has_records (kind_at c db) ≡ true → db_of asked ≡ db → key_of asked ≡ key →
     Calls_at c era rules (called_by n asked w who) (w.calls + 1) n db (w.calls + 1) key asked (counted w)
-calls_at c era rules who w n db key asked labels es real small h sched up inside of_db of_key = record {
+calls_at c era rules who w n db key asked labels es real small h sched up kind of_db of_key = record {
   real = real;
-  small = small db inside;
+  small = small db (has_place c db kind);
   member = h.up n up;
   stays = (more_calls c era rules who (n, asked) w h).nodes n (h.up n up);
-  inside = inside;
+  kind = kind;
   own = own_caller (w.calls + 1) (n, asked) who;
   counted = omega arith;
   of_db = of_db;

@@ -1,5 +1,5 @@
 -- A client's call on a record that is not refused.
-use Rattle.std.proofs.Common.{◌≡◌, ℕ, ◌<◌, ◌≤◌, Bool, true, false, cond, List, [], ◌∷◌, length, Option, Some, None, refl, sym, ap, ◌∙◌, subst}
+use Rattle.std.proofs.Common.{◌≡◌, ℕ, ◌<◌, ◌≤◌, Bool, true, false, cond, List, [], ◌∷◌, Option, Some, None, refl, sym, ap, ◌∙◌, subst}
 use Rattle.std.specs.Prelude.{nat_eq, is_some}
 use Rattle.std.proofs.lemmas.Bool.{cond_both, eqb-true, eq-eqb}
 use Rattle.ct_msg.specs.declared.client.ClientOp.{ClientOp}
@@ -13,7 +13,7 @@ use Rattle.ct_rules.specs.Moves.{move, store, unlock}
 use Rattle.ct_rules.specs.Parts.{want}
 use Rattle.ct_rules.specs.declared.event.MoveEvent.{MoveEvent}
 use Rattle.ct_rules.specs.declared.event.MoveEvent.TheVariants as event
-use Rattle.ct_rules_node.specs.Node.{state_at}
+use Rattle.ct_rules_node.specs.Node.{state_at, has_records, kind_at}
 use Rattle.ct_rules_node.specs.Turn.{Turn, begins, makes}
 use Rattle.ct_rules_node.specs.Records as node
 use Rattle.ct_rules_node.specs.Records.{at_record, place_of}
@@ -29,10 +29,10 @@ use Rattle.ct_law_generation.specs.Shown.{Era, scene, view, project, amid, Finds
 use Rattle.ct_law_generation.proofs.Wishing.{Wishful, want_wish, store_wish, unlock_wish}
 use Rattle.ct_law_generation.proofs.Pending.{Callers, Known, KnownAt}
 use Rattle.ct_law_generation.proofs.Forming.{may_want_comes}
-use Rattle.ct_law_generation.proofs.Staying.{NodeStays}
+use Rattle.ct_law_generation.proofs.Staying.{NodeStays, Of_records}
 use Rattle.ct_law_generation.proofs.Events.{wants_happen, stores_happen, unlocks_happen}
 use Rattle.ct_law_generation.proofs.Following.{Asks, IsEra, Goes_on, follows}
-use Rattle.ct_law_generation.proofs.Delivering.{begun, whole_part}
+use Rattle.ct_law_generation.proofs.Delivering.{begun, whole_part, has_place}
 
 -- the call that comes, before those that wait
 abbrev pub own_pending : ℕ → ℕ → ClientOp → PendingCall
@@ -56,7 +56,7 @@ pub record Calls_at (c : Config) (era : Era) (rules : Rules) (who : Callers) (ca
   pub small : is_db db ≡ true
   pub member : is_in n era.members ≡ true
   pub stays : NodeStays c era rules who calls n (node_at n w)
-  pub inside : db < length c.dbs
+  pub kind : has_records (kind_at c db) ≡ true
   pub own : who call ≡ (n, asked)
   pub counted : call ≤ calls
   pub of_db : db_of asked ≡ db
@@ -70,18 +70,19 @@ Goes c era rules who calls n call asked w u =
 
 at_call : (c : Config) (era : Era) (rules : Rules) (who : Callers) (calls n db call : ℕ) (key : List ℕ) (asked : ClientOp) (w : Cluster) (e : MoveEvent) (ev : Event) → Calls_at c era rules who calls n db call key asked w →
     MayCome (place (scene c era rules db key) n (view db key (node_at n w))) (state_at db key (node_at n w)) e → is_from_node e ≡ true →
-    Wishful (Known who calls n db key) (left_by c n db key (λ at o. move at rules e o) (begins (node_at n w))).state.wish →
+    Wishful (Known who calls n db key) (left_by c n db key (λ at o. move at rules e o) (begins (node_at n w))).state.wish → Wishful (Of_records c db key) (left_by c n db key (λ at o. move at rules e o) (begins (node_at n w))).state.wish →
     happens (scene c era rules db key) (amid era.number db key n (project era.number db key w) (begins (node_at n w))) ev ≡ put (scene c era rules db key) (amid era.number db key n (project era.number db key w) (begins (node_at n w))) n (own_call call asked) (left_by c n db key (λ at o. move at rules e o) (begins (node_at n w))) →
     (at_record c n db key (λ at o. move at rules e o) (makes call (begins (node_at n w)))).spent ≡ false → Goes c era rules who calls n call asked w (at_record c n db key (λ at o. move at rules e o) (makes call (begins (node_at n w))))
 unfolding makes
-at_call c era rules who calls n db call key asked w e ev h may from known is spent =
+at_call c era rules who calls n db call key asked w e ev h may from known waits is spent =
     follows c era rules who calls n db key e (makes call (begins (node_at n w))) (own_pending n call asked ∷ pending w) (own_call call asked) (λ db key. project era.number db key w) ev h.real h.member h.stays (record {
       has = h.small;
-      there = subst (λ (l : ℕ). db < l) (sym h.stays.size) h.inside;
+      there = subst (λ (l : ℕ). db < l) (sym h.stays.size) (has_place c db h.kind);
       may = may;
       from = from;
       whole = whole_part c n db key (λ at o. move at rules e o) (makes call (begins (node_at n w))) spent;
       known = known;
+      waits = waits;
       finds = finds_own n db call key asked (pending w) h.of_db h.of_key;
       lawful = subst (λ (v : World). Asks (scene c era rules db key) v) (begun era.number db key n w) h.lawful;
       is_event = is;
@@ -99,6 +100,7 @@ unfolding node.view Known
 wants_follows c era rules who calls n db call key asked w h may spent =
     at_call c era rules who calls n db call key asked w (event.Want call asked) (Wants n call asked) h (may_want_comes (scene c era rules db key) n call (view db key (node_at n w)) asked may) refl
     (want_wish (Known who calls n db key) (place_of c n db key (node_at n w)) rules call asked (node.view db key (node_at n w)) (h.own, h.counted, h.of_db, h.of_key) (wished_before c era rules who calls n db call key asked w h))
+    (want_wish (Of_records c db key) (place_of c n db key (node_at n w)) rules call asked (node.view db key (node_at n w)) h.kind (h.stays.waits db key))
     (wants_happen c era rules n db call key asked (begins (node_at n w)) (project era.number db key w) h.stays.knows may) spent
 
 -- a store
@@ -109,6 +111,7 @@ unfolding node.view
 stores_follows c era rules who calls n db call key v w h locked spent =
     at_call c era rules who calls n db call key (op.Store db key v) w (event.Store call v) (Stores n call v) h locked refl
     (store_wish (Known who calls n db key) call v (node.view db key (node_at n w)) (wished_before c era rules who calls n db call key (op.Store db key v) w h))
+    (store_wish (Of_records c db key) call v (node.view db key (node_at n w)) (h.stays.waits db key))
     (stores_happen c era rules n db call key v (begins (node_at n w)) (project era.number db key w) h.stays.knows locked) spent
 
 -- an unlock
@@ -119,4 +122,5 @@ unfolding node.view
 unlocks_follows c era rules who calls n db call key w h locked spent =
     at_call c era rules who calls n db call key (op.Unlock db key) w (event.Unlock call) (Unlocks n call) h locked refl
     (unlock_wish (Known who calls n db key) (place_of c n db key (node_at n w)) call (node.view db key (node_at n w)) (wished_before c era rules who calls n db call key (op.Unlock db key) w h))
+    (unlock_wish (Of_records c db key) (place_of c n db key (node_at n w)) call (node.view db key (node_at n w)) (h.stays.waits db key))
     (unlocks_happen c era rules n db call key (begins (node_at n w)) (project era.number db key w) h.stays.knows locked) spent

@@ -1,5 +1,4 @@
--- Where a step of the cluster tells that a record was removed, a node that runs did it as its location master, and has no
--- entry of it.
+-- Where a step of the cluster tells that a record was removed, its location master did it, and has no entry of it.
 use Rattle.std.proofs.Common.{◌≡◌, ℕ, zero, suc, ◌+◌, ◌≤◌, Bool, true, false, ◌||◌, List, [], ◌∷◌, ◌++◌, length, set, Option, Some, None, refl, sym, ap, ◌∙◌, arith, subst, ⊎_elim}
 use Rattle.std.specs.Prelude.{nat_lt, not, slice_get, Result, Ok, Err}
 use Rattle.std.proofs.lemmas.Bool.{cond_both, ltb-true, ltb-false}
@@ -53,13 +52,13 @@ Clears r g db key w v told = is_removed r g db key told ≡ true → IsCleared r
 
 -- ---- the node's step becomes the cluster's
 
-past_node : (ns : List Node) (n : ℕ) (x : Node) → length ns ≤ n → or_absent (slice_get (set ns n x) n) ≡ absent
+pub past_node : (ns : List Node) (n : ℕ) (x : Node) → length ns ≤ n → or_absent (slice_get (set ns n x) n) ≡ absent
 unfolding or_absent
 past_node [] n x l = refl
 past_node (y ∷ ys) zero x l = absurd (omega arith)
 past_node (y ∷ ys) (suc n) x l = past_node ys n x (omega arith)
 
-absent_entry : (db : ℕ) (key : List ℕ) → (state_at db key absent).entry ≡ None
+pub absent_entry : (db : ℕ) (key : List ℕ) → (state_at db key absent).entry ≡ None
 unfolding state_at db_at absent or_untouched untouched or_nothing
 absent_entry db key = refl
 
@@ -94,7 +93,7 @@ done_clears r g db key s calls lines w v x none ok told = absurd (let same : rec
 
 -- ---- every step
 
-same_node : (k n : ℕ) (m : Sent) (f : Fate) (w : Cluster) → node_at n (with_fate k m f w) ≡ node_at n w
+pub same_node : (k n : ℕ) (m : Sent) (f : Fate) (w : Cluster) → node_at n (with_fate k m f w) ≡ node_at n w
 unfolding with_fate node_at
 same_node zero n m f w = refl
 same_node (suc k) n m f w = refl

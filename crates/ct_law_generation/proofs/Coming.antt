@@ -1,5 +1,5 @@
 -- A message of a record is delivered, or comes again: the cluster stays so, and the schedules of all records go on.
-use Rattle.std.proofs.Common.{◌≡◌, ℕ, suc, ◌<◌, true, false, ◌&&◌, List, [], ◌++◌, length, Some, refl, sym, ◌∙◌, append-nil, subst, ⊎_elim}
+use Rattle.std.proofs.Common.{◌≡◌, ℕ, suc, ◌<◌, true, false, ◌&&◌, List, [], ◌++◌, length, Some, refl, sym, ◌∙◌, append-nil, subst, ⊎_elim, Bool}
 use Rattle.std.specs.Prelude.{slice_get}
 use Rattle.ct_msg.specs.declared.config.Config.{Config}
 use Rattle.ct_frame.specs.Fields.{is_db}
@@ -67,3 +67,8 @@ comes_on c era rules who w k s r labels es real small h sched at up is spent =
 -- what became of a message does not matter
 pub fate_goes : (c : Config) (era : Era) (rules : Rules) (who : Callers) (w : Cluster) (k : ℕ) (s : Sent) (f : Fate) (labels : List Label) → slice_get w.sent k ≡ Some s → Cluster_goes c era rules who w labels → Cluster_goes c era rules who (with_fate (suc k) s f w) labels
 fate_goes c era rules who w k s f labels at g = (fate_stays c era rules who w k s f at g.0, g.1, λ db key. ((g.2 db key).0 ∙ sym (fate_hidden era.number db key k s f w at), (g.2 db key).1))
+
+-- nor does a mark of a node
+pub able_goes : (c : Config) (era : Era) (rules : Rules) (who : Callers) (w : Cluster) (able : List Bool) (labels : List Label) → Cluster_goes c era rules who w labels → Cluster_goes c era rules who (record w { able = able }) labels
+unfolding node_at is_up
+able_goes c era rules who w able labels g = (record { size = g.0.size; up = g.0.up; there = g.0.there; nodes = g.0.nodes; left = g.0.left; left_known = g.0.left_known; sent = g.0.sent }, g.1, g.2)

@@ -1,8 +1,8 @@
 -- A change of the persistent side of one database: no record sees it, and what holds of the node stays.
 use Rattle.std.proofs.Common.{◌≡◌, ◌≢◌, ℕ, ◌+◌, ◌≤◌, Bool, true, false, cond, not, List, [], ◌∷◌, ◌++◌, length, Option, Some, None, refl, sym, ap, ◌∙◌, append-nil, arith, subst, ⊎_elim}
-use Rattle.std.specs.Prelude.{nat_eq, nat_lt, nat_le, slice_get, option_map, ◌&&◌}
+use Rattle.std.specs.Prelude.{nat_eq, nat_lt, nat_le, slice_get, option_map}
 use Rattle.std.specs.List.{filter, AllByRecursion}
-use Rattle.std.proofs.lemmas.Bool.{cond_both, and_parts, cases_eq, eqb-true, eq-eqb, ltb-true, ltb-false}
+use Rattle.std.proofs.lemmas.Bool.{cond_both, cases_eq, eqb-true, eq-eqb, ltb-true, ltb-false}
 use Rattle.std.proofs.lemmas.List.{length-set}
 use Rattle.ct_msg.specs.declared.client.Answer.{Answer}
 use Rattle.ct_msg.specs.declared.client.Answer.TheVariants as answer
@@ -15,7 +15,6 @@ use Rattle.ct_msg.specs.declared.config.DbKind.{DbKind}
 use Rattle.ct_msg.specs.declared.config.DbKind.TheVariants.{Volatile, ReadOnly, Persistent}
 use Rattle.ct_frame.specs.declared.event.Out.{Out}
 use Rattle.ct_frame.specs.declared.event.Out.TheVariants as out
-use Rattle.ct_frame.specs.declared.frame.Frame.{Frame}
 use Rattle.ct_frame.specs.declared.frame.Msg.{Msg}
 use Rattle.ct_frame.specs.declared.frame.Msg.TheVariants as msg
 use Rattle.ct_call.specs.Rules.{Rules}
@@ -27,8 +26,7 @@ use Rattle.ct_rules_node.specs.Laws.{AllAscend}
 use Rattle.ct_rules_node.specs.Node.{Node, Database, Committing, without, db_at, with_db, state_at, or_nothing, is_present_in}
 use Rattle.ct_rules_node.specs.Node as node
 use Rattle.ct_rules_node.specs.Turn.{Turn, begins, does, with_node, makes, answers, posts, posts_all}
-use Rattle.ct_rules_node.specs.Admission.{record_in, is_current}
-use Rattle.ct_rules_node.specs.Steps.{arrives, if_persistent}
+use Rattle.ct_rules_node.specs.Admission.{record_in}
 use Rattle.ct_rules_node.specs.Clients.{refusal, client, serves, reads, wrong_kind, refused_if, is_commit}
 use Rattle.ct_rules_node.specs.Clients as clients
 use Rattle.ct_rules_node.specs.Records.{at_record}
@@ -48,12 +46,13 @@ use Rattle.ct_law_world.specs.World.{View, Mail, World}
 use Rattle.ct_law_generation.specs.Shown.{Era, scene, view, mail_of, mails, labels_of, amid, project, Schedules}
 use Rattle.ct_law_generation.proofs.Hearing.{frames_more, mails_more, labels_more}
 use Rattle.ct_law_generation.proofs.Plain.{IsPlain, AllPlain, plain_more}
-use Rattle.ct_law_generation.proofs.Pending.{Callers, Fits, KnownAt, CommitFits, DatabaseKnown, NodeKnown, pending_fits}
+use Rattle.ct_law_generation.proofs.Wishing.{Wishful}
+use Rattle.ct_law_generation.proofs.Pending.{Callers, Fits, KnownAt, CommitFits, DatabaseKnown, NodeKnown}
 use Rattle.ct_law_generation.proofs.Forming.{Is_formed}
-use Rattle.ct_law_generation.proofs.Staying.{NodeStays, of_era}
+use Rattle.ct_law_generation.proofs.Staying.{NodeStays, Of_records, of_era}
 use Rattle.ct_law_generation.proofs.Calling.{own_pending}
 use Rattle.ct_law_generation.proofs.Putting.{put_shows}
-use Rattle.ct_law_generation.proofs.Clusters.{ClusterStays, inside, all_known, put_stays}
+use Rattle.ct_law_generation.proofs.Clusters.{ClusterStays, inside, put_stays}
 use Rattle.ct_law_generation.proofs.Coming.{Cluster_goes}
 use Rattle.ct_law_generation.proofs.Counting.{own_caller, more_calls}
 use Rattle.ct_law_generation.proofs.Called.{counted, called_by, counted_schedules}
@@ -111,6 +110,8 @@ stays_with c era rules who calls n db x node h s f = record {
     order = all_set (λ d. Ascends d.records) node.dbs db x (subst (λ m. Ascends m) (sym s.0) (at_ascends node.dbs db h.known.order)) h.known.order;
     dbs = λ d. database_with who calls n db d x node h.known s f;
   };
+  waits = λ d key. subst (λ (v : View). Wishful (Of_records c d key) v.state.wish) (sym (view_with db d key x node s)) (h.waits d key);
+  serves = h.serves;
   formed = λ d key. subst (λ (v : View). Is_formed (scene c era rules d key) n v) (sym (view_with db d key x node s)) (h.formed d key);
 }
 
@@ -370,29 +371,3 @@ read_pair_goes c era rules who w n db key labels es h sched up kind free =
     call_beside c era rules who w n asked (client c rules n (w.calls + 1) asked (begins (node_at n (counted w)))) labels es h sched up
     (subst (λ (u : Turn). Goes_beside c era rules (called_by n asked w who) (w.calls + 1) n (own_pending n (w.calls + 1) asked ∷ pending (counted w)) t u) (sym is)
     (read_pair_beside c era rules (called_by n asked w who) (w.calls + 1) n (own_pending n (w.calls + 1) asked ∷ pending (counted w)) (w.calls + 1) db key t (own_untold c n (w.calls + 1) asked (pending (counted w)) kind)))
-
--- a PUpdate that comes, followed or dropped
-pub pupdate_goes : (c : Config) (era : Era) (rules : Rules) (who : Callers) (w : Cluster) (n : ℕ) (f : Frame) (db seq : ℕ) (writes : List Pair) (labels : List Label) (es : ℕ → List ℕ → List law.Event) → ClusterStays c era rules who w → Schedules c era rules w labels es → is_up n w ≡ true →
-    Cluster_goes c era rules who (put n (arrives c rules n f (begins (node_at n w)) (msg.PUpdate db seq writes)) [] w).cluster (labels ++ record_labels c (labels_of n (pending w) (arrives c rules n f (begins (node_at n w)) (msg.PUpdate db seq writes)).outs))
-unfolding arrives if_persistent
-pupdate_goes c era rules who w n f db seq writes labels es h sched up =
-    let t = begins (node_at n w) in
-    let u = on_pupdate n f.sender db seq writes t in
-    beside_goes c era rules who w n t (arrives c rules n f t (msg.PUpdate db seq writes)) (pending w) labels es (h.up n up) refl (λ db key. delivering.begun era.number db key n w) (h.nodes n (h.up n up)) h sched
-    (cond_both (is_current f (node_at n w) && node.is_persistent (node.kind_at c db)) u t (λ (v : Turn). Goes_beside c era rules who w.calls n (pending w) t v)
-    (λ _. pupdate_beside c era rules who w.calls n (pending w) f.sender db seq writes t (not_after c era rules who w.calls n (node_at n w) (h.nodes n (h.up n up))))
-    (λ _. beside_none c era rules who w.calls n (pending w) t))
-
--- a PAck that comes, followed or dropped
-pub pack_goes : (c : Config) (era : Era) (rules : Rules) (who : Callers) (w : Cluster) (n : ℕ) (f : Frame) (db seq : ℕ) (labels : List Label) (es : ℕ → List ℕ → List law.Event) → ClusterStays c era rules who w → Schedules c era rules w labels es → is_up n w ≡ true →
-    Cluster_goes c era rules who (put n (arrives c rules n f (begins (node_at n w)) (msg.PAck db seq)) [] w).cluster (labels ++ record_labels c (labels_of n (pending w) (arrives c rules n f (begins (node_at n w)) (msg.PAck db seq)).outs))
-unfolding arrives if_persistent
-pack_goes c era rules who w n f db seq labels es h sched up =
-    let t = begins (node_at n w) in
-    let u = on_pack f.sender db seq t in
-    let fits = pending_fits who w.calls w (all_known c era rules who w h) in
-    beside_goes c era rules who w n t (arrives c rules n f t (msg.PAck db seq)) (pending w) labels es (h.up n up) refl (λ db key. delivering.begun era.number db key n w) (h.nodes n (h.up n up)) h sched
-    (cond_both (is_current f (node_at n w) && node.is_persistent (node.kind_at c db)) u t (λ (v : Turn). Goes_beside c era rules who w.calls n (pending w) t v)
-    (λ k. pack_beside c era rules who w.calls n (pending w) f.sender db seq t (h.nodes n (h.up n up))
-    (λ call writes own. waiting_untold c who n call (op.Commit db writes) (pending w) fits own (and_parts (is_current f (node_at n w)) (node.is_persistent (node.kind_at c db)) k).1))
-    (λ _. beside_none c era rules who w.calls n (pending w) t))

@@ -52,7 +52,7 @@ more_known calls n x who node h = record {
 }
 
 more_node : (c : Config) (era : Era) (rules : Rules) (calls n : ℕ) (x : ℕ × ClientOp) (who : Callers) (node : Node) → NodeStays c era rules who calls n node → NodeStays c era rules (with_caller (calls + 1) x who) (calls + 1) n node
-more_node c era rules calls n x who node h = record { present = h.present; knows = h.knows; promise = h.promise; lead = h.lead; size = h.size; known = more_known calls n x who node h.known; formed = h.formed }
+more_node c era rules calls n x who node h = record { present = h.present; knows = h.knows; promise = h.promise; lead = h.lead; size = h.size; known = more_known calls n x who node h.known; waits = h.waits; serves = h.serves; formed = h.formed }
 
 -- the cluster with one call more
 pub more_calls : (c : Config) (era : Era) (rules : Rules) (who : Callers) (x : ℕ × ClientOp) (w : Cluster) → ClusterStays c era rules who w → ClusterStays c era rules (with_caller (w.calls + 1) x who) (record w { calls = w.calls + 1 })

@@ -28,7 +28,7 @@ use Rattle.ct_law_generation.proofs.Weave.{it_is_itself}
 use Rattle.ct_law_generation.proofs.Wishing.{arrive_wish}
 use Rattle.ct_law_generation.proofs.Pending.{Callers, Known, KnownAt, NodeKnown}
 use Rattle.ct_law_generation.proofs.Forming.{mail_comes}
-use Rattle.ct_law_generation.proofs.Staying.{NodeStays, number_of, of_era}
+use Rattle.ct_law_generation.proofs.Staying.{NodeStays, number_of, of_era, Of_records}
 use Rattle.ct_law_generation.proofs.Events.{arrives_at, comes_happen}
 use Rattle.ct_law_generation.proofs.Following.{Goes_on, follows, finds_waiting, IsEra, Asks}
 use Rattle.ct_law_generation.proofs.Plain.{IsPlain, of_plain}
@@ -125,6 +125,7 @@ delivers c era rules who w k s db0 key0 real small member h all at r plain ok as
       from = sound.sender;
       whole = whole_part c n db0 key0 (λ at o. arrive at rules s.frame.sender s.frame.msg o) t (sym (ap (λ (u : Turn). u.spent) is) ∙ spent);
       known = arrive_wish (Known who w.calls n db0 key0) (place_of c n db0 key0 (node_at n w)) rules s.frame.sender s.frame.msg (node.view db0 key0 (node_at n w)) ((h.known.dbs db0).records key0);
+      waits = arrive_wish (Of_records c db0 key0) (place_of c n db0 key0 (node_at n w)) rules s.frame.sender s.frame.msg (node.view db0 key0 (node_at n w)) (h.waits db0 key0);
       finds = finds_waiting who w.calls n db0 key0 w all;
       lawful = subst (λ (v : World). Asks (scene c era rules db0 key0) v) (begun era.number db0 key0 n w) asks;
       is_event = comes_happen c era rules n db0 mail.0 s.frame.sender key0 s.frame.msg t (project era.number db0 key0 w) h.knows (longer (mails era.number db0 key0 w.sent) _ mail.0 _ mail.1);

@@ -37,7 +37,7 @@ use Rattle.ct_law_generation.proofs.Wishing.{Wishful}
 use Rattle.ct_law_generation.proofs.Pending.{Callers, is_call, Known, KnownAt, NodeKnown, answered_as, pending_fits, pending_has}
 use Rattle.ct_law_generation.proofs.Forming.{Is_formed, Is_sound_mail, formed_moves, formed_blank, sound_moves}
 use Rattle.ct_law_generation.proofs.Amid.{Fair, put_world, place_is}
-use Rattle.ct_law_generation.proofs.Staying.{NodeStays, of_era, Sure, stays_at}
+use Rattle.ct_law_generation.proofs.Staying.{NodeStays, Of_records, of_era, Sure, stays_at}
 use Rattle.ct_law_generation.proofs.Events.{each_follows}
 
 list_more : {X : Type 0} (xs ys zs : List X) → xs ++ (ys ++ zs) ≡ (xs ++ ys) ++ zs
@@ -93,6 +93,7 @@ pub record Comes_to (c : Config) (era : Era) (rules : Rules) (who : Callers) (ca
   pub from : is_from_node e ≡ true
   pub whole : (left_by c n db key (λ at o. move at rules e o) t).spent ≡ false
   pub known : Wishful (Known who calls n db key) (left_by c n db key (λ at o. move at rules e o) t).state.wish
+  pub waits : Wishful (Of_records c db key) (left_by c n db key (λ at o. move at rules e o) t).state.wish
   pub finds : Finds db key n pend asks
   pub lawful : Asks (scene c era rules db key) (amid era.number db key n w t)
   pub is_event : happens (scene c era rules db key) (amid era.number db key n w t) ev ≡ put (scene c era rules db key) (amid era.number db key n w t) n asks (left_by c n db key (λ at o. move at rules e o) t)
@@ -116,6 +117,7 @@ sure c era rules who calls n db key e t pend asks w ev h k = record {
   grows = move_grows (place_of c n db key t.node) rules e (node.view db key t.node);
   formed = formed_after c era rules who calls n db key e t pend asks w ev h k;
   known = k.known;
+  waits = k.waits;
 }
 
 pub fair : (c : Config) (era : Era) (rules : Rules) (who : Callers) (calls n db : ℕ) (key : List ℕ) (e : MoveEvent) (t : Turn) (pend : List PendingCall) (asks : ℕ → Option ClientOp) (w : World) (ev : Event) → is_in n era.members ≡ true →
@@ -144,7 +146,7 @@ sends_sound c era rules who calls n db key e t pend asks w ev node h k =
     subst (λ (o : Moving). AllByRecursion Is_sound_mail (sent n o.acts)) (sym is)
     (sound_moves (scene c era rules db key) n (view db key t.node) e k.has node (h.formed db key) k.may k.from (ap (λ (o : Moving). o.spent) (sym is) ∙ k.whole))
 
-all_plain : (c : Config) (era : Era) (n db : ℕ) (key : List ℕ) (part : Place → Moving → Moving) (t : Turn) → t.node.generation ≡ era.number → Told (place_of c n db key t.node) (left_by c n db key part t).acts → AllByRecursion Is_sound_mail (sent n (left_by c n db key part t).acts) →
+pub all_plain : (c : Config) (era : Era) (n db : ℕ) (key : List ℕ) (part : Place → Moving → Moving) (t : Turn) → t.node.generation ≡ era.number → Told (place_of c n db key t.node) (left_by c n db key part t).acts → AllByRecursion Is_sound_mail (sent n (left_by c n db key part t).acts) →
     AllPlain era.number (frames_of t.outs) → AllPlain era.number (frames_of (at_record c n db key part t).outs)
 unfolding at_record acted place_of
 all_plain c era n db key part t is told sound before =
@@ -188,7 +190,7 @@ waits None call asked e = absurd (cc)
 waits (Some x) call asked e = cond_both (nat_eq x.call call) (Some x.op) None (λ (r : Option ClientOp). r ≡ Some asked → (y : Wish) × (Some x ≡ Some y) × (y.call ≡ call) × (y.op ≡ asked))
     (λ t k. (x, refl, eqb-true x.call call t, (cc))) (λ f k. absurd (cc)) e
 
-known_wish : (P : ℕ → ClientOp → Type 0) (w : Option Wish) (x : Wish) → w ≡ Some x → Wishful P w → P x.call x.op
+pub known_wish : (P : ℕ → ClientOp → Type 0) (w : Option Wish) (x : Wish) → w ≡ Some x → Wishful P w → P x.call x.op
 unfolding Wishful
 known_wish P None x e h = absurd (cc)
 known_wish P (Some y) x e h = (let same : y ≡ x = cc in subst (λ (z : Wish). P z.call z.op) same h)

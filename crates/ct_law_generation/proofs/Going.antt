@@ -27,8 +27,7 @@ use Rattle.ct_law_record.proofs.MarkedRun.{Through, marks_of, marks_hold, unmark
 use Rattle.ct_law_generation.specs.Shown.{Era, scene, project, IsOfLine, Schedules}
 use Rattle.ct_law_generation.proofs.Weave.{weave}
 use Rattle.ct_law_generation.proofs.Hearing.{accepts_heard}
-use Rattle.ct_law_generation.proofs.Seeing.{SeenWithin}
-use Rattle.ct_law_generation.proofs.Holding.{Lined, records_hold}
+use Rattle.ct_law_generation.proofs.Holding.{Lined, SeenWithin, records_hold}
 use Rattle.ct_law_generation.proofs.Removing.{removed_as_told, removed_in_records, removed_heard}
 use Rattle.ct_law_generation.proofs.Clearing.{AllAscend, step_clears}
 

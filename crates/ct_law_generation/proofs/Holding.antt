@@ -19,7 +19,6 @@ use Rattle.ct_law_world.specs.World as law
 use Rattle.ct_law_world.specs.Marked as law_marked
 use Rattle.ct_law_generation.specs.Shown.{Era, scene, project}
 use Rattle.ct_law_generation.proofs.Standing.{OneLine, records_stand}
-use Rattle.ct_law_generation.proofs.Seeing.{SeenWithin}
 
 -- ---- what is asked of the cluster and of the line
 
@@ -58,6 +57,10 @@ marks_hold c era rules w r marks one each = record {
 }
 
 -- ---- nothing that was seen is lost
+
+-- no node has seen more versions of a record than there are
+abbrev pub SeenWithin : Register → Type 0
+SeenWithin t = (n : ℕ) → t.seen n ≤ length t.versions
 
 stands_for_seen : (t : Register) (deleted : ℕ) (place : ℕ → ℕ) (n : ℕ) (c : Option RecCopy) → law.StandsFor t deleted place n c → StandsForSeen t deleted place n c
 unfolding StandsForSeen

@@ -1,5 +1,5 @@
 -- Only the location master of a record has an entry of it: so its rules leave it.
-use Rattle.std.proofs.Common.{◌≡◌, ◌≢◌, ℕ, List, [], ◌∷◌, Option, Some, None, refl, ap, ◌∙◌, arith}
+use Rattle.std.proofs.Common.{◌≡◌, ◌≢◌, ℕ, List, [], ◌∷◌, Option, Some, None, ap, ◌∙◌, arith}
 use Rattle.std.specs.Prelude.{nat_eq, is_none, ◌&&◌}
 use Rattle.std.proofs.lemmas.Bool.{cond_both, and_parts, eqb-true}
 use Rattle.ct_call.specs.Rules.{Rules}
@@ -14,13 +14,9 @@ use Rattle.ct_rules.specs.declared.state.RecState.{RecState}
 use Rattle.ct_rules.specs.declared.state.Wish.{Wish}
 use Rattle.ct_rules.specs.Moves.{is_vacuumed, store, release, unlock, vacuum_at_home, vacuum, call_again_of, call_again, revoke_again_of, revoke_again, at_home, from_home, arrive}
 use Rattle.ct_rules_node.specs.Rounds.{want_again_of, want_again}
+use Rattle.ct_law_generation.proofs.Wishing.{send_all_same}
 
 -- ---- a rule that does not look at the entry
-
-send_all_same : (ns : List ℕ) (m : Msg) (o : Moving) → (send_all ns m o).state ≡ o.state
-unfolding send_all send acts
-send_all_same [] m o = refl
-send_all_same (n ∷ ns) m o = send_all_same ns m (send n m o)
 
 send_all_away : (ns : List ℕ) (m : Msg) (o : Moving) → o.state.entry ≡ None → (send_all ns m o).state.entry ≡ None
 send_all_away ns m o h = ap (λ (s : RecState). s.entry) (send_all_same ns m o) ∙ h

@@ -1,6 +1,5 @@
 -- A client's call, refused, on a record or on a persistent database: the run goes on.
 use Rattle.std.proofs.Common.{◌≡◌, ℕ, ◌+◌, Bool, true, false, cond, List, [], ◌∷◌, ◌++◌, Option, Some, None, refl, sym, ap, ◌∙◌, arith, subst, ⊎_elim, ◌≤◌}
-use Rattle.std.specs.Prelude.{Ok}
 use Rattle.std.specs.List.{AllByRecursion}
 use Rattle.std.proofs.lemmas.Bool.{eq-eqb}
 use Rattle.ct_msg.specs.declared.client.Answer.TheVariants as answer
@@ -40,14 +39,15 @@ use Rattle.ct_law_generation.proofs.Coming.{Cluster_goes}
 use Rattle.ct_law_generation.proofs.Counting.{own_caller, more_calls}
 use Rattle.ct_law_generation.proofs.Calling.{own_pending, Goes}
 use Rattle.ct_law_generation.proofs.Called.{counted, called_by, call_goes}
-use Rattle.ct_law_generation.proofs.Admitted.{Admits, admits}
-use Rattle.ct_law_generation.proofs.Served.{client_serves}
+use Rattle.ct_law_generation.proofs.Admitted.{admits}
+use Rattle.ct_law_generation.proofs.Served.{client_serves, record_kind}
 use Rattle.ct_law_generation.proofs.Refused.{untold, refused_follows}
 use Rattle.ct_law_generation.proofs.Configured.{refusals_silent}
 use Rattle.ct_law_generation.proofs.Fed.{fed_is}
 use Rattle.ct_law_generation.proofs.Committed.{filter_more, own_untold, commit_beside, not_after, read_pair_beside, commit_kind, commit_goes, read_pair_goes}
-use Rattle.ct_law_generation.proofs.Assembled.{Starts, Run_goes, Taken_goes, Tells, runs, lines_tell, client_turn, counted_calls, lock_taken, read_taken, write_taken, apply_taken, store_taken, unlock_taken}
+use Rattle.ct_law_generation.proofs.Assembled.{Starts, Run_goes, Taken_goes, runs, lines_tell, client_turn, counted_calls, lock_taken, read_taken, write_taken, apply_taken, store_taken, unlock_taken}
 use Rattle.ct_register.specs.Lines.{Lines}
+use Rattle.ct_law_generation.proofs.Kept.{client_tells}
 
 -- ---- what a call tells
 
@@ -213,60 +213,42 @@ read_pair_taken c era rules reg w ls n db key kind free h =
     (subst (λ (l : List Label). AllByRecursion (IsOfLine c era.number reg) l) (sym (pair_quiet c era rules h.who w n db key kind free)) tt)
     (λ who es stays sched up. read_pair_goes c era rules who w n db key ls es stays sched up kind free) h
 
--- ---- a call on a record
-
--- what a call tells that is not refused, and not of a persistent database, is of records of the line
-abbrev pub Calls_kept : Config → Era → Rules → Lines → Type 0
-Calls_kept c era rules reg = (w : Cluster) (ls : List Label) (n : ℕ) (o : ClientOp) → Starts c era rules reg → node.is_persistent (node.kind_at c (clients.db_of o)) ≡ false → refusal c rules (node_at n (counted w)) o ≡ None →
-    Run_goes c era rules reg ls w → is_up n w ≡ true → (client_turn c rules w n o).spent ≡ false → Tells c era reg n (own_pending n (w.calls + 1) o ∷ pending (counted w)) (client_turn c rules w n o)
-
--- so it is of a step that is taken
-taken_kept : (c : Config) (era : Era) (rules : Rules) (reg : Lines) (w : Cluster) (ls : List Label) (n : ℕ) (o : ClientOp) (x : Stepped) → Starts c era rules reg → Calls_kept c era rules reg → node.is_persistent (node.kind_at c (clients.db_of o)) ≡ false → refusal c rules (node_at n (counted w)) o ≡ None →
-    Run_goes c era rules reg ls w → fault_of c w (step.Client n o) ≡ None → steps c rules w (step.Client n o) ≡ Ok x → Tells c era reg n (own_pending n (w.calls + 1) o ∷ pending (counted w)) (client_turn c rules w n o)
-unfolding fault_of steps node_steps.happens
-taken_kept c era rules reg w ls n o x is kept kind free h ok e = kept w ls n o is kind free h (runs c w n _ ok) (fed_is c rules n (event.Client (w.calls + 1) o) [] (counted w) x e).0
-
--- only a commit or a read that is not refused is of a persistent database
-record_kind : (c : Config) (n : Node) (o : ClientOp) → Admits c n o → is_commit o ≡ false → is_read o ≡ false → node.is_persistent (node.kind_at c (clients.db_of o)) ≡ false
-unfolding wrong_kind refused_if
-record_kind c n o h e f = (let a = h.kind in grind arith)
-
 -- ---- every call
 
 -- a call that is not refused
-free_taken : (c : Config) (era : Era) (rules : Rules) (reg : Lines) (w : Cluster) (ls : List Label) (n : ℕ) (o : ClientOp) → Starts c era rules reg → Calls_kept c era rules reg → refusal c rules (node_at n (counted w)) o ≡ None → Run_goes c era rules reg ls w →
+free_taken : (c : Config) (era : Era) (rules : Rules) (reg : Lines) (w : Cluster) (ls : List Label) (n : ℕ) (o : ClientOp) → Starts c era rules reg → refusal c rules (node_at n (counted w)) o ≡ None → Run_goes c era rules reg ls w →
     Taken_goes c era rules reg w ls (step.Client n o)
 unfolding clients.db_of is_commit is_read
-free_taken c era rules reg w ls n (op.Lock db key) is kept free h x ok e =
+free_taken c era rules reg w ls n (op.Lock db key) is free h x ok e =
     let o = op.Lock db key in
     let kind = record_kind c (node_at n (counted w)) o (admits c rules (node_at n (counted w)) o free) refl refl in
-    lock_taken c era rules reg w ls n db key is free (taken_kept c era rules reg w ls n o x is kept kind free h ok e) h x ok e
-free_taken c era rules reg w ls n (op.Write db key v) is kept free h x ok e =
+    lock_taken c era rules reg w ls n db key is free (client_tells c era rules reg w ls n o x is kind free h ok e) h x ok e
+free_taken c era rules reg w ls n (op.Write db key v) is free h x ok e =
     let o = op.Write db key v in
     let kind = record_kind c (node_at n (counted w)) o (admits c rules (node_at n (counted w)) o free) refl refl in
-    write_taken c era rules reg w ls n db key v is free (taken_kept c era rules reg w ls n o x is kept kind free h ok e) h x ok e
-free_taken c era rules reg w ls n (op.Apply db key f arg) is kept free h x ok e =
+    write_taken c era rules reg w ls n db key v is free (client_tells c era rules reg w ls n o x is kind free h ok e) h x ok e
+free_taken c era rules reg w ls n (op.Apply db key f arg) is free h x ok e =
     let o = op.Apply db key f arg in
     let kind = record_kind c (node_at n (counted w)) o (admits c rules (node_at n (counted w)) o free) refl refl in
-    apply_taken c era rules reg w ls n db f key arg is free (taken_kept c era rules reg w ls n o x is kept kind free h ok e) h x ok e
-free_taken c era rules reg w ls n (op.Store db key v) is kept free h x ok e =
+    apply_taken c era rules reg w ls n db f key arg is free (client_tells c era rules reg w ls n o x is kind free h ok e) h x ok e
+free_taken c era rules reg w ls n (op.Store db key v) is free h x ok e =
     let o = op.Store db key v in
     let kind = record_kind c (node_at n (counted w)) o (admits c rules (node_at n (counted w)) o free) refl refl in
-    store_taken c era rules reg w ls n db key v is free (taken_kept c era rules reg w ls n o x is kept kind free h ok e) h x ok e
-free_taken c era rules reg w ls n (op.Unlock db key) is kept free h x ok e =
+    store_taken c era rules reg w ls n db key v is free (client_tells c era rules reg w ls n o x is kind free h ok e) h x ok e
+free_taken c era rules reg w ls n (op.Unlock db key) is free h x ok e =
     let o = op.Unlock db key in
     let kind = record_kind c (node_at n (counted w)) o (admits c rules (node_at n (counted w)) o free) refl refl in
-    unlock_taken c era rules reg w ls n db key is free (taken_kept c era rules reg w ls n o x is kept kind free h ok e) h x ok e
-free_taken c era rules reg w ls n (op.Read db key) is kept free h x ok e = ⊎_elim
+    unlock_taken c era rules reg w ls n db key is free (client_tells c era rules reg w ls n o x is kind free h ok e) h x ok e
+free_taken c era rules reg w ls n (op.Read db key) is free h x ok e = ⊎_elim
     (λ (t : node.is_persistent (node.kind_at c db) ≡ true). read_pair_taken c era rules reg w ls n db key t free h x ok e)
-    (λ (f : node.is_persistent (node.kind_at c db) ≡ false). read_taken c era rules reg w ls n db key is f free (taken_kept c era rules reg w ls n (op.Read db key) x is kept f free h ok e) h x ok e)
+    (λ (f : node.is_persistent (node.kind_at c db) ≡ false). read_taken c era rules reg w ls n db key is f free (client_tells c era rules reg w ls n (op.Read db key) x is f free h ok e) h x ok e)
     (true_or_false (node.is_persistent (node.kind_at c db)))
-free_taken c era rules reg w ls n (op.Commit db writes) is kept free h x ok e = commit_taken c era rules reg w ls n db writes (node_runs c w n (op.Commit db writes) ok) free h x ok e
+free_taken c era rules reg w ls n (op.Commit db writes) is free h x ok e = commit_taken c era rules reg w ls n db writes (node_runs c w n (op.Commit db writes) ok) free h x ok e
 
 -- a client's call
-pub client_joined : (c : Config) (era : Era) (rules : Rules) (reg : Lines) (w : Cluster) (ls : List Label) (n : ℕ) (o : ClientOp) → Starts c era rules reg → Calls_kept c era rules reg → Run_goes c era rules reg ls w → Taken_goes c era rules reg w ls (step.Client n o)
-client_joined c era rules reg w ls n o is kept h = either (refusal c rules (node_at n (counted w)) o) refl
+pub client_joined : (c : Config) (era : Era) (rules : Rules) (reg : Lines) (w : Cluster) (ls : List Label) (n : ℕ) (o : ClientOp) → Starts c era rules reg → Run_goes c era rules reg ls w → Taken_goes c era rules reg w ls (step.Client n o)
+client_joined c era rules reg w ls n o is h = either (refusal c rules (node_at n (counted w)) o) refl
   where
     either : (r : Option Why) → refusal c rules (node_at n (counted w)) o ≡ r → Taken_goes c era rules reg w ls (step.Client n o)
     either (Some reason) e = refused_taken c era rules reg w ls n o reason e h
-    either None e = free_taken c era rules reg w ls n o is kept e h
+    either None e = free_taken c era rules reg w ls n o is e h

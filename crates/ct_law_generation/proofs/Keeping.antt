@@ -25,7 +25,7 @@ use Rattle.ct_law_generation.proofs.Weave.{true_or_false}
 use Rattle.ct_law_generation.proofs.Wishing.{arrive_wish, vacuum_wish}
 use Rattle.ct_law_generation.proofs.Pending.{Callers, Known, KnownAt, NodeKnown}
 use Rattle.ct_law_generation.proofs.Forming.{mail_comes}
-use Rattle.ct_law_generation.proofs.Staying.{NodeStays}
+use Rattle.ct_law_generation.proofs.Staying.{NodeStays, Of_records}
 use Rattle.ct_law_generation.proofs.Events.{arrives_at, arrives_not, comes_happen}
 use Rattle.ct_law_generation.proofs.Following.{Asks, Comes_to, Goes_on, follows, finds_waiting, IsEra, asks_here}
 use Rattle.ct_law_generation.proofs.Delivering.{begun, whole_part, has_place, mail_there, longer, current_here}
@@ -59,6 +59,7 @@ delivery_comes c era rules who w k s db key small h all at r plain now kind asks
         from = sound.sender;
         whole = whole_part c n db key (λ at o. arrive at rules s.frame.sender s.frame.msg o) t spent;
         known = arrive_wish (Known who w.calls n db key) (place_of c n db key (node_at n w)) rules s.frame.sender s.frame.msg (node.view db key (node_at n w)) ((h.known.dbs db).records key);
+        waits = arrive_wish (Of_records c db key) (place_of c n db key (node_at n w)) rules s.frame.sender s.frame.msg (node.view db key (node_at n w)) (h.waits db key);
         finds = finds_waiting who w.calls n db key w all;
         lawful = subst (λ (v : World). Asks (scene c era rules db key) v) (begun era.number db key n w) asks;
         is_event = comes_happen c era rules n db mail.0 s.frame.sender key s.frame.msg t (project era.number db key w) h.knows (longer (mails era.number db key w.sent) _ mail.0 _ mail.1);
@@ -97,6 +98,7 @@ vacuum_comes c era rules who calls n db key pend w t is small h there all asks s
   from = refl;
   whole = whole_part c n db key (vacuumed n t) t spent;
   known = vacuum_wish (Known who calls n db key) (place_of c n db key t.node) (without n t.node.members) (node.view db key t.node) ((h.known.dbs db).records key);
+  waits = vacuum_wish (Of_records c db key) (place_of c n db key t.node) (without n t.node.members) (node.view db key t.node) (h.waits db key);
   finds = waited_finds db key n pend (state_at db key t.node).wish (all key);
   lawful = asks;
   is_event = vacuums_happen c era rules n db key t w h.knows;

@@ -1,10 +1,9 @@
 -- What a client's call on a record tells, where it is not refused, is of records of the line.
 use Rattle.std.proofs.Common.{◌≡◌, ℕ, ◌+◌, ◌<◌, true, false, List, [], ◌∷◌, ◌++◌, map, Option, None, refl, sym, ap, ◌∙◌, subst}
-use Rattle.std.specs.Prelude.{is_none, is_some, Ok}
+use Rattle.std.specs.Prelude.{is_some, Ok}
 use Rattle.std.specs.List.{AllByRecursion}
 use Rattle.ct_msg.specs.declared.client.ClientOp.{ClientOp}
 use Rattle.ct_msg.specs.declared.client.ClientOp.TheVariants as op
-use Rattle.ct_msg.specs.declared.client.Why.TheVariants as why
 use Rattle.ct_msg.specs.declared.config.Config.{Config}
 use Rattle.ct_frame.specs.declared.event.Out.{Out}
 use Rattle.ct_frame.specs.declared.event.Event.TheVariants as node_event
@@ -15,7 +14,7 @@ use Rattle.ct_rules.specs.Moves.{move, store, unlock}
 use Rattle.ct_rules.specs.Parts.{want}
 use Rattle.ct_rules.specs.declared.event.MoveEvent.{MoveEvent}
 use Rattle.ct_rules.specs.declared.event.MoveEvent.TheVariants as event
-use Rattle.ct_rules_node.specs.Node.{Node, state_at, has_records, is_persistent, kind_at}
+use Rattle.ct_rules_node.specs.Node.{state_at, has_records, is_persistent, kind_at}
 use Rattle.ct_rules_node.specs.Turn.{Turn, begins, makes}
 use Rattle.ct_rules_node.specs.Records as node
 use Rattle.ct_rules_node.specs.Records.{out_of, acted, at_record, place_of}
@@ -36,17 +35,17 @@ use Rattle.ct_law_generation.proofs.Wishing.{Wishful, want_wish, store_wish, unl
 use Rattle.ct_law_generation.proofs.Hearing.{labels_more}
 use Rattle.ct_law_generation.proofs.Pending.{Callers, Known}
 use Rattle.ct_law_generation.proofs.Forming.{may_want_comes}
-use Rattle.ct_law_generation.proofs.Staying.{NodeStays, phase_of}
+use Rattle.ct_law_generation.proofs.Staying.{NodeStays, Of_records, phase_of}
 use Rattle.ct_law_generation.proofs.Events.{wants_happen, stores_happen, unlocks_happen}
 use Rattle.ct_law_generation.proofs.Following.{Comes_to, fair, Asks}
 use Rattle.ct_law_generation.proofs.Delivering.{begun, whole_part, has_place}
 use Rattle.ct_law_generation.proofs.Calling.{own_pending, Calls_at, finds_own, wished_before}
 use Rattle.ct_law_generation.proofs.Called.{counted, called_by, calls_at}
-use Rattle.ct_law_generation.proofs.Admitted.{Admits, admits, may_lock, may_read, may_write, may_apply, may_store, may_unlock}
-use Rattle.ct_law_generation.proofs.Served.{client_serves, refused_not, serves_lock, serves_read, serves_write, serves_apply, serves_store, serves_unlock}
+use Rattle.ct_law_generation.proofs.Admitted.{admits, may_lock, may_read, may_write, may_apply, may_store, may_unlock}
+use Rattle.ct_law_generation.proofs.Served.{client_serves, call_kind, serves_lock, serves_read, serves_write, serves_apply, serves_store, serves_unlock}
 use Rattle.ct_law_generation.proofs.Committed.{commit_kind}
 use Rattle.ct_law_generation.proofs.Lining.{Is_fit, kept_fit, labels_kept}
-use Rattle.ct_law_generation.proofs.Configured.{of_records, has_kind}
+use Rattle.ct_law_generation.proofs.Configured.{of_records}
 use Rattle.ct_law_generation.proofs.Fed.{fed_is}
 use Rattle.ct_law_generation.proofs.Assembled.{Starts, Run_goes, Tells, client_turn, runs}
 use Rattle.ct_register.specs.Lines.{Lines}
@@ -58,7 +57,7 @@ both_kept : (P : Label → Type 0) (xs ys : List Label) → AllByRecursion P xs 
 both_kept P [] ys h k = k
 both_kept P (x ∷ xs) ys h k = (h.0, both_kept P xs ys h.1 k)
 
-tells_more : (c : Config) (era : Era) (reg : Lines) (n : ℕ) (pend : List PendingCall) (xs ys : List Out) → AllByRecursion (Is_fit c era.number reg) (labels_of n pend xs) → AllByRecursion (Is_fit c era.number reg) (labels_of n pend ys) →
+pub tells_more : (c : Config) (era : Era) (reg : Lines) (n : ℕ) (pend : List PendingCall) (xs ys : List Out) → AllByRecursion (Is_fit c era.number reg) (labels_of n pend xs) → AllByRecursion (Is_fit c era.number reg) (labels_of n pend ys) →
     AllByRecursion (Is_fit c era.number reg) (labels_of n pend (xs ++ ys))
 tells_more c era reg n pend xs ys h k = subst (λ (l : List Label). AllByRecursion (Is_fit c era.number reg) l) (sym (labels_more n pend xs ys)) (both_kept (Is_fit c era.number reg) (labels_of n pend xs) (labels_of n pend ys) h k)
 
@@ -77,18 +76,19 @@ event_kept c era rules reg who calls n db key e t pend asks w ev is inside kind 
 -- the call is an event at the record
 call_comes : (c : Config) (era : Era) (rules : Rules) (who : Callers) (calls n db call : ℕ) (key : List ℕ) (asked : ClientOp) (w : Cluster) (e : MoveEvent) (ev : Event) → Calls_at c era rules who calls n db call key asked w →
     MayCome (place (scene c era rules db key) n (view db key (node_at n w))) (state_at db key (node_at n w)) e → is_from_node e ≡ true →
-    Wishful (Known who calls n db key) (left_by c n db key (λ at o. move at rules e o) (begins (node_at n w))).state.wish →
+    Wishful (Known who calls n db key) (left_by c n db key (λ at o. move at rules e o) (begins (node_at n w))).state.wish → Wishful (Of_records c db key) (left_by c n db key (λ at o. move at rules e o) (begins (node_at n w))).state.wish →
     happens (scene c era rules db key) (amid era.number db key n (project era.number db key w) (begins (node_at n w))) ev ≡ put (scene c era rules db key) (amid era.number db key n (project era.number db key w) (begins (node_at n w))) n (own_call call asked) (left_by c n db key (λ at o. move at rules e o) (begins (node_at n w))) →
     (at_record c n db key (λ at o. move at rules e o) (makes call (begins (node_at n w)))).spent ≡ false →
     Comes_to c era rules who calls n db key e (makes call (begins (node_at n w))) (own_pending n call asked ∷ pending w) (own_call call asked) (project era.number db key w) ev
 unfolding makes
-call_comes c era rules who calls n db call key asked w e ev h may from known is spent = record {
+call_comes c era rules who calls n db call key asked w e ev h may from known waits is spent = record {
   has = h.small;
-  there = subst (λ (l : ℕ). db < l) (sym h.stays.size) h.inside;
+  there = subst (λ (l : ℕ). db < l) (sym h.stays.size) (has_place c db h.kind);
   may = may;
   from = from;
   whole = whole_part c n db key (λ at o. move at rules e o) (makes call (begins (node_at n w))) spent;
   known = known;
+  waits = waits;
   finds = finds_own n db call key asked (pending w) h.of_db h.of_key;
   lawful = subst (λ (v : World). Asks (scene c era rules db key) v) (begun era.number db key n w) h.lawful;
   is_event = is;
@@ -102,6 +102,7 @@ unfolding node.view Known
 wants_come c era rules who calls n db call key asked w h may spent =
     call_comes c era rules who calls n db call key asked w (event.Want call asked) (Wants n call asked) h (may_want_comes (scene c era rules db key) n call (view db key (node_at n w)) asked may) refl
     (want_wish (Known who calls n db key) (place_of c n db key (node_at n w)) rules call asked (node.view db key (node_at n w)) (h.own, h.counted, h.of_db, h.of_key) (wished_before c era rules who calls n db call key asked w h))
+    (want_wish (Of_records c db key) (place_of c n db key (node_at n w)) rules call asked (node.view db key (node_at n w)) h.kind (h.stays.waits db key))
     (wants_happen c era rules n db call key asked (begins (node_at n w)) (project era.number db key w) h.stays.knows may) spent
 
 -- a store
@@ -112,6 +113,7 @@ unfolding node.view
 stores_come c era rules who calls n db call key v w h locked spent =
     call_comes c era rules who calls n db call key (op.Store db key v) w (event.Store call v) (Stores n call v) h locked refl
     (store_wish (Known who calls n db key) call v (node.view db key (node_at n w)) (wished_before c era rules who calls n db call key (op.Store db key v) w h))
+    (store_wish (Of_records c db key) call v (node.view db key (node_at n w)) (h.stays.waits db key))
     (stores_happen c era rules n db call key v (begins (node_at n w)) (project era.number db key w) h.stays.knows locked) spent
 
 -- an unlock
@@ -122,6 +124,7 @@ unfolding node.view
 unlocks_come c era rules who calls n db call key w h locked spent =
     call_comes c era rules who calls n db call key (op.Unlock db key) w (event.Unlock call) (Unlocks n call) h locked refl
     (unlock_wish (Known who calls n db key) (place_of c n db key (node_at n w)) call (node.view db key (node_at n w)) (wished_before c era rules who calls n db call key (op.Unlock db key) w h))
+    (unlock_wish (Of_records c db key) (place_of c n db key (node_at n w)) call (node.view db key (node_at n w)) (h.stays.waits db key))
     (unlocks_happen c era rules n db call key (begins (node_at n w)) (project era.number db key w) h.stays.knows locked) spent
 
 -- ---- what the call tells
@@ -137,7 +140,7 @@ calls_with w n o = own_pending n (w.calls + 1) o ∷ pending (counted w)
 -- the call comes to a node that runs
 called_at : (c : Config) (era : Era) (rules : Rules) (reg : Lines) (w : Cluster) (ls : List Label) (n db : ℕ) (key : List ℕ) (asked : ClientOp) → Starts c era rules reg → has_records (kind_at c db) ≡ true → (h : Run_goes c era rules reg ls w) → is_up n w ≡ true → db_of asked ≡ db → key_of asked ≡ key →
     Calls_at c era rules (called_by n asked w h.who) (w.calls + 1) n db (w.calls + 1) key asked (counted w)
-called_at c era rules reg w ls n db key asked is kind h up of_db of_key = calls_at c era rules h.who w n db key asked ls h.goes.1 is.era_is is.small h.goes.0 h.goes.2 up (has_place c db kind) of_db of_key
+called_at c era rules reg w ls n db key asked is kind h up of_db of_key = calls_at c era rules h.who w n db key asked ls h.goes.1 is.era_is is.small h.goes.0 h.goes.2 up kind of_db of_key
 
 -- what it tells is of records of the line, where its turn is an event at the record
 turn_kept : (c : Config) (era : Era) (rules : Rules) (reg : Lines) (w : Cluster) (ls : List Label) (n db : ℕ) (key : List ℕ) (asked : ClientOp) (e : MoveEvent) (ev : Event) → Starts c era rules reg → has_records (kind_at c db) ≡ true → (h : Run_goes c era rules reg ls w) → is_up n w ≡ true →
@@ -180,11 +183,6 @@ unlock_kept c era rules reg w ls n db key is kind h up free spent =
     (unlocks_come c era rules (called_by n asked w h.who) (w.calls + 1) n db (w.calls + 1) key (counted w) at (may_unlock c (node_at n (counted w)) db key (admits c rules (node_at n (counted w)) asked free)) (sym (ap (λ (u : Turn). u.spent) turn) ∙ spent))
 
 -- ---- every call on a record
-
--- the database of a call that is not refused has records, where it is not persistent
-pub call_kind : (c : Config) (n : Node) (o : ClientOp) → Admits c n o → is_persistent (kind_at c (clients.db_of o)) ≡ false → has_records (kind_at c (clients.db_of o)) ≡ true
-unfolding no_such_db
-call_kind c n o h f = has_kind (kind_at c (clients.db_of o)) (refused_not (is_none (kind_at c (clients.db_of o))) why.NoSuchDb h.db) f
 
 -- what a call tells that is not refused, and not of a persistent database
 pub client_kept : (c : Config) (era : Era) (rules : Rules) (reg : Lines) (w : Cluster) (ls : List Label) (n : ℕ) (o : ClientOp) → Starts c era rules reg → is_persistent (kind_at c (clients.db_of o)) ≡ false → refusal c rules (node_at n (counted w)) o ≡ None →

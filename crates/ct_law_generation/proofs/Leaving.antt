@@ -1,5 +1,5 @@
 -- A turn of a node leaves entries to location masters: what looks at no record.
-use Rattle.std.proofs.Common.{◌≡◌, ◌≢◌, ℕ, zero, suc, ◌+◌, Bool, true, false, cond, List, [], ◌∷◌, map, length, set, Option, Some, None, refl, sym, ap, ◌∙◌, subst, ⊎_elim}
+use Rattle.std.proofs.Common.{◌≡◌, ◌≢◌, ℕ, zero, suc, ◌+◌, Bool, true, false, cond, List, [], ◌∷◌, length, set, Option, Some, None, refl, sym, ap, ◌∙◌, subst, ⊎_elim}
 use Rattle.std.specs.Prelude.{nat_eq, nat_lt, bytes_eq, slice_get}
 use Rattle.std.proofs.lemmas.Bool.{cond_both, cases_eq, eqb-true, ltb-true, ltb-false}
 use Rattle.std.proofs.lemmas.Slice.Eq.{bytes_eq-Decides}
@@ -31,6 +31,7 @@ use Rattle.ct_rules_node.specs.Retries.{update_again, update_in, retry_run, retr
 use Rattle.ct_rules_node.specs.Laws.{changed_at, AllAscend, NodeAscends}
 use Rattle.ct_rules_node.proofs.Keys.{changed_seen, changed_ascends, kept_seen, kept_others, kept_ascends}
 use Rattle.ct_rules_node.proofs.Installed.{install_ascends}
+use Rattle.ct_rules_node.proofs.Whole.{freezes_each}
 use Rattle.ct_rules_node.proofs.AtRecord.{at_set, at_other, set_past, all_set, at_ascends}
 use Rattle.ct_law_generation.proofs.Weave.{true_or_false}
 use Rattle.ct_law_generation.proofs.Removing.{kept_entry}
@@ -56,6 +57,11 @@ changed_none : (f : RecState → RecState) (o : Option RecState) → ((s : RecSt
 unfolding changed_at or_nothing
 changed_none f None h = refl
 changed_none f (Some s) h = kept_entry (f s) (h s)
+
+pub all_ascend : (dbs : List Database) → ((i : ℕ) → Ascends (or_untouched (slice_get dbs i)).records) → AllAscend dbs
+unfolding AllAscend or_untouched
+all_ascend [] f = tt
+all_ascend (d ∷ ds) f = (f zero, all_ascend ds (λ i. f (suc i)))
 
 -- ---- the parts of every step
 
@@ -180,20 +186,13 @@ unfolding ends_commits
 ends_commits_home c i [] u s = s
 ends_commits_home c i (d ∷ ds) u s = ends_commits_home c (i + 1) ds _ (ends_commit_home _ _ _ _ s)
 
-frozen_none : (dbs : List Database) (db : ℕ) (key : List ℕ) → AllAscend dbs → (or_nothing (look key (or_untouched (slice_get (map frozen_db dbs) db)).records)).entry ≡ None
-unfolding AllAscend frozen_db frozen_state or_untouched untouched or_nothing
-frozen_none [] db key h = refl
-frozen_none (x ∷ xs) zero key h = ap (λ (o : Option RecState). (or_nothing o).entry) (changed_seen frozen_state x.records h.0 key) ∙ changed_none frozen_state (look key x.records) (λ s. refl)
-frozen_none (x ∷ xs) (suc db) key h = frozen_none xs db key h.1
-
-frozen_order : (dbs : List Database) → AllAscend dbs → AllAscend (map frozen_db dbs)
-unfolding AllAscend frozen_db
-frozen_order [] h = tt
-frozen_order (x ∷ xs) h = (changed_ascends frozen_state x.records h.0, frozen_order xs h.1)
-
 freezes_home : {here : ℕ} {u : Turn} (g h : ℕ) → AtHome here u → AtHome here (freezes g h u)
-unfolding freezes with_node state_at db_at
-freezes_home {here} {u} _ _ s = record { order = frozen_order u.node.dbs s.order; entry = λ db key ne. frozen_none u.node.dbs db key s.order }
+unfolding state_at frozen_db frozen_state db_at
+freezes_home {here} {u} g h s = record {
+  order = all_ascend (freezes g h u).node.dbs (λ i. subst Ascends (sym (ap (λ (x : Database). x.records) (freezes_each g h i u))) (changed_ascends frozen_state (db_at i u.node).records (at_ascends u.node.dbs i s.order)));
+  entry = λ db key ne. ap (λ (x : Database). (or_nothing (look key x.records)).entry) (freezes_each g h db u)
+      ∙ ap (λ (o : Option RecState). (or_nothing o).entry) (changed_seen frozen_state (db_at db u.node).records (at_ascends u.node.dbs db s.order) key) ∙ changed_none frozen_state (look key (db_at db u.node).records) (λ x. refl);
+}
 
 pub on_freeze_home : {here : ℕ} {u : Turn} (c : Config) (me h g : ℕ) → AtHome here u → AtHome here (on_freeze c me h g u)
 unfolding on_freeze
@@ -238,7 +237,7 @@ unfolding makes_rows
 makes_rows_home me members [] u s = s
 makes_rows_home me members (row ∷ rows) u s = makes_rows_home me members rows _ (either _ (makes_home _ s) s)
 
-own_entry : (me l : ℕ) (row : TableRow) → me ≢ l → entry_from me l row ≡ None
+pub own_entry : (me l : ℕ) (row : TableRow) → me ≢ l → entry_from me l row ≡ None
 unfolding entry_from
 own_entry me l row ne = cond_both (nat_eq me l) _ None (λ (e : Option Entry). e ≡ None) (λ t. absurd (ne (eqb-true me l t))) (λ _. refl)
 

@@ -23,7 +23,6 @@ pub mod Admitted
 pub mod Served
 pub mod Clients
 pub mod Lining
-pub mod Refusing
 pub mod Refused
 pub mod Fed
 pub mod Delivered
@@ -44,7 +43,6 @@ pub mod BornNodes
 pub mod Asides
 pub mod Rounding
 pub mod Yielding
-pub mod Seeing
 pub mod Holding
 pub mod Finishing
 pub mod Removing
@@ -60,3 +58,11 @@ pub mod Kept
 pub mod Keeping
 pub mod Silent
 pub mod Passing
+pub mod Entries
+pub mod AtHome
+pub mod Running
+pub mod Lawful
+pub mod Thawed
+pub mod Thawing
+pub mod Messages
+pub mod Stepping

@@ -1,6 +1,6 @@
--- What a step at a record tells is of records of one line, and nothing of it is left out.
+-- What a step at a record tells is of records of one line.
 use Rattle.std.proofs.Common.{◌≡◌, ℕ, Bool, true, cond, not, List, [], ◌∷◌, ◌++◌, map, Option, Some, None, refl, sym, ap, ◌∙◌, subst, false, inl, ⊎_elim, inr}
-use Rattle.std.specs.List.{AllByRecursion, filter}
+use Rattle.std.specs.List.{AllByRecursion}
 use Rattle.std.specs.Prelude.{◌⊎◌}
 use Rattle.ct_msg.specs.declared.client.Answer.{Answer}
 use Rattle.ct_msg.specs.declared.client.ClientOp.{ClientOp}
@@ -79,11 +79,6 @@ labels_kept config line r at g n calls asks (act.Answer call a ∷ xs) l k t f h
     (labels_kept config line r at g n calls asks xs l k t.1 f (asked_right (answers n (asks call) (act.Answer call a)) _ h))
 labels_kept config line r at g n calls asks (act.Finished floor ∷ xs) l k t f h =
     (vacuum_kept config line r n at.db at.key l k, labels_kept config line r at g n calls asks xs l k t.1 f (asked_right (answers n (asks 0) (act.Finished floor)) _ h))
-
--- nothing is left out of such labels
-pub all_speak : (config : Config) (line : ℕ) (r : Lines) (xs : List Label) → AllByRecursion (Is_kept config line r) xs → record_labels config xs ≡ xs
-all_speak config line r [] h = refl
-all_speak config line r (x ∷ xs) h = ap (λ (b : Bool). cond b (x ∷ filter (speaks_of_records config) xs) (filter (speaks_of_records config) xs)) (h.0).speaks ∙ ap (λ (l : List Label). x ∷ l) (all_speak config line r xs h.1)
 
 -- ---- what is told beside records
 

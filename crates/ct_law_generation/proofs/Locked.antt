@@ -5,7 +5,7 @@ use Rattle.ct_msg.specs.declared.client.ClientOp.TheVariants as op
 use Rattle.ct_msg.specs.declared.config.Config.{Config}
 use Rattle.ct_frame.specs.Fields.{is_db}
 use Rattle.ct_call.specs.Rules.{Rules}
-use Rattle.ct_rules_node.specs.Node.{is_present}
+use Rattle.ct_rules_node.specs.Node.{is_present, has_records, kind_at}
 use Rattle.ct_rules_node.specs.Turn.{Turn, begins, makes}
 use Rattle.ct_rules_node.specs.Clients as clients
 use Rattle.ct_rules_node.specs.Clients.{refusal, client}
@@ -33,15 +33,15 @@ client_goes c era rules who w n asked u labels es h sched up is g =
     call_goes c era rules who w n asked (client c rules n (w.calls + 1) asked (begins (node_at n (counted w)))) labels es h sched up
     (subst (λ (u : Turn). Goes c era rules (called_by n asked w who) (w.calls + 1) n (w.calls + 1) asked (counted w) u) (sym is) g)
 
--- the database of a store that is not refused is there
-store_inside : (c : Config) (rules : Rules) (db : ℕ) (key v : List ℕ) (w : Cluster) (n : ℕ) → refusal c rules (node_at n w) (op.Store db key v) ≡ None → db < length c.dbs
-unfolding clients.db_of
-store_inside c rules db key v w n free = has_database c (node_at n w) (op.Store db key v) (admits c rules (node_at n w) (op.Store db key v) free)
+-- the database of a store that is not refused has records
+store_kind : (c : Config) (rules : Rules) (db : ℕ) (key v : List ℕ) (w : Cluster) (n : ℕ) → refusal c rules (node_at n w) (op.Store db key v) ≡ None → has_records (kind_at c db) ≡ true
+unfolding clients.db_of clients.is_commit clients.is_read
+store_kind c rules db key v w n free = has_database c (node_at n w) (op.Store db key v) (admits c rules (node_at n w) (op.Store db key v) free) refl refl
 
 -- and of an unlock
-unlock_inside : (c : Config) (rules : Rules) (db : ℕ) (key : List ℕ) (w : Cluster) (n : ℕ) → refusal c rules (node_at n w) (op.Unlock db key) ≡ None → db < length c.dbs
-unfolding clients.db_of
-unlock_inside c rules db key w n free = has_database c (node_at n w) (op.Unlock db key) (admits c rules (node_at n w) (op.Unlock db key) free)
+unlock_kind : (c : Config) (rules : Rules) (db : ℕ) (key : List ℕ) (w : Cluster) (n : ℕ) → refusal c rules (node_at n w) (op.Unlock db key) ≡ None → has_records (kind_at c db) ≡ true
+unfolding clients.db_of clients.is_commit clients.is_read
+unlock_kind c rules db key w n free = has_database c (node_at n w) (op.Unlock db key) (admits c rules (node_at n w) (op.Unlock db key) free) refl refl
 
 -- a store
 pub stores_go : (c : Config) (era : Era) (rules : Rules) (who : Callers) (w : Cluster) (n db : ℕ) (key v : List ℕ) (labels : List Label) (es : ℕ → List ℕ → List law.Event) → IsEra c era →
@@ -54,7 +54,7 @@ stores_go c era rules who w n db key v labels es real small h sched up free spen
     let is = client_serves c rules n (w.calls + 1) (op.Store db key v) (node_at n (counted w)) free ∙ serves_store c rules n (w.calls + 1) db key v (makes (w.calls + 1) (begins (node_at n (counted w)))) in
     client_goes c era rules who w n (op.Store db key v) _ labels es h sched up is
     (stores_follows c era rules (called_by n (op.Store db key v) w who) (w.calls + 1) n db (w.calls + 1) key v (counted w)
-    (calls_at c era rules who w n db key (op.Store db key v) labels es real small h sched up (store_inside c rules db key v (counted w) n free) refl refl)
+    (calls_at c era rules who w n db key (op.Store db key v) labels es real small h sched up (store_kind c rules db key v (counted w) n free) refl refl)
     (may_store c (node_at n (counted w)) db key v (admits c rules (node_at n (counted w)) (op.Store db key v) free))
     (sym (ap (λ (u : Turn). u.spent) is) ∙ spent))
 
@@ -73,6 +73,6 @@ unlocks_go c era rules who w n db key labels es real small h sched up free spent
     let is = client_serves c rules n (w.calls + 1) (op.Unlock db key) (node_at n (counted w)) free ∙ serves_unlock c rules n (w.calls + 1) db key (makes (w.calls + 1) (begins (node_at n (counted w)))) (present_counted c era rules who w n (w.calls + 1) h up) in
     client_goes c era rules who w n (op.Unlock db key) _ labels es h sched up is
     (unlocks_follows c era rules (called_by n (op.Unlock db key) w who) (w.calls + 1) n db (w.calls + 1) key (counted w)
-    (calls_at c era rules who w n db key (op.Unlock db key) labels es real small h sched up (unlock_inside c rules db key (counted w) n free) refl refl)
+    (calls_at c era rules who w n db key (op.Unlock db key) labels es real small h sched up (unlock_kind c rules db key (counted w) n free) refl refl)
     (may_unlock c (node_at n (counted w)) db key (admits c rules (node_at n (counted w)) (op.Unlock db key) free))
     (sym (ap (λ (u : Turn). u.spent) is) ∙ spent))

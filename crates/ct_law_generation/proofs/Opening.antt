@@ -1,4 +1,4 @@
--- At the opening what holds of the cluster in its first generation holds, and no schedule is needed.
+-- At the opening what holds of the cluster in its first generation holds.
 use Rattle.std.proofs.Common.{◌≡◌, ℕ, zero, suc, Bool, true, List, [], length, refl, sym, ap, arith, subst, ◌≢◌, ◌+◌, ◌<◌, ◌≤◌, ◌||◌, false, ⊎_elim}
 use Rattle.std.specs.Prelude.{nat_lt, slice_get, replicate, nat_eq}
 use Rattle.std.specs.List.{list_all}
@@ -20,14 +20,15 @@ use Rattle.ct_law_record.proofs.Law.{proved}
 use Rattle.ct_register.proofs.Opened.{untouched_one}
 use Rattle.ct_register.specs.Words.{is_in}
 use Rattle.ct_register.specs.Register.{newborn}
-use Rattle.ct_law_generation.specs.Shown.{Era, scene, view, mails, project, heard, told_by_all, Schedules}
+use Rattle.ct_law_generation.specs.Shown.{Era, scene, view, mails, project}
 use Rattle.ct_law_generation.proofs.Pending.{Callers, CommitFits, DatabaseKnown, NodeKnown, none_known}
 use Rattle.ct_law_generation.proofs.Forming.{Is_formed}
-use Rattle.ct_law_generation.proofs.Staying.{NodeStays}
+use Rattle.ct_law_generation.proofs.Staying.{NodeStays, Of_records}
 use Rattle.ct_law_generation.proofs.Clusters.{ClusterStays}
 use Rattle.ct_law_generation.proofs.Following.{asks_by_law, IsEra}
 use Rattle.ct_frame.specs.Fields.{is_node, ascends, ascends_after}
 use Rattle.ct_promise.specs.Born.{has_pushed}
+use Rattle.ct_law_generation.proofs.Wishing.{Wishful}
 
 -- ---- its members
 
@@ -72,7 +73,7 @@ numbers_ascend i (suc k) = after_numbers i (i + 1) k (omega arith)
 
 -- the first generation
 abbrev pub first_era : Config → Era
-first_era c = record { number = 1; members = everyone c; start = λ db key. law.opening }
+first_era c = record { number = 1; members = everyone c; thawed = true; start = λ db key. law.opening }
 
 pub first_is_era : (c : Config) → list_all is_node (everyone c) ≡ true → IsEra c (first_era c)
 unfolding everyone
@@ -121,10 +122,6 @@ opened_world c db key =
     = λ n. sym (one_of_all (λ (x : Node). view db key x ≡ nothing) (node.opening c (everyone c)) (absent_view db key) (opened_view c db key) c.nodes n) in
     λ i. record { nodes = λ n. each n i; joined = λ _. true; mail = [] }
 
-pub opened_schedules : (c : Config) (rules : Rules) → Schedules c (first_era c) rules (cluster.opening c) [] (λ db key. [])
-unfolding heard told_by_all
-opened_schedules c rules db key = (opened_world c db key, refl)
-
 opened_form : (c : Config) (rules : Rules) (n db : ℕ) (key : List ℕ) → Is_formed (scene c (first_era c) rules db key) n nothing
 opened_form c rules n db key = record {
   form = in_form_at_start (law.place (scene c (first_era c) rules db key) n nothing);
@@ -144,7 +141,7 @@ unfolding node.opening node.db_at node.untouched CommitFits
 opened_known c who calls n db = subst (λ (d : Database). DatabaseKnown who calls n db d) (sym (untouched_one c.dbs db)) (record { records = λ key. none_known who calls n db key; commit = tt })
 
 opened_node : (c : Config) (rules : Rules) (who : Callers) (calls n : ℕ) → NodeStays c (first_era c) rules who calls n (node.opening c (everyone c))
-unfolding node.opening node.is_present_in node.is_present has_pushed
+unfolding node.opening node.is_present_in node.is_present has_pushed Wishful
 opened_node c rules who calls n = record {
   present = refl;
   knows = refl;
@@ -152,6 +149,8 @@ opened_node c rules who calls n = record {
   lead = refl;
   size = (starts_in_order c (everyone c)).0;
   known = record { order = (starts_in_order c (everyone c)).1; dbs = λ db. opened_known c who calls n db };
+  waits = λ db key. subst (λ (v : View). Wishful (Of_records c db key) v.state.wish) (sym (opened_view c db key)) tt;
+  serves = λ _. refl;
   formed = λ db key. subst (λ (v : View). Is_formed (scene c (first_era c) rules db key) n v) (sym (opened_view c db key)) (opened_form c rules n db key);
 }
 

@@ -7,7 +7,7 @@ use Rattle.ct_call.specs.Rules.{Rules}
 use Rattle.ct_rules_node.specs.Node.{Node}
 use Rattle.ct_rules_node.specs.Turn.{Turn}
 use Rattle.ct_rules_node.specs.Admission.{record_in}
-use Rattle.ct_cluster.specs.Cluster.{Cluster, Sent, Fate, absent, or_absent, node_at, pending}
+use Rattle.ct_cluster.specs.Cluster.{Cluster, Sent, Fate, absent, or_absent, node_at}
 use Rattle.ct_cluster.specs.Labels.{Label}
 use Rattle.ct_cluster.specs.Steps.{frames_of, with_node, put, with_fate}
 use Rattle.ct_cluster.specs.declared.step.Line.{Line}
@@ -56,11 +56,6 @@ fates g db key (x ∷ xs) (suc k) s f e = ap (λ (l : List Mail). mail_of g db k
 pub fate_hidden : (g : ℕ) (db : ℕ) (key : List ℕ) (k : ℕ) (s : Sent) (f : Fate) (w : Cluster) → slice_get w.sent k ≡ Some s → project g db key (with_fate (suc k) s f w) ≡ project g db key w
 unfolding with_fate node_at
 fate_hidden g db key k s f w e = ap (λ (l : List Mail). record { nodes = λ n. view db key (node_at n w); joined = λ _. true; mail = l }) (fates g db key w.sent k s f e)
-
--- nor does it change which calls wait
-pub fate_waits : (k : ℕ) (s : Sent) (f : Fate) (w : Cluster) → pending (with_fate (suc k) s f w) ≡ pending w
-unfolding with_fate pending
-fate_waits k s f w = refl
 
 -- ---- the schedules go on
 

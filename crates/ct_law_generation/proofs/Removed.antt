@@ -39,7 +39,7 @@ use Rattle.ct_promise.specs.Marked.{removes, is_removed}
 use Rattle.ct_law_generation.specs.Shown.{labels_of}
 use Rattle.ct_law_generation.proofs.Weave.{true_or_false}
 use Rattle.ct_law_generation.proofs.Finishing.{Unfinished, Finishes, want_unfinished, store_unfinished, release_unfinished, unlock_unfinished, call_again_unfinished, revoke_again_unfinished, want_again_unfinished, vacuum_finishes, arrive_finishes}
-use Rattle.ct_law_generation.proofs.Removing.{removed_by, done_where_told, not_told, unfinished_at, finished_at, IsGone}
+use Rattle.ct_law_generation.proofs.Removing.{removed_by, done_where_told, unfinished_at, finished_at, IsGone}
 use Rattle.ct_law_generation.proofs.Unremoved.{Silent, either, with_phase_silent, makes_silent, answers_silent, notes_silent, commit_silent, on_pupdate_silent, on_pack_silent, read_pair_silent, begin_round_silent, frozen_silent, on_freeze_silent, on_freezeack_silent, on_pull_silent, on_pullreply_silent, on_push_silent, on_pushack_silent, begin_takeover_silent, on_release_silent, on_releaseack_silent, on_take_silent, update_in_silent, retry_lead_silent}
 
 -- ---- a step at one record that removes nothing
@@ -233,10 +233,6 @@ happens_remove c rules n t (event.BeginTakeover able) d k h s = silent_removes n
 -- a turn that begins has removed nothing
 pub starts_silent : (d : ℕ) (k : List ℕ) (t : Turn) → t.outs ≡ [] → Silent d k t
 starts_silent d k t e = record { none = ap (removed_by d k) e }
-
--- the labels of a turn that removed nothing tell no removal
-pub no_removal : (r : Lines) (g d : ℕ) (k : List ℕ) (n : ℕ) (calls : List PendingCall) (u : Turn) → Silent d k u → is_removed r g d k (labels_of n calls u.outs) ≡ false
-no_removal r g d k n calls u s = not_told r g d k n calls u.outs s.none
 
 -- and where those of a turn tell one, its node is the location master and has no entry
 pub told_removal : (r : Lines) (g d : ℕ) (k : List ℕ) (n : ℕ) (calls : List PendingCall) (t u : Turn) → MayRemove n d k t u → is_removed r g d k (labels_of n calls u.outs) ≡ true → (n ≡ master_of t.node.members k) × ((state_at d k u.node).entry ≡ None)

@@ -49,10 +49,6 @@ no_parts : (a b : Bool) → (a || b) ≡ false → (a ≡ false) × (b ≡ false
 no_parts true b e = absurd (cc)
 no_parts false b e = (refl, e)
 
-some_part : (a b : Bool) → (a || b) ≡ true → (a ≡ true) ⊎ (b ≡ true)
-some_part true b e = inl refl
-some_part false b e = inr e
-
 -- ---- what labels tell of it
 
 told_removal : (b : Bool) (n : ℕ) (rest : List law.Label) → law_marked.is_removed (told_of b (law.Vacuumed n) ++ rest) ≡ (b || law_marked.is_removed rest)

@@ -38,7 +38,7 @@ use Rattle.ct_law_generation.proofs.Forming.{Is_formed, Is_sound_mail, formed_bl
 use Rattle.ct_law_generation.proofs.Plain.{AllPlain, plain_more, plain_sends}
 use Rattle.ct_law_generation.proofs.Hearing.{frames_more, mails_more, mails_same, mails_other, labels_more, told_by_more}
 use Rattle.ct_law_generation.proofs.Telling.{hear_same, hear_other}
-use Rattle.ct_law_generation.proofs.Staying.{NodeStays, of_era, Sure, stays_at}
+use Rattle.ct_law_generation.proofs.Staying.{NodeStays, of_era, Sure, stays_at, Of_records}
 use Rattle.ct_law_generation.proofs.Amid.{seen_same, other_state, floor_own}
 use Rattle.std.specs.List.{filter}
 use Rattle.std.specs.Ordering.{is_eq, nat_cmp}
@@ -179,6 +179,7 @@ just_sure c era rules who calls n db key part t xs h k = record {
   grows = subst (λ (o : Moving). Grows (node.view db key t.node) o) (sym k.is) (grows_more xs (node.view db key t.node));
   formed = subst (λ (o : Moving). Is_formed (scene c era rules db key) n (view_of o)) (sym k.is) (h.formed db key);
   known = subst (λ (o : Moving). Wishful (Known who calls n db key) o.state.wish) (sym k.is) ((h.known.dbs db).records key);
+  waits = subst (λ (o : Moving). Wishful (Of_records c db key) o.state.wish) (sym k.is) (h.waits db key);
 }
 
 just_next : (c : Config) (n db : ℕ) (key : List ℕ) (part : Place → Moving → Moving) (t : Turn) (xs : List Act) → Just_sends c n db key part t xs → (at_record c n db key part t).node.next ≡ t.node.next

@@ -1,8 +1,8 @@
 -- Rounds and takeover runs at a node that has installed a generation: no message of one, but for a Thaw, touches a record.
-use Rattle.std.proofs.Common.{◌≡◌, ◌≢◌, ℕ, ◌+◌, ◌≤◌, Bool, true, false, cond, not, List, [], ◌∷◌, Option, None, Some, refl, sym, ap, ◌∙◌, subst, arith, ⊎_elim, inl, inr}
+use Rattle.std.proofs.Common.{◌≡◌, ◌≢◌, ℕ, ◌+◌, ◌≤◌, Bool, true, false, cond, not, List, [], ◌∷◌, refl, sym, ap, ◌∙◌, subst, arith, ⊎_elim, inl, inr}
 use Rattle.std.specs.Prelude.{nat_eq, nat_lt, ◌&&◌, ◌⊎◌}
-use Rattle.std.specs.List.{filter, list_all}
-use Rattle.std.proofs.lemmas.Bool.{cond_both, and_parts, and_right, cases_eq, eqb-true, ne_eqb, eq-eqb, le-ltb}
+use Rattle.std.specs.List.{filter}
+use Rattle.std.proofs.lemmas.Bool.{cond_both, and_parts, cases_eq, eqb-true, ne_eqb, eq-eqb, le-ltb}
 use Rattle.ct_bytes.specs.declared.address.Address.{Address}
 use Rattle.ct_msg.specs.declared.config.Config.{Config}
 use Rattle.ct_frame.specs.declared.frame.Assigned.{Assigned}
@@ -17,12 +17,10 @@ use Rattle.ct_call.specs.Rules.{Rules}
 use Rattle.ct_lcp2.specs.Placing.{placed}
 use Rattle.ct_rules_node.specs.Node.{Node, Phase, Idle, Serving, Installed, Freezing, Frozen, Lead, Nothing, Freezes, Pulls, Installs, Completed, Takeover, Run, NoRun, Releasing, Taking, is_present, is_present_in, is_frozen_in, is_among, is_serving, without, assigned_all}
 use Rattle.ct_rules_node.specs.Turn.{Turn, with_node, with_lead, makes, posts, posts_all}
-use Rattle.ct_rules_node.specs.Admission.{record_in, named_in, is_current, is_sound}
-use Rattle.ct_rules_node.specs.Steps.{arrives, on_record_of, if_persistent, if_sound, if_taken_over}
-use Rattle.ct_rules_node.specs.Databases.{on_pupdate, on_pack}
-use Rattle.ct_rules_node.specs.Rounds.{on_freeze, on_freezeack, on_pull, on_pullreply, on_push, on_pushack, all_installed, completed, on_thaw, thaws, push_of, releases}
+use Rattle.ct_rules_node.specs.Admission.{record_in, is_current, is_sound}
+use Rattle.ct_rules_node.specs.Steps.{arrives, if_sound, if_taken_over}
+use Rattle.ct_rules_node.specs.Rounds.{on_freeze, on_freezeack, on_pull, on_pullreply, on_push, on_pushack, all_installed, completed, on_thaw, thaws, releases}
 use Rattle.ct_rules_node.specs.Takeovers.{begin_takeover, runs, send_releases, on_release, on_releaseack, released_by, all_released, on_take, takes, has_address, share, assigned_in}
-use Rattle.ct_rules_node.specs.Retries.{retry_lead, retry_run}
 use Rattle.ct_promise.specs.Born.{has_pushed}
 use Rattle.ct_law_generation.proofs.Asides.{Beside, Settled, beside_none, beside_then, beside_makes, beside_leads, beside_places, beside_posts, beside_posts_all, beside_releases, beside_takes, beside_send_releases}
 
@@ -45,10 +43,6 @@ settled_thawed g k n s = present_thawed k n.phase (and_parts (is_present n.phase
 pub settled_in : (g : ℕ) (n : Node) → is_present_in g n ≡ true → n.generation ≡ g
 unfolding is_present_in
 settled_in g n e = eqb-true n.generation g (and_parts (is_present n.phase) (nat_eq n.generation g) e).1
-
--- and in no other
-pub settled_only : (g k : ℕ) (n : Node) → is_present_in g n ≡ true → is_present_in k n ≡ true → k ≡ g
-settled_only g k n e i = sym (settled_in k n i) ∙ settled_in g n e
 
 -- Freeze: it is not followed
 freeze_nothing : (c : Config) (me h k g : ℕ) (t : Turn) → Settled g t.node → k ≤ g → on_freeze c me h k t ≡ t
@@ -207,65 +201,6 @@ arrives_beside c rules me g f t (msg.ReleaseAck number) s l e = run_beside c f g
 arrives_beside c rules me g f t (msg.Take number assigned) s l e = run_beside c f g me t (on_take c me number assigned t) (take_beside c me number assigned g t)
 arrives_beside c rules me g f t _ s l e = absurd (cc)
 
--- ---- messages of another generation
-
--- a message of another generation than the node's is not current
-pub stale : (g : ℕ) (f : Frame) (n : Node) → is_present_in g n ≡ true → f.generation ≢ g → is_current f n ≡ false
-unfolding is_current
-stale g f n e ne = cond_both (is_present_in f.generation n) true false (λ (_ : Bool). (is_present_in f.generation n && is_among f.sender n.members && list_all (λ m. is_among m n.members) (named_in f.msg)) ≡ false)
-    (λ (i : is_present_in f.generation n ≡ true). absurd (ne (settled_only g f.generation n e i)))
-    (λ (i : is_present_in f.generation n ≡ false). ap (λ (b : Bool). b && is_among f.sender n.members && list_all (λ m. is_among m n.members) (named_in f.msg)) i)
-
--- so one that is current is of the node's generation
-pub current_is_of : (g : ℕ) (f : Frame) (n : Node) → is_present_in g n ≡ true → is_current f n ≡ true → f.generation ≡ g
-unfolding is_current
-current_is_of g f n e i = settled_only g f.generation n e (and_parts (is_present_in f.generation n) (is_among f.sender n.members) (and_parts (is_present_in f.generation n && is_among f.sender n.members) _ i).0).0
-
--- is it a message of a record, of a commit or of a run? Each must be current.
-unfoldable pub must_be_current : Msg → Bool
-must_be_current (msg.Freeze members) = false
-must_be_current msg.FreezeAck = false
-must_be_current msg.Pull = false
-must_be_current (msg.PullReply vbase pbase table ptables addresses) = false
-must_be_current (msg.Push members table ptables assigned) = false
-must_be_current msg.PushAck = false
-must_be_current msg.Thaw = false
-must_be_current _ = true
-
-persistent_stale : (c : Config) (f : Frame) (db : ℕ) (t done : Turn) → is_current f t.node ≡ false → if_persistent c f db done t ≡ t
-unfolding if_persistent
-persistent_stale c f db t done e = rw e refl
-
-record_stale : (c : Config) (rules : Rules) (me : ℕ) (f : Frame) (t : Turn) (r : Option (ℕ × List ℕ)) → is_current f t.node ≡ false → on_record_of c rules me f t r ≡ t
-unfolding on_record_of
-record_stale c rules me f t None e = refl
-record_stale c rules me f t (Some r) e = rw e refl
-
-run_stale : (c : Config) (f : Frame) (t done : Turn) → is_current f t.node ≡ false → if_taken_over c f done t ≡ t
-unfolding if_taken_over
-run_stale c f t done e = ap (λ (b : Bool). cond (is_sound c f && b) done t) e ∙ ap (λ (b : Bool). cond b done t) (and_right (is_sound c f) false refl)
-
--- one of them that is not current is dropped
-pub arrives_stale : (c : Config) (rules : Rules) (me : ℕ) (f : Frame) (t : Turn) (m : Msg) → is_current f t.node ≡ false → must_be_current m ≡ true → arrives c rules me f t m ≡ t
-unfolding arrives must_be_current
-arrives_stale c rules me f t (msg.PUpdate db seq writes) e k = persistent_stale c f db t (on_pupdate me f.sender db seq writes t) e
-arrives_stale c rules me f t (msg.PAck db seq) e k = persistent_stale c f db t (on_pack f.sender db seq t) e
-arrives_stale c rules me f t (msg.Freeze members) e k = absurd (cc)
-arrives_stale c rules me f t msg.FreezeAck e k = absurd (cc)
-arrives_stale c rules me f t msg.Pull e k = absurd (cc)
-arrives_stale c rules me f t (msg.PullReply vbase pbase table ptables addresses) e k = absurd (cc)
-arrives_stale c rules me f t (msg.Push members table ptables assigned) e k = absurd (cc)
-arrives_stale c rules me f t msg.PushAck e k = absurd (cc)
-arrives_stale c rules me f t msg.Thaw e k = absurd (cc)
-arrives_stale c rules me f t (msg.Release number keep) e k = run_stale c f t (on_release me f.sender number keep t) e
-arrives_stale c rules me f t (msg.ReleaseAck number) e k = run_stale c f t (on_releaseack me f.sender f.generation number t t.node.lead) e
-arrives_stale c rules me f t (msg.Take number assigned) e k = run_stale c f t (on_take c me number assigned t) e
-arrives_stale c rules me f t m e k = record_stale c rules me f t (record_in m) e
-
--- so is one of another generation
-pub arrives_other : (c : Config) (rules : Rules) (me g : ℕ) (f : Frame) (t : Turn) → is_present_in g t.node ≡ true → f.generation ≢ g → must_be_current f.msg ≡ true → arrives c rules me f t f.msg ≡ t
-arrives_other c rules me g f t e ne k = arrives_stale c rules me f t f.msg (stale g f t.node e ne) k
-
 -- ---- Thaw
 
 -- what comes of a Thaw at a node that is present: nothing, or it has installed the generation and is thawed
@@ -295,40 +230,7 @@ arrives_thaw c rules me g f t e =
       | false ↦ inl refl
     ]
 
--- at a node that serves nothing comes of it
-pub thaw_serving : (c : Config) (rules : Rules) (me : ℕ) (f : Frame) (t : Turn) → t.node.phase ≡ Serving → arrives c rules me f t msg.Thaw ≡ t
-unfolding arrives if_sound on_thaw
-thaw_serving c rules me f t e = ap (λ (p : Phase). cond (is_sound c f) (on_thaw c rules me f.generation t p) t) e ∙ same (is_sound c f)
-  where
-    same : (b : Bool) → cond b t t ≡ t
-    same true = refl
-    same false = refl
-
--- ---- Retry of what the node leads, and the begin of a run
-
-retry_run_beside : (me g : ℕ) (members : List ℕ) (x : Takeover) (t : Turn) (r : Run) → Beside g me t (retry_run me g members x t r)
-unfolding retry_run record_in
-retry_run_beside me g members x t NoRun = beside_none g me t
-retry_run_beside me g members x t (Releasing placement missing) = beside_send_releases g me x.number placement missing t
-retry_run_beside me g members x t (Taking placement) = beside_posts_all g me g members (msg.Take x.number (assigned_in placement)) t (omega arith) refl
-
-completed_beside : (me g : ℕ) (members : List ℕ) (x : Takeover) (t : Turn) → Beside g me t (retry_lead me t (Completed g members x))
-unfolding retry_lead record_in
-completed_beside me g members x t =
-    let u = posts_all g me members msg.Thaw t in
-    let thawed : Beside g me t u = beside_posts_all g me g members msg.Thaw t (omega arith) refl in
-    cond_both (is_present_in g t.node) (retry_run me g members x u x.run) u (λ (v : Turn). Beside g me t v)
-    (λ _. beside_then g me t u (retry_run me g members x u x.run) thawed (retry_run_beside me g members x u x.run))
-    (λ _. thawed)
-
--- Retry: the pushes to those that are missing; then the Thaws and the run
-pub retry_lead_beside : (me g : ℕ) (t : Turn) (l : Lead) → has_pushed g l ≡ true → Beside g me t (retry_lead me t l)
-unfolding retry_lead has_pushed record_in push_of
-retry_lead_beside me g t Nothing e = beside_none g me t
-retry_lead_beside me g t (Freezes h members missing) e = absurd (cc)
-retry_lead_beside me g t (Pulls h members missing x) e = absurd (cc)
-retry_lead_beside me g t (Installs h members missing b) e = (let same = eqb-true h g e in beside_posts_all g me h missing (push_of b) t (omega arith) refl)
-retry_lead_beside me g t (Completed h members x) e = subst (λ (k : ℕ). Beside g me t (retry_lead me t (Completed k members x))) (sym (eqb-true h g e)) (completed_beside me g members x t)
+-- ---- the begin of a run
 
 runs_beside : (me g : ℕ) (members : List ℕ) (x : Takeover) (number : ℕ) (placement : List Assigned) (t : Turn) → Beside g me t (runs me g members x number placement t)
 unfolding runs has_pushed

@@ -1,21 +1,21 @@
 -- A call on a record that is not refused is a step at that record.
-use Rattle.std.proofs.Common.{◌≡◌, ℕ, zero, suc, ◌<◌, Bool, true, false, cond, List, [], ◌∷◌, length, None, refl, ap, arith}
-use Rattle.std.specs.Prelude.{slice_get, is_none}
+use Rattle.std.proofs.Common.{◌≡◌, ℕ, Bool, true, false, cond, List, None, refl, ap, arith}
+use Rattle.std.specs.Prelude.{is_none}
 use Rattle.ct_msg.specs.declared.client.ClientOp.{ClientOp}
 use Rattle.ct_msg.specs.declared.client.ClientOp.TheVariants as op
 use Rattle.ct_msg.specs.declared.client.Why.{Why}
 use Rattle.ct_msg.specs.declared.client.Why.TheVariants as why
 use Rattle.ct_msg.specs.declared.config.Config.{Config}
-use Rattle.ct_msg.specs.declared.config.DbDecl.{DbDecl}
 use Rattle.ct_call.specs.Rules.{Rules}
 use Rattle.ct_rules.specs.Moves.{store, unlock}
 use Rattle.ct_rules.specs.Parts.{want}
-use Rattle.ct_rules_node.specs.Node.{Node, Phase, Freezing, is_present, is_persistent, kind_at, kind_in}
+use Rattle.ct_rules_node.specs.Node.{Node, Phase, Freezing, is_present, is_persistent, kind_at, has_records}
 use Rattle.ct_rules_node.specs.Turn.{Turn, begins, makes}
 use Rattle.ct_rules_node.specs.Databases.{read_pair}
 use Rattle.ct_rules_node.specs.Records.{at_record}
-use Rattle.ct_rules_node.specs.Clients.{refusal, client, serves_or, serves, reads, unlocks, no_such_db, refused_if, db_of}
+use Rattle.ct_rules_node.specs.Clients.{refusal, client, serves_or, serves, reads, unlocks, no_such_db, refused_if, db_of, is_commit, wrong_kind, is_read}
 use Rattle.ct_law_generation.proofs.Admitted.{Admits}
+use Rattle.ct_law_generation.proofs.Configured.{has_kind}
 
 pub client_serves : (c : Config) (rules : Rules) (n call : ℕ) (o : ClientOp) (x : Node) → refusal c rules x o ≡ None → client c rules n call o (begins x) ≡ serves c rules n call (makes call (begins x)) o
 unfolding client serves_or
@@ -50,18 +50,23 @@ pub serves_unlock : (c : Config) (rules : Rules) (n call db : ℕ) (key : List �
 unfolding serves
 serves_unlock c rules n call db key t e = unlocks_present c n call db key t t.node.phase e
 
-decl_there : (dbs : List DbDecl) (db : ℕ) → is_none (kind_in (slice_get dbs db)) ≡ false → db < length dbs
-unfolding kind_in
-decl_there [] db e = absurd (cc)
-decl_there (d ∷ ds) zero e = omega arith
-decl_there (d ∷ ds) (suc k) e = (let l = decl_there ds k e in omega arith)
-
-pub refused_not : (b : Bool) (w : Why) → refused_if b w ≡ None → b ≡ false
+refused_not : (b : Bool) (w : Why) → refused_if b w ≡ None → b ≡ false
 unfolding refused_if
 refused_not true w e = absurd (cc)
 refused_not false w e = refl
 
--- the database of a call that is not refused is there
-pub has_database : (c : Config) (n : Node) (o : ClientOp) → Admits c n o → db_of o < length c.dbs
-unfolding no_such_db kind_at
-has_database c n o h = decl_there c.dbs (db_of o) (refused_not (is_none (kind_in (slice_get c.dbs (db_of o)))) why.NoSuchDb h.db)
+-- ---- the kind of its database
+
+-- the database of a call that is not refused has records, where it is not persistent
+pub call_kind : (c : Config) (n : Node) (o : ClientOp) → Admits c n o → is_persistent (kind_at c (db_of o)) ≡ false → has_records (kind_at c (db_of o)) ≡ true
+unfolding no_such_db
+call_kind c n o h f = has_kind (kind_at c (db_of o)) (refused_not (is_none (kind_at c (db_of o))) why.NoSuchDb h.db) f
+
+-- only a commit or a read that is not refused is of a persistent database
+pub record_kind : (c : Config) (n : Node) (o : ClientOp) → Admits c n o → is_commit o ≡ false → is_read o ≡ false → is_persistent (kind_at c (db_of o)) ≡ false
+unfolding wrong_kind refused_if
+record_kind c n o h e f = (let a = h.kind in grind arith)
+
+-- so the database of a call that is neither has records
+pub has_database : (c : Config) (n : Node) (o : ClientOp) → Admits c n o → is_commit o ≡ false → is_read o ≡ false → has_records (kind_at c (db_of o)) ≡ true
+has_database c n o h e f = call_kind c n o h (record_kind c n o h e f)

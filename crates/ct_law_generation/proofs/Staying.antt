@@ -4,6 +4,7 @@ use Rattle.std.specs.Prelude.{bytes_eq}
 use Rattle.std.proofs.lemmas.Bool.{cases_eq, and_parts, eqb-true}
 use Rattle.std.proofs.lemmas.List.{length-set}
 use Rattle.std.proofs.lemmas.Slice.Eq.{bytes_eq-Decides}
+use Rattle.ct_msg.specs.declared.client.ClientOp.{ClientOp}
 use Rattle.ct_msg.specs.declared.config.Config.{Config}
 use Rattle.ct_call.specs.Rules.{Rules}
 use Rattle.ct_store.specs.Map.{Ascends, look}
@@ -11,11 +12,11 @@ use Rattle.ct_rules.specs.Laws.{Grows}
 use Rattle.ct_rules.specs.Parts.{Moving}
 use Rattle.ct_rules.specs.declared.event.Place.{Place}
 use Rattle.ct_rules.specs.declared.state.RecState.{RecState}
-use Rattle.ct_rules_node.specs.Node.{Node, Database, is_present, is_present_in, db_at, with_db, or_nothing}
+use Rattle.ct_rules_node.specs.Node.{Node, Database, Serving, is_present, is_present_in, db_at, state_at, with_db, or_nothing, has_records, kind_at}
 use Rattle.ct_rules_node.specs.Turn.{Turn}
 use Rattle.ct_rules_node.specs.Records as node
 use Rattle.ct_rules_node.specs.Records.{kept, put_back, acted, at_record}
-use Rattle.ct_rules_node.specs.Laws.{unless_blank, left_by}
+use Rattle.ct_rules_node.specs.Laws.{NodeAscends, unless_blank, left_by}
 use Rattle.ct_rules_node.proofs.AtRecord.{moves_at, at_set, at_ascends}
 use Rattle.ct_rules_node.proofs.Keys.{kept_seen, kept_others}
 use Rattle.ct_promise.specs.Born.{has_pushed}
@@ -27,6 +28,14 @@ use Rattle.ct_law_generation.proofs.Pending.{Callers, Known, KnownAt, DatabaseKn
 use Rattle.ct_law_generation.proofs.Forming.{Is_formed, formed_rises, formed_blank}
 use Rattle.ct_law_generation.proofs.Amid.{seen_same, other_state, floor_own, next_grows}
 
+-- every call that waits at the node has this property, which may speak of its record
+abbrev pub AllWishes : (ℕ → List ℕ → ℕ → ClientOp → Type 0) → Node → Type 0
+AllWishes P x = (db : ℕ) (key : List ℕ) → Wishful (P db key) (state_at db key x).wish
+
+-- the database of the call's record has records
+abbrev pub Of_records : Config → ℕ → List ℕ → ℕ → ClientOp → Type 0
+Of_records c db key call asked = has_records (kind_at c db) ≡ true
+
 -- what holds of a member while no generation follows
 pub record NodeStays (c : Config) (era : Era) (rules : Rules) (who : Callers) (calls n : ℕ) (x : Node) : Type 0 where
   pub present : is_present_in era.number x ≡ true
@@ -35,6 +44,10 @@ pub record NodeStays (c : Config) (era : Era) (rules : Rules) (who : Callers) (c
   pub lead : has_pushed era.number x.lead ≡ true
   pub size : length x.dbs ≡ length c.dbs
   pub known : NodeKnown who calls n x
+  -- calls wait only for records of databases that have records
+  pub waits : AllWishes (Of_records c) x
+  -- where the generation is thawed, it serves
+  pub serves : era.thawed ≡ true → x.phase ≡ Serving
   pub formed : (db : ℕ) (key : List ℕ) → Is_formed (scene c era rules db key) n (view db key x)
 
 -- who is present in a generation is in it
@@ -55,6 +68,7 @@ pub record Sure (c : Config) (era : Era) (rules : Rules) (who : Callers) (calls 
   pub grows : Grows (node.view db key t.node) (left_by c n db key part t)
   pub formed : Is_formed (scene c era rules db key) n (view_of (left_by c n db key part t))
   pub known : Wishful (Known who calls n db key) (left_by c n db key part t).state.wish
+  pub waits : Wishful (Of_records c db key) (left_by c n db key part t).state.wish
 
 -- ---- the calls that wait
 
@@ -82,6 +96,22 @@ database_known c era rules who calls n db0 key0 part t h s db = ⊎_elim
     })))
     (λ (ne : db ≢ db0). subst (λ (d : Database). DatabaseKnown who calls n db d) (sym ((moves_at c n db0 key0 part t h.order).other_dbs db ne)) (h.dbs db))
     (cases_eq db db0)
+
+-- what is put is what the part left, or nothing
+pub kept_wish : (P : ℕ → ClientOp → Type 0) (s : RecState) → Wishful P s.wish → Wishful P (or_nothing (unless_blank s)).wish
+unfolding unless_blank or_nothing Wishful
+kept_wish P s h = grind (arith, h)
+
+-- where all calls that wait have a property, they have it after a step at a record, where the call that waits there then has it
+pub wishes_at : (P : ℕ → List ℕ → ℕ → ClientOp → Type 0) (c : Config) (n db0 : ℕ) (key0 : List ℕ) (part : Place → Moving → Moving) (t : Turn) → NodeAscends t.node → db0 < length t.node.dbs → AllWishes P t.node →
+    Wishful (P db0 key0) (left_by c n db0 key0 part t).state.wish → AllWishes P (at_record c n db0 key0 part t).node
+wishes_at P c n db0 key0 part t order there all own db key = ⊎_elim
+    (λ (is : is_it db key db0 key0 ≡ true). (let p = it_is db db0 key key0 is in
+    subst (λ (k : List ℕ). Wishful (P db k) (state_at db k (at_record c n db0 key0 part t).node).wish) p.1
+    (subst (λ (d : ℕ). Wishful (P d key0) (state_at d key0 (at_record c n db0 key0 part t).node).wish) p.0
+    (subst (λ (s : RecState). Wishful (P db0 key0) s.wish) (sym ((moves_at c n db0 key0 part t order).seen there)) (kept_wish (P db0 key0) (left_by c n db0 key0 part t).state own)))))
+    (λ (unlike : is_it db key db0 key0 ≡ false). subst (λ (s : RecState). Wishful (P db key) s.wish) (sym (other_state c n db0 db key0 key part t order unlike)) (all db key))
+    (true_or_false (is_it db key db0 key0))
 
 -- ---- the states
 
@@ -114,6 +144,8 @@ pub stays_at : (c : Config) (era : Era) (rules : Rules) (who : Callers) (calls n
     NodeStays c era rules who calls n (at_record c n db0 key0 part t).node
 unfolding at_record acted put_back with_db is_present_in
 stays_at c era rules who calls n db0 key0 part t h s = record {
+  serves = h.serves;
+  waits = wishes_at (Of_records c) c n db0 key0 part t h.known.order s.has h.waits s.waits;
   present = h.present;
   knows = h.knows;
   promise = h.promise;

@@ -18,11 +18,11 @@ use Rattle.ct_rules.specs.declared.event.MoveEvent.TheVariants as event
 use Rattle.ct_rules.specs.declared.event.Place.{Place}
 use Rattle.ct_rules.specs.declared.state.RecState.{RecState}
 use Rattle.ct_rules.specs.declared.state.Wish.{Wish}
-use Rattle.ct_rules_node.specs.Node.{Node, Database, db_at, state_at, or_nothing, or_untouched, untouched, without, is_serving}
+use Rattle.ct_rules_node.specs.Node.{Node, Database, db_at, state_at, or_untouched, untouched, without, is_serving}
 use Rattle.ct_rules_node.specs.Turn.{Turn, begins}
 use Rattle.ct_rules_node.specs.Records as node
 use Rattle.ct_rules_node.specs.Records.{acted, at_record, place_of}
-use Rattle.ct_rules_node.specs.Laws.{unless_blank, left_by}
+use Rattle.ct_rules_node.specs.Laws.{left_by}
 use Rattle.ct_rules_node.specs.Steps as node_steps
 use Rattle.ct_rules_node.specs.Steps.{vacuum_all, vacuums}
 use Rattle.ct_rules_node.proofs.AtRecord.{moves_at}
@@ -40,7 +40,7 @@ use Rattle.ct_law_generation.proofs.Weave.{it_is, true_or_false}
 use Rattle.ct_law_generation.proofs.Wishing.{Wishful, vacuum_wish}
 use Rattle.ct_law_generation.proofs.Hearing.{heard_more}
 use Rattle.ct_law_generation.proofs.Pending.{Callers, Known, KnownAt}
-use Rattle.ct_law_generation.proofs.Staying.{NodeStays}
+use Rattle.ct_law_generation.proofs.Staying.{NodeStays, Of_records, kept_wish}
 use Rattle.ct_law_generation.proofs.Amid.{self, place_is, other_state}
 use Rattle.ct_law_generation.proofs.Delivering.{begun, whole_part}
 use Rattle.ct_law_generation.proofs.Following.{last_more, trace_more, Asks, asks_on, asks_here, Goes_on, follows, finds_waiting, IsEra}
@@ -135,10 +135,6 @@ finds_waited db key n calls (Some x) h = (let p = h.about x.call x.op (waiting_s
 abbrev pub AllWaited : ℕ → ℕ → List PendingCall → Node → Type 0
 AllWaited db n calls x = (key : List ℕ) → Wishful (Waited db key n calls) (state_at db key x).wish
 
-kept_wish : (P : ℕ → ClientOp → Type 0) (s : RecState) → Wishful P s.wish → Wishful P (or_nothing (unless_blank s)).wish
-unfolding unless_blank or_nothing Wishful
-kept_wish P s h = grind (arith, h)
-
 -- ---- the step at one of the records
 
 -- vacuum of a record
@@ -177,6 +173,7 @@ vacuum_goes c era rules who calls n db key pend ws t real member small h there a
       from = refl;
       whole = whole_part c n db key (vacuumed n t) t spent;
       known = vacuum_wish (Known who calls n db key) (place_of c n db key t.node) (without n t.node.members) (node.view db key t.node) ((h.known.dbs db).records key);
+      waits = vacuum_wish (Of_records c db key) (place_of c n db key t.node) (without n t.node.members) (node.view db key t.node) (h.waits db key);
       finds = waited_finds db key n pend (state_at db key t.node).wish (all key);
       lawful = asks;
       is_event = vacuums_happen c era rules n db key t (ws db key) h.knows;
@@ -185,7 +182,7 @@ vacuum_goes c era rules who calls n db key pend ws t real member small h there a
 -- ---- at every record of the database
 
 -- a step that was whole at its end was so before
-either_whole : (a b : Bool) → (a || b) ≡ false → a ≡ false
+pub either_whole : (a b : Bool) → (a || b) ≡ false → a ≡ false
 either_whole true b e = absurd (cc)
 either_whole false b e = refl
 

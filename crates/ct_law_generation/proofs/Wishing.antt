@@ -13,14 +13,20 @@ use Rattle.ct_rules.specs.declared.state.RecallNote.{RecallNote}
 use Rattle.ct_rules.specs.declared.state.Entry.{Entry}
 use Rattle.ct_rules.specs.declared.state.Waiter.{Waiter}
 use Rattle.ct_rules.specs.declared.state.Wish.{Wish}
-use Rattle.ct_rules.specs.Moves.{store, release, unlock, begin_vacuum, vacuum_at_home, vacuum, call_again_of, call_again, revoke_again_of, revoke_again, at_home, from_home, arrive}
+use Rattle.ct_rules.specs.Moves.{store, release, unlock, begin_vacuum, vacuum_at_home, vacuum, at_home, from_home, arrive}
 
 -- the call that waits, if there is one, keeps this
 unfoldable pub Wishful : (ℕ → ClientOp → Type 0) → Option Wish → Type 0
 Wishful P None = Unit {0}
 Wishful P (Some w) = P w.call w.op
 
-send_all_same : (ns : List ℕ) (m : Msg) (o : Moving) → (send_all ns m o).state ≡ o.state
+-- what every call has, the one that waits has
+pub all_wishful : (P : ℕ → ClientOp → Type 0) (w : Option Wish) → ((call : ℕ) (asked : ClientOp) → P call asked) → Wishful P w
+unfolding Wishful
+all_wishful P None h = tt
+all_wishful P (Some w) h = h w.call w.op
+
+pub send_all_same : (ns : List ℕ) (m : Msg) (o : Moving) → (send_all ns m o).state ≡ o.state
 unfolding send_all send acts
 send_all_same [] m o = refl
 send_all_same (n ∷ ns) m o = send_all_same ns m (send n m o)
@@ -214,14 +220,6 @@ begin_wish P at o ns h = grind (arith, h, finish_wish P, send_all_wish P)
 pub vacuum_wish : (P : ℕ → ClientOp → Type 0) (at : Place) (ns : List ℕ) (o : Moving) → Wishful P o.state.wish → Wishful P (vacuum at ns o).state.wish
 unfolding vacuum vacuum_at_home
 vacuum_wish P at ns o h = grind (arith, h, begin_wish P, send_all_wish P, give_wish P)
-
-pub call_again_wish : (P : ℕ → ClientOp → Type 0) (at : Place) (o : Moving) → Wishful P o.state.wish → Wishful P (call_again at o).state.wish
-unfolding send acts call_again call_again_of
-call_again_wish P at o h = grind (arith, h)
-
-pub revoke_again_wish : (P : ℕ → ClientOp → Type 0) (at : Place) (o : Moving) → Wishful P o.state.wish → Wishful P (revoke_again at o).state.wish
-unfolding revoke_again revoke_again_of
-revoke_again_wish P at o h = grind (arith, h, send_all_wish P)
 
 home_wish : (P : ℕ → ClientOp → Type 0) (at : Place) (o p : Moving) → Wishful P o.state.wish → Wishful P p.state.wish → Wishful P (at_home at p o).state.wish
 unfolding at_home

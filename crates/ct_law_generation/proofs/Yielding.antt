@@ -1,10 +1,10 @@
 -- The recovery lock is given back: nothing else of the cluster changes, and the registers accept what is told of it.
-use Rattle.std.proofs.Common.{◌≡◌, ℕ, Bool, true, false, not, List, [], ◌∷◌, Option, None, Some, Ok, refl, ap, ◌∙◌}
+use Rattle.std.proofs.Common.{◌≡◌, ℕ, Bool, true, false, not, [], ◌∷◌, Option, None, Some, refl, ap, ◌∙◌}
 use Rattle.std.proofs.lemmas.Bool.{eqb-true}
 use Rattle.std.specs.Prelude.{nat_lt}
 use Rattle.ct_msg.specs.declared.config.Config.{Config}
 use Rattle.ct_call.specs.Rules.{Rules}
-use Rattle.ct_cluster.specs.Cluster.{Cluster, is_up, node_at, pending}
+use Rattle.ct_cluster.specs.Cluster.{Cluster, is_up}
 use Rattle.ct_cluster.specs.Faults.{faulty_if, first_of, no_such_node, node_down, is_holder, not_holder, fault_of, is_allowed}
 use Rattle.ct_cluster.specs.Labels.{Yielded}
 use Rattle.ct_cluster.specs.Steps.{done, steps, steps_or, applied}
@@ -14,7 +14,6 @@ use Rattle.ct_cluster.specs.declared.step.Step.TheVariants as step
 use Rattle.ct_cluster.specs.declared.step.StepFault.{StepFault}
 use Rattle.ct_register.specs.Legal.{AcceptsLabels}
 use Rattle.ct_register.specs.Lines.{Lines}
-use Rattle.ct_law_generation.specs.Shown.{project}
 
 -- the cluster with a free recovery lock
 abbrev pub yielded : Cluster → Cluster
@@ -57,30 +56,10 @@ yields c w n e = (let parts = none_of (no_such_node c n) (node_down w n) (not_ho
 
 -- ---- what it becomes
 
--- the lock is free, and the step prints that
-pub yield_is : (c : Config) (rules : Rules) (w : Cluster) (n : ℕ) → steps c rules w (step.Yield n) ≡ Ok (record { cluster = yielded w; lines = line.Yielded n ∷ [] })
-unfolding steps done
-yield_is c rules w n = refl
-
--- it tells that
-pub yield_tells : (w : Cluster) (n : ℕ) → labels w (step.Yield n) (line.Yielded n ∷ []) ≡ Yielded n ∷ []
-unfolding labels own_labels line_labels label_of
-yield_tells w n = refl
-
 -- so it runs
 pub yield_runs : (c : Config) (rules : Rules) (w : Cluster) (n : ℕ) → fault_of c w (step.Yield n) ≡ None → ran_one c rules w (step.Yield n) ≡ record { cluster = yielded w; lines = line.Yielded n ∷ []; trace = Yielded n ∷ [] }
 unfolding ran_one is_allowed applied steps_or steps done taken labels own_labels line_labels label_of
 yield_runs c rules w n e = ap (λ (f : Option StepFault). taken w (step.Yield n) (steps_or c rules w (step.Yield n) f)) e
-
--- every record shows what it showed
-pub yield_shows : (g db : ℕ) (key : List ℕ) (w : Cluster) → project g db key (yielded w) ≡ project g db key w
-unfolding node_at
-yield_shows g db key w = refl
-
--- the same calls wait
-pub yield_waits : (w : Cluster) → pending (yielded w) ≡ pending w
-unfolding pending
-yield_waits w = refl
 
 -- ---- what is told of it
 

@@ -1,4 +1,7 @@
-//! Lemmas on the way from the law of one record to the promise of one generation: what the cluster shows of each record, what
-//! a step of a node or of the cluster is at each record, and that a run which is a schedule of each record keeps the
-//! promise. No function carries a law here yet: not every step of the cluster is followed.
+//! The records of one generation, through all steps of the cluster but stops, starts and recoveries. What a step does at a
+//! record is a schedule of the world of that record alone, so the law of one record holds of each: what nodes tell of records
+//! is accepted by registers, the cluster stands for these, and step by step there are marks that say which of a record's
+//! versions each RSN stands for. So it is from the opening, and from a cluster that has installed a generation with rows.
 #![tactic(auto)]
+
+pub mod laws;

@@ -2,4 +2,4 @@ mod Opened
 mod Nodes
 mod Born
 mod Reached
-mod Follows
+pub mod Follows
