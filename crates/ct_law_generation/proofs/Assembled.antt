@@ -1,7 +1,7 @@
 -- A step of one generation that is taken: where the cluster goes on by it, and all that it tells of records is of the line, so does the run.
 use Rattle.std.proofs.Common.{◌≡◌, ℕ, zero, suc, ◌+◌, ◌<◌, Bool, true, false, cond, List, [], ◌∷◌, ◌++◌, length, Option, Some, None, refl, sym, ap, ◌∙◌, append-nil, subst}
 use Rattle.std.specs.Prelude.{not, slice_get, Result, Ok, Err, is_none}
-use Rattle.std.specs.List.{filter, AllByRecursion}
+use Rattle.std.specs.List.{AllByRecursion}
 use Rattle.ct_msg.specs.declared.client.ClientOp.{ClientOp}
 use Rattle.ct_msg.specs.declared.client.ClientOp.TheVariants as op
 use Rattle.ct_msg.specs.declared.config.Config.{Config}
@@ -50,7 +50,7 @@ use Rattle.ct_law_generation.proofs.Fed.{fed_is}
 use Rattle.ct_law_generation.proofs.Vacuumed.{vacuum_fed}
 use Rattle.ct_law_generation.proofs.Coming.{Cluster_goes, fate_goes, able_goes}
 use Rattle.ct_law_generation.proofs.Configured.{has_kind}
-use Rattle.ct_law_generation.proofs.Concluding.{EachIsOne}
+use Rattle.ct_law_generation.proofs.Committed.{filter_more}
 
 -- the cluster goes on, and tells these labels, all of the line
 pub record Run_goes (c : Config) (era : Era) (rules : Rules) (reg : Lines) (labels : List Label) (w : Cluster) : Type 0 where
@@ -58,21 +58,12 @@ pub record Run_goes (c : Config) (era : Era) (rules : Rules) (reg : Lines) (labe
   pub goes : Cluster_goes c era rules who w labels
   pub own : AllByRecursion (IsOfLine c era.number reg) labels
 
-filter_more : {X : Type 0} (f : X → Bool) (xs ys : List X) → filter f (xs ++ ys) ≡ filter f xs ++ filter f ys
-filter_more f [] ys = refl
-filter_more f (x ∷ xs) ys = first (f x) (filter_more f xs ys)
-  where
-    first : (b : Bool) → filter f (xs ++ ys) ≡ filter f xs ++ filter f ys → cond b (x ∷ filter f (xs ++ ys)) (filter f (xs ++ ys)) ≡ cond b (x ∷ filter f xs) (filter f xs) ++ filter f ys
-    first true e = ap (λ (l : List _). x ∷ l) e
-    first false e = e
-
 -- ---- what is asked of the registers
 
--- from these registers on: each record is one register, each member is in the line, and where not all members serve in the
--- generation, they all have installed it
+-- from these registers on: only what was asked is answered in the generation, each member is in the line, and where not all
+-- members serve in the generation, they all have installed it
 pub record Starts (c : Config) (era : Era) (rules : Rules) (reg : Lines) : Type 0 where
   pub era_is : IsEra c era
-  pub law : EachIsOne c era rules reg
   pub line : (n : ℕ) → is_in n era.members ≡ true → reg.line n ≡ era.number
   pub ready : era.thawed ≡ false → AllInstalled era.number reg
   pub small : (db : ℕ) → db < length c.dbs → is_db db ≡ true

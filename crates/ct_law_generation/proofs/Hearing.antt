@@ -116,7 +116,7 @@ frames_more (out.Send f ∷ xs) ys = ap (λ (l : List Sent). record { frame = f;
 frames_more (out.Answer call a ∷ xs) ys = frames_more xs ys
 frames_more (out.Note x ∷ xs) ys = frames_more xs ys
 
-list_more : {X : Type 0} (xs ys zs : List X) → xs ++ (ys ++ zs) ≡ (xs ++ ys) ++ zs
+pub list_more : {X : Type 0} (xs ys zs : List X) → xs ++ (ys ++ zs) ≡ (xs ++ ys) ++ zs
 list_more [] ys zs = refl
 list_more (x ∷ xs) ys zs = ap (λ (l : List _). x ∷ l) (list_more xs ys zs)
 

@@ -38,7 +38,7 @@ use Rattle.ct_law_world.specs.World as law
 use Rattle.ct_law_generation.specs.Shown.{Era, scene, view, is_it, heard, told_by_all, labels_of, project, amid, Finds, Follows, Schedules}
 use Rattle.ct_law_generation.proofs.Weave.{it_is, true_or_false}
 use Rattle.ct_law_generation.proofs.Wishing.{Wishful, vacuum_wish}
-use Rattle.ct_law_generation.proofs.Hearing.{heard_more}
+use Rattle.ct_law_generation.proofs.Hearing.{heard_more, list_more}
 use Rattle.ct_law_generation.proofs.Pending.{Callers, Known, KnownAt}
 use Rattle.ct_law_generation.proofs.Staying.{NodeStays, Of_records, kept_wish}
 use Rattle.ct_law_generation.proofs.Amid.{self, place_is, other_state}
@@ -49,10 +49,6 @@ use Rattle.ct_law_generation.proofs.Fed.{fed_is}
 use Rattle.ct_law_generation.proofs.Coming.{Cluster_goes, put_goes}
 
 -- ---- one step after another
-
-list_more : {X : Type 0} (xs ys zs : List X) → xs ++ (ys ++ zs) ≡ (xs ++ ys) ++ zs
-list_more [] ys zs = refl
-list_more (x ∷ xs) ys zs = ap (λ (l : List _). x ∷ l) (list_more xs ys zs)
 
 -- the world of a record follows both
 pub follows_more : (g : ℕ) (s : Scene) (n : ℕ) (w : World) (calls : List PendingCall) (t u v : Turn) → Follows g s n w calls t u → Follows g s n w calls u v → Follows g s n w calls t v
