@@ -43,7 +43,7 @@ seen_same c n db key part t o e h l k =
 
 -- ---- small words
 
-if_same : {X : Type 0} (b : Bool) (x y z : X) → cond b x (cond b y z) ≡ cond b x z
+pub if_same : {X : Type 0} (b : Bool) (x y z : X) → cond b x (cond b y z) ≡ cond b x z
 if_same true x y z = refl
 if_same false x y z = refl
 

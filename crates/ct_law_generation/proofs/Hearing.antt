@@ -167,7 +167,7 @@ mails_same at g me (act.Send receiver m ∷ xs) h =
 mails_same at g me (act.Answer call a ∷ xs) h = mails_same at g me xs h.1
 mails_same at g me (act.Finished floor ∷ xs) h = mails_same at g me xs h.1
 
-other_not : (a b : Bool) → b ≡ false → (a && b) ≡ false
+pub other_not : (a b : Bool) → b ≡ false → (a && b) ≡ false
 other_not true b e = e
 other_not false b e = refl
 

@@ -24,12 +24,13 @@ use Rattle.ct_law_generation.proofs.Events.{arrives_at, arrives_not}
 use Rattle.ct_law_generation.proofs.Following.{Asks, Goes_on, follows, finds_waiting, asks_here}
 use Rattle.ct_law_generation.proofs.Delivering.{begun, has_place, current_here, delivery_comes}
 use Rattle.ct_law_generation.proofs.Clusters.{all_known}
-use Rattle.ct_law_generation.proofs.Vacuumed.{Found, vacuumed, vacuum_comes, finds_waited, waited_on, whole_before, asks_amid, goes_more, goes_nowhere}
+use Rattle.ct_law_generation.proofs.Vacuumed.{Found, vacuumed, vacuum_comes, finds_waited, waited_on, whole_before, asks_amid, goes_more}
 use Rattle.ct_law_generation.proofs.Assembled.{Starts, Run_goes, Tells}
 use Rattle.ct_law_generation.proofs.Kept.{event_kept}
 use Rattle.ct_law_generation.proofs.Plain.{plain_at}
 use Rattle.ct_register.specs.Lines.{Lines}
 use Rattle.ct_register.specs.Words.{is_in}
+use Rattle.ct_law_generation.proofs.Coming.{goes_nowhere}
 
 -- ---- a message of a record
 

@@ -43,16 +43,13 @@ use Rattle.ct_law_generation.proofs.Fed.{fed_is}
 use Rattle.ct_law_generation.proofs.Assembled.{Starts, Run_goes, Tells, client_turn, runs}
 use Rattle.ct_register.specs.Lines.{Lines}
 use Rattle.ct_register.specs.Words.{is_in}
+use Rattle.ct_lcp2.proofs.Choices.{all_append}
 
 -- ---- a step at one record
 
-both_kept : (P : Label → Type 0) (xs ys : List Label) → AllByRecursion P xs → AllByRecursion P ys → AllByRecursion P (xs ++ ys)
-both_kept P [] ys h k = k
-both_kept P (x ∷ xs) ys h k = (h.0, both_kept P xs ys h.1 k)
-
 pub tells_more : (c : Config) (era : Era) (reg : Lines) (n : ℕ) (pend : List PendingCall) (xs ys : List Out) → AllByRecursion (Is_fit c era.number reg) (labels_of n pend xs) → AllByRecursion (Is_fit c era.number reg) (labels_of n pend ys) →
     AllByRecursion (Is_fit c era.number reg) (labels_of n pend (xs ++ ys))
-tells_more c era reg n pend xs ys h k = subst (λ (l : List Label). AllByRecursion (Is_fit c era.number reg) l) (sym (labels_more n pend xs ys)) (both_kept (Is_fit c era.number reg) (labels_of n pend xs) (labels_of n pend ys) h k)
+tells_more c era reg n pend xs ys h k = subst (λ (l : List Label). AllByRecursion (Is_fit c era.number reg) l) (sym (labels_more n pend xs ys)) (all_append (Is_fit c era.number reg) (labels_of n pend xs) (labels_of n pend ys) h k)
 
 -- what the node tells stays of records of the line over an event at a record
 pub event_kept : (c : Config) (era : Era) (rules : Rules) (reg : Lines) (who : Callers) (calls n db : ℕ) (key : List ℕ) (e : MoveEvent) (t : Turn) (pend : List PendingCall) (asks : ℕ → Option ClientOp) (w : World) (ev : Event) → Starts c era rules reg → is_in n era.members ≡ true → has_records (kind_at c db) ≡ true →

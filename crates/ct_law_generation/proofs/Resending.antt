@@ -38,7 +38,7 @@ use Rattle.ct_law_world.specs.Labels as law
 use Rattle.ct_law_world.specs.World.{View, World, Resends, place, starts, sent, told, answers, call_of, waiting_call, Stepped, put, happens}
 use Rattle.ct_law_generation.specs.Shown.{Era, scene, view, mails, told_by_all, heard, labels_of, amid, Comes_by}
 use Rattle.ct_law_generation.proofs.Pending.{Callers}
-use Rattle.ct_law_generation.proofs.Amid.{self, put_world}
+use Rattle.ct_law_generation.proofs.Amid.{if_same, self, put_world}
 use Rattle.ct_law_generation.proofs.Staying.{NodeStays}
 use Rattle.ct_law_generation.proofs.Following.{Goes_on}
 use Rattle.ct_law_generation.proofs.Retried.{more, calls_sent, revokes_sent, resend_is, sent_more, calls_untold, revokes_untold, calls_at, revokes_at, Retries_at, Passes, passes_more, calls_just, revokes_just, all_passes, all_mail}
@@ -234,10 +234,6 @@ resends_mail c era rules who calls n db key t r h =
     ∙ ap (λ (x : View). mails era.number db key (frames_of u.outs) ++ times (At db key (places_in 0 t.node.dbs)) (sent n (revokes_at c era rules n db key x))) (a.same db key)
     ∙ ap (λ (m : List Mail). mails era.number db key (frames_of u.outs) ++ m) (revoke_times n (place (scene c era rules db key) n v) _ _ (all_meets 0 db db key t.node.dbs (omega arith) h.known.order))
     ∙ ap (λ (m : List Mail). m ++ sent n (revokes_at c era rules n db key v)) first
-
-if_same : {X : Type 0} (b : Bool) (x y z : X) → cond b x (cond b y z) ≡ cond b x z
-if_same true x y z = refl
-if_same false x y z = refl
 
 -- what the world's Resend leaves
 abbrev resent : Config → Era → Rules → ℕ → ℕ → List ℕ → View → Moving

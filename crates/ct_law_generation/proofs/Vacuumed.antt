@@ -1,5 +1,5 @@
 -- Vacuum of a database, at every record of it in turn: the node stays as it was, and the world of every record follows.
-use Rattle.std.proofs.Common.{◌≡◌, ℕ, zero, suc, ◌+◌, ◌<◌, Bool, true, false, cond, ◌||◌, List, [], ◌∷◌, ◌++◌, length, Option, Some, None, refl, sym, ap, ◌∙◌, append-nil, arith, subst, ⊎_elim}
+use Rattle.std.proofs.Common.{◌≡◌, ℕ, zero, suc, ◌+◌, ◌<◌, Bool, true, false, cond, ◌||◌, List, [], ◌∷◌, ◌++◌, length, Option, Some, None, refl, sym, ap, ◌∙◌, arith, subst, ⊎_elim}
 use Rattle.std.specs.Prelude.{Contains, Ok, nat_eq, nat_lt, not, slice_get}
 use Rattle.std.proofs.lemmas.Bool.{cond_both, eqb-true, eq-eqb, ltb-true, and_parts}
 use Rattle.std.proofs.lemmas.List.Elements.{All-contains, filter_passes}
@@ -45,7 +45,7 @@ use Rattle.ct_law_generation.proofs.Delivering.{begun, whole_part}
 use Rattle.ct_law_generation.proofs.Following.{last_more, trace_more, Asks, asks_on, asks_here, Goes_on, follows, finds_waiting, IsEra, Comes_to}
 use Rattle.ct_law_generation.proofs.Clusters.{ClusterStays, all_known}
 use Rattle.ct_law_generation.proofs.Fed.{fed_is}
-use Rattle.ct_law_generation.proofs.Coming.{Cluster_goes, put_goes}
+use Rattle.ct_law_generation.proofs.Coming.{Cluster_goes, put_goes, goes_nowhere}
 
 -- ---- one step after another
 
@@ -67,11 +67,6 @@ follows_more g s n w calls t u v f k =
 pub goes_more : (c : Config) (era : Era) (rules : Rules) (who : Callers) (calls n : ℕ) (pend : List PendingCall) (ws : ℕ → List ℕ → World) (t u v : Turn) →
     Goes_on c era rules who calls n pend ws t u → Goes_on c era rules who calls n pend ws u v → Goes_on c era rules who calls n pend ws t v
 goes_more c era rules who calls n pend ws t u v f g = (g.0, λ db key. follows_more era.number (scene c era rules db key) n (ws db key) pend t u v (f.1 db key) (g.1 db key), λ before. g.2 (f.2 before))
-
--- nothing happens
-pub goes_nowhere : (c : Config) (era : Era) (rules : Rules) (who : Callers) (calls n : ℕ) (pend : List PendingCall) (ws : ℕ → List ℕ → World) (t : Turn) → NodeStays c era rules who calls n t.node → Goes_on c era rules who calls n pend ws t t
-unfolding heard
-goes_nowhere c era rules who calls n pend ws t h = (h, (λ db key. ([], record { world = refl; labels = sym (append-nil _) })), λ before. before)
 
 -- what every schedule before a step does, every one amid it does
 pub asks_amid : (g : ℕ) (s : Scene) (n : ℕ) (w : World) (calls : List PendingCall) (t u : Turn) → Asks s (amid g s.db s.key n w t) → Follows g s n w calls t u → Asks s (amid g s.db s.key n w u)
