@@ -1,5 +1,5 @@
 -- A step at one record of a node, in the world of each record.
-use Rattle.std.proofs.Common.{◌≡◌, ◌≢◌, ℕ, ◌<◌, ◌≤◌, Bool, true, false, cond, List, [], ◌∷◌, ◌++◌, map, length, Option, refl, sym, ap, ◌∙◌, append-nil, arith, subst, ⊎_elim, inl, inr}
+use Rattle.std.proofs.Common.{◌≡◌, ◌≢◌, ℕ, ◌<◌, ◌≤◌, Bool, true, false, cond, List, [], ◌∷◌, ◌++◌, map, length, Option, refl, sym, ap, ◌∙◌, append-nil, arith, subst, ⊎_elim, inl, inr, append_assoc}
 use Rattle.std.specs.Prelude.{nat_eq, not, ◌&&◌, ◌⊎◌}
 use Rattle.std.proofs.lemmas.Bool.{cases_eq, eq-eqb}
 use Rattle.ct_msg.specs.declared.client.ClientOp.{ClientOp}
@@ -43,7 +43,7 @@ seen_same c n db key part t o e h l k =
 
 -- ---- small words
 
-if_same : {X : Type 0} (b : Bool) (x y z : X) → cond b x (cond b y z) ≡ cond b x z
+pub if_same : {X : Type 0} (b : Bool) (x y z : X) → cond b x (cond b y z) ≡ cond b x z
 if_same true x y z = refl
 if_same false x y z = refl
 
@@ -66,15 +66,11 @@ pub put_world : (s : Scene) (w : World) (n : ℕ) (asks : ℕ → Option ClientO
 put_world s w n asks o a here e = (let g : (is_in n s.members && w.joined n && not o.spent) ≡ true = goes (is_in n s.members) (w.joined n) o.spent a here e in
     λ i. cond (g i) (record { world = record { nodes = λ k. cond (nat_eq k n) (view_of o) (w.nodes k); joined = w.joined; mail = w.mail ++ sent n o.acts }; labels = told n asks o.acts }) (record { world = w; labels = [] }))
 
-list_more : {X : Type 0} (xs ys zs : List X) → (xs ++ ys) ++ zs ≡ xs ++ (ys ++ zs)
-list_more [] ys zs = refl
-list_more (x ∷ xs) ys zs = ap (λ (l : List _). x ∷ l) (list_more xs ys zs)
-
 -- the mail after the step, where what was sent adds this
 mail_after : (g : ℕ) (db : ℕ) (key : List ℕ) (before : List Mail) (outs more : List Out) (xs : List Mail) → mails g db key (frames_of more) ≡ xs →
     (before ++ mails g db key (frames_of outs)) ++ xs ≡ before ++ mails g db key (frames_of (outs ++ more))
 mail_after g db key before outs more xs e =
-    list_more before _ xs
+    append_assoc before _ xs
     ∙ ap (λ (l : List Mail). before ++ (mails g db key (frames_of outs) ++ l)) (sym e)
     ∙ ap (λ (l : List Mail). before ++ l) (sym (mails_more g db key (frames_of outs) (frames_of more)))
     ∙ ap (λ (l : List _). before ++ mails g db key l) (sym (frames_more outs more))

@@ -1,7 +1,7 @@
 -- A step of one generation that is taken: where the cluster goes on by it, and all that it tells of records is of the line, so does the run.
 use Rattle.std.proofs.Common.{◌≡◌, ℕ, zero, suc, ◌+◌, ◌<◌, Bool, true, false, cond, List, [], ◌∷◌, ◌++◌, length, Option, Some, None, refl, sym, ap, ◌∙◌, append-nil, subst}
 use Rattle.std.specs.Prelude.{not, slice_get, Result, Ok, Err, is_none}
-use Rattle.std.specs.List.{filter, AllByRecursion}
+use Rattle.std.specs.List.{AllByRecursion}
 use Rattle.ct_msg.specs.declared.client.ClientOp.{ClientOp}
 use Rattle.ct_msg.specs.declared.client.ClientOp.TheVariants as op
 use Rattle.ct_msg.specs.declared.config.Config.{Config}
@@ -50,7 +50,8 @@ use Rattle.ct_law_generation.proofs.Fed.{fed_is}
 use Rattle.ct_law_generation.proofs.Vacuumed.{vacuum_fed}
 use Rattle.ct_law_generation.proofs.Coming.{Cluster_goes, fate_goes, able_goes}
 use Rattle.ct_law_generation.proofs.Configured.{has_kind}
-use Rattle.ct_law_generation.proofs.Concluding.{EachIsOne}
+use Rattle.ct_law_generation.proofs.Committed.{filter_more}
+use Rattle.ct_lcp2.proofs.Choices.{all_append}
 
 -- the cluster goes on, and tells these labels, all of the line
 pub record Run_goes (c : Config) (era : Era) (rules : Rules) (reg : Lines) (labels : List Label) (w : Cluster) : Type 0 where
@@ -58,21 +59,12 @@ pub record Run_goes (c : Config) (era : Era) (rules : Rules) (reg : Lines) (labe
   pub goes : Cluster_goes c era rules who w labels
   pub own : AllByRecursion (IsOfLine c era.number reg) labels
 
-filter_more : {X : Type 0} (f : X → Bool) (xs ys : List X) → filter f (xs ++ ys) ≡ filter f xs ++ filter f ys
-filter_more f [] ys = refl
-filter_more f (x ∷ xs) ys = first (f x) (filter_more f xs ys)
-  where
-    first : (b : Bool) → filter f (xs ++ ys) ≡ filter f xs ++ filter f ys → cond b (x ∷ filter f (xs ++ ys)) (filter f (xs ++ ys)) ≡ cond b (x ∷ filter f xs) (filter f xs) ++ filter f ys
-    first true e = ap (λ (l : List _). x ∷ l) e
-    first false e = e
-
 -- ---- what is asked of the registers
 
--- from these registers on: each record is one register, each member is in the line, and where not all members serve in the
--- generation, they all have installed it
+-- from these registers on: only what was asked is answered in the generation, each member is in the line, and where not all
+-- members serve in the generation, they all have installed it
 pub record Starts (c : Config) (era : Era) (rules : Rules) (reg : Lines) : Type 0 where
   pub era_is : IsEra c era
-  pub law : EachIsOne c era rules reg
   pub line : (n : ℕ) → is_in n era.members ≡ true → reg.line n ≡ era.number
   pub ready : era.thawed ≡ false → AllInstalled era.number reg
   pub small : (db : ℕ) → db < length c.dbs → is_db db ≡ true
@@ -115,7 +107,7 @@ unfolding first_of
 first_none None xs e = (refl, e)
 first_none (Some f) xs e = absurd (cc)
 
-not_faulty : (b : Bool) (f : StepFault) → faulty_if (not b) f ≡ None → b ≡ true
+pub not_faulty : (b : Bool) (f : StepFault) → faulty_if (not b) f ≡ None → b ≡ true
 unfolding faulty_if
 not_faulty true f e = refl
 not_faulty false f e = absurd (cc)
@@ -175,10 +167,6 @@ lines_tell s calls n k (out.Note x ∷ xs) = ap (λ (l : List Label). Noted n x 
 abbrev pub Tells : Config → Era → Lines → ℕ → List PendingCall → Turn → Type 0
 Tells c era reg n calls u = AllByRecursion (Is_fit c era.number reg) (labels_of n calls u.outs)
 
-own_more : (c : Config) (line : ℕ) (reg : Lines) (xs ys : List Label) → AllByRecursion (IsOfLine c line reg) xs → AllByRecursion (IsOfLine c line reg) ys → AllByRecursion (IsOfLine c line reg) (xs ++ ys)
-own_more c line reg [] ys h k = k
-own_more c line reg (x ∷ xs) ys h k = (h.0, own_more c line reg xs ys h.1 k)
-
 -- what the cluster goes on to, and what is told of records, where all of that is of the line
 pub turn_taken : (c : Config) (era : Era) (rules : Rules) (reg : Lines) (who : Callers) (ls : List Label) (w v : Cluster) (s : Step) (n : ℕ) (u : Turn) (x : Stepped) → AllByRecursion (IsOfLine c era.number reg) ls →
     AllByRecursion (IsOfLine c era.number reg) (record_labels c (labels_of n (traces.calls_of w s) u.outs)) → record_labels c (own_labels w s x.lines) ≡ [] → x ≡ put n u [] v →
@@ -189,7 +177,7 @@ turn_taken c era rules reg who ls w v s n u x own kept none is goes =
     ap (λ (y : Stepped). line_labels s (traces.calls_of w s) y.lines) is ∙ lines_tell s (traces.calls_of w s) n _ u.outs in
     let told : record_labels c (traces.labels w s x.lines) ≡ record_labels c (labels_of n (traces.calls_of w s) u.outs) =
     filter_more (speaks_of_records c) (own_labels w s x.lines) (line_labels s (traces.calls_of w s) x.lines) ∙ ap (λ (l : List Label). l ++ record_labels c (line_labels s (traces.calls_of w s) x.lines)) none ∙ ap (λ (l : List Label). record_labels c l) lines in
-    subst (λ (l : List Label). Run_goes c era rules reg (ls ++ l) x.cluster) (sym told) (record { who = who; goes = goes; own = own_more c era.number reg ls _ own kept })
+    subst (λ (l : List Label). Run_goes c era rules reg (ls ++ l) x.cluster) (sym told) (record { who = who; goes = goes; own = all_append (IsOfLine c era.number reg) ls _ own kept })
 
 -- labels that tell the same of records are told by the same schedules
 told_same : (db : ℕ) (key : List ℕ) (ls xs ys : List Label) → told_by_all db key xs ≡ told_by_all db key ys → told_by_all db key (ls ++ xs) ≡ told_by_all db key (ls ++ ys)

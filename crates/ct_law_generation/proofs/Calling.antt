@@ -31,7 +31,7 @@ use Rattle.ct_law_generation.proofs.Pending.{Callers, Known, KnownAt}
 use Rattle.ct_law_generation.proofs.Forming.{may_want_comes}
 use Rattle.ct_law_generation.proofs.Staying.{NodeStays, Of_records}
 use Rattle.ct_law_generation.proofs.Events.{wants_happen, stores_happen, unlocks_happen}
-use Rattle.ct_law_generation.proofs.Following.{Asks, IsEra, Goes_on, follows}
+use Rattle.ct_law_generation.proofs.Following.{Asks, IsEra, Goes_on, follows, Comes_to}
 use Rattle.ct_law_generation.proofs.Delivering.{begun, whole_part, has_place}
 
 -- the call that comes, before those that wait
@@ -68,59 +68,93 @@ abbrev pub Goes : Config → Era → Rules → Callers → ℕ → ℕ → ℕ �
 Goes c era rules who calls n call asked w u =
     Goes_on c era rules who calls n (own_pending n call asked ∷ pending w) (λ db key. project era.number db key w) (makes call (begins (node_at n w))) u
 
-at_call : (c : Config) (era : Era) (rules : Rules) (who : Callers) (calls n db call : ℕ) (key : List ℕ) (asked : ClientOp) (w : Cluster) (e : MoveEvent) (ev : Event) → Calls_at c era rules who calls n db call key asked w →
-    MayCome (place (scene c era rules db key) n (view db key (node_at n w))) (state_at db key (node_at n w)) e → is_from_node e ≡ true →
-    Wishful (Known who calls n db key) (left_by c n db key (λ at o. move at rules e o) (begins (node_at n w))).state.wish → Wishful (Of_records c db key) (left_by c n db key (λ at o. move at rules e o) (begins (node_at n w))).state.wish →
-    happens (scene c era rules db key) (amid era.number db key n (project era.number db key w) (begins (node_at n w))) ev ≡ put (scene c era rules db key) (amid era.number db key n (project era.number db key w) (begins (node_at n w))) n (own_call call asked) (left_by c n db key (λ at o. move at rules e o) (begins (node_at n w))) →
-    (at_record c n db key (λ at o. move at rules e o) (makes call (begins (node_at n w)))).spent ≡ false → Goes c era rules who calls n call asked w (at_record c n db key (λ at o. move at rules e o) (makes call (begins (node_at n w))))
-unfolding makes
-at_call c era rules who calls n db call key asked w e ev h may from known waits is spent =
-    follows c era rules who calls n db key e (makes call (begins (node_at n w))) (own_pending n call asked ∷ pending w) (own_call call asked) (λ db key. project era.number db key w) ev h.real h.member h.stays (record {
-      has = h.small;
-      there = subst (λ (l : ℕ). db < l) (sym h.stays.size) (has_place c db h.kind);
-      may = may;
-      from = from;
-      whole = whole_part c n db key (λ at o. move at rules e o) (makes call (begins (node_at n w))) spent;
-      known = known;
-      waits = waits;
-      finds = finds_own n db call key asked (pending w) h.of_db h.of_key;
-      lawful = subst (λ (v : World). Asks (scene c era rules db key) v) (begun era.number db key n w) h.lawful;
-      is_event = is;
-    })
-
-pub wished_before : (c : Config) (era : Era) (rules : Rules) (who : Callers) (calls n db call : ℕ) (key : List ℕ) (asked : ClientOp) (w : Cluster) → Calls_at c era rules who calls n db call key asked w → Wishful (Known who calls n db key) (state_at db key (node_at n w)).wish
+wished_before : (c : Config) (era : Era) (rules : Rules) (who : Callers) (calls n db call : ℕ) (key : List ℕ) (asked : ClientOp) (w : Cluster) → Calls_at c era rules who calls n db call key asked w → Wishful (Known who calls n db key) (state_at db key (node_at n w)).wish
 unfolding KnownAt state_at
 wished_before c era rules who calls n db call key asked w h = (h.stays.known.dbs db).records key
 
+-- ---- a call comes to its record
+
+-- the call is an event at the record
+call_comes : (c : Config) (era : Era) (rules : Rules) (who : Callers) (calls n db call : ℕ) (key : List ℕ) (asked : ClientOp) (w : Cluster) (e : MoveEvent) (ev : Event) → Calls_at c era rules who calls n db call key asked w →
+    MayCome (place (scene c era rules db key) n (view db key (node_at n w))) (state_at db key (node_at n w)) e → is_from_node e ≡ true →
+    Wishful (Known who calls n db key) (left_by c n db key (λ at o. move at rules e o) (begins (node_at n w))).state.wish → Wishful (Of_records c db key) (left_by c n db key (λ at o. move at rules e o) (begins (node_at n w))).state.wish →
+    happens (scene c era rules db key) (amid era.number db key n (project era.number db key w) (begins (node_at n w))) ev ≡ put (scene c era rules db key) (amid era.number db key n (project era.number db key w) (begins (node_at n w))) n (own_call call asked) (left_by c n db key (λ at o. move at rules e o) (begins (node_at n w))) →
+    (at_record c n db key (λ at o. move at rules e o) (makes call (begins (node_at n w)))).spent ≡ false →
+    Comes_to c era rules who calls n db key e (makes call (begins (node_at n w))) (own_pending n call asked ∷ pending w) (own_call call asked) (project era.number db key w) ev
+unfolding makes
+call_comes c era rules who calls n db call key asked w e ev h may from known waits is spent = record {
+  has = h.small;
+  there = subst (λ (l : ℕ). db < l) (sym h.stays.size) (has_place c db h.kind);
+  may = may;
+  from = from;
+  whole = whole_part c n db key (λ at o. move at rules e o) (makes call (begins (node_at n w))) spent;
+  known = known;
+  waits = waits;
+  finds = finds_own n db call key asked (pending w) h.of_db h.of_key;
+  lawful = subst (λ (v : World). Asks (scene c era rules db key) v) (begun era.number db key n w) h.lawful;
+  is_event = is;
+}
+
 -- a lock, a read, a write or a function
-pub wants_follows : (c : Config) (era : Era) (rules : Rules) (who : Callers) (calls n db call : ℕ) (key : List ℕ) (asked : ClientOp) (w : Cluster) → Calls_at c era rules who calls n db call key asked w →
+pub wants_come : (c : Config) (era : Era) (rules : Rules) (who : Callers) (calls n db call : ℕ) (key : List ℕ) (asked : ClientOp) (w : Cluster) → Calls_at c era rules who calls n db call key asked w →
     may_want (state_at db key (node_at n w)) asked ≡ true → (at_record c n db key (λ at o. want at rules call asked o) (makes call (begins (node_at n w)))).spent ≡ false →
-    Goes c era rules who calls n call asked w (at_record c n db key (λ at o. want at rules call asked o) (makes call (begins (node_at n w))))
+    Comes_to c era rules who calls n db key (event.Want call asked) (makes call (begins (node_at n w))) (own_pending n call asked ∷ pending w) (own_call call asked) (project era.number db key w) (Wants n call asked)
 unfolding node.view Known
-wants_follows c era rules who calls n db call key asked w h may spent =
-    at_call c era rules who calls n db call key asked w (event.Want call asked) (Wants n call asked) h (may_want_comes (scene c era rules db key) n call (view db key (node_at n w)) asked may) refl
+wants_come c era rules who calls n db call key asked w h may spent =
+    call_comes c era rules who calls n db call key asked w (event.Want call asked) (Wants n call asked) h (may_want_comes (scene c era rules db key) n call (view db key (node_at n w)) asked may) refl
     (want_wish (Known who calls n db key) (place_of c n db key (node_at n w)) rules call asked (node.view db key (node_at n w)) (h.own, h.counted, h.of_db, h.of_key) (wished_before c era rules who calls n db call key asked w h))
     (want_wish (Of_records c db key) (place_of c n db key (node_at n w)) rules call asked (node.view db key (node_at n w)) h.kind (h.stays.waits db key))
     (wants_happen c era rules n db call key asked (begins (node_at n w)) (project era.number db key w) h.stays.knows may) spent
 
 -- a store
-pub stores_follows : (c : Config) (era : Era) (rules : Rules) (who : Callers) (calls n db call : ℕ) (key v : List ℕ) (w : Cluster) → Calls_at c era rules who calls n db call key (op.Store db key v) w →
+pub stores_come : (c : Config) (era : Era) (rules : Rules) (who : Callers) (calls n db call : ℕ) (key v : List ℕ) (w : Cluster) → Calls_at c era rules who calls n db call key (op.Store db key v) w →
     is_some (state_at db key (node_at n w)).locked ≡ true → (at_record c n db key (λ at o. store call v o) (makes call (begins (node_at n w)))).spent ≡ false →
-    Goes c era rules who calls n call (op.Store db key v) w (at_record c n db key (λ at o. store call v o) (makes call (begins (node_at n w))))
+    Comes_to c era rules who calls n db key (event.Store call v) (makes call (begins (node_at n w))) (own_pending n call (op.Store db key v) ∷ pending w) (own_call call (op.Store db key v)) (project era.number db key w) (Stores n call v)
 unfolding node.view
-stores_follows c era rules who calls n db call key v w h locked spent =
-    at_call c era rules who calls n db call key (op.Store db key v) w (event.Store call v) (Stores n call v) h locked refl
+stores_come c era rules who calls n db call key v w h locked spent =
+    call_comes c era rules who calls n db call key (op.Store db key v) w (event.Store call v) (Stores n call v) h locked refl
     (store_wish (Known who calls n db key) call v (node.view db key (node_at n w)) (wished_before c era rules who calls n db call key (op.Store db key v) w h))
     (store_wish (Of_records c db key) call v (node.view db key (node_at n w)) (h.stays.waits db key))
     (stores_happen c era rules n db call key v (begins (node_at n w)) (project era.number db key w) h.stays.knows locked) spent
 
 -- an unlock
-pub unlocks_follows : (c : Config) (era : Era) (rules : Rules) (who : Callers) (calls n db call : ℕ) (key : List ℕ) (w : Cluster) → Calls_at c era rules who calls n db call key (op.Unlock db key) w →
+pub unlocks_come : (c : Config) (era : Era) (rules : Rules) (who : Callers) (calls n db call : ℕ) (key : List ℕ) (w : Cluster) → Calls_at c era rules who calls n db call key (op.Unlock db key) w →
     is_some (state_at db key (node_at n w)).locked ≡ true → (at_record c n db key (λ at o. unlock at call o) (makes call (begins (node_at n w)))).spent ≡ false →
-    Goes c era rules who calls n call (op.Unlock db key) w (at_record c n db key (λ at o. unlock at call o) (makes call (begins (node_at n w))))
+    Comes_to c era rules who calls n db key (event.Unlock call) (makes call (begins (node_at n w))) (own_pending n call (op.Unlock db key) ∷ pending w) (own_call call (op.Unlock db key)) (project era.number db key w) (Unlocks n call)
 unfolding node.view
-unlocks_follows c era rules who calls n db call key w h locked spent =
-    at_call c era rules who calls n db call key (op.Unlock db key) w (event.Unlock call) (Unlocks n call) h locked refl
+unlocks_come c era rules who calls n db call key w h locked spent =
+    call_comes c era rules who calls n db call key (op.Unlock db key) w (event.Unlock call) (Unlocks n call) h locked refl
     (unlock_wish (Known who calls n db key) (place_of c n db key (node_at n w)) call (node.view db key (node_at n w)) (wished_before c era rules who calls n db call key (op.Unlock db key) w h))
     (unlock_wish (Of_records c db key) (place_of c n db key (node_at n w)) call (node.view db key (node_at n w)) (h.stays.waits db key))
     (unlocks_happen c era rules n db call key (begins (node_at n w)) (project era.number db key w) h.stays.knows locked) spent
+
+-- ---- the node and the worlds follow
+
+-- where the call is an event at the record, the node stays as it was, and the world of every record follows
+call_follows : (c : Config) (era : Era) (rules : Rules) (who : Callers) (calls n db call : ℕ) (key : List ℕ) (asked : ClientOp) (w : Cluster) (e : MoveEvent) (ev : Event) → Calls_at c era rules who calls n db call key asked w →
+    Comes_to c era rules who calls n db key e (makes call (begins (node_at n w))) (own_pending n call asked ∷ pending w) (own_call call asked) (project era.number db key w) ev →
+    Goes c era rules who calls n call asked w (at_record c n db key (λ at o. move at rules e o) (makes call (begins (node_at n w))))
+unfolding makes
+call_follows c era rules who calls n db call key asked w e ev h comes =
+    follows c era rules who calls n db key e (makes call (begins (node_at n w))) (own_pending n call asked ∷ pending w) (own_call call asked) (λ db key. project era.number db key w) ev h.real h.member h.stays comes
+
+-- a lock, a read, a write or a function
+pub wants_follows : (c : Config) (era : Era) (rules : Rules) (who : Callers) (calls n db call : ℕ) (key : List ℕ) (asked : ClientOp) (w : Cluster) → Calls_at c era rules who calls n db call key asked w →
+    may_want (state_at db key (node_at n w)) asked ≡ true → (at_record c n db key (λ at o. want at rules call asked o) (makes call (begins (node_at n w)))).spent ≡ false →
+    Goes c era rules who calls n call asked w (at_record c n db key (λ at o. want at rules call asked o) (makes call (begins (node_at n w))))
+wants_follows c era rules who calls n db call key asked w h may spent =
+    call_follows c era rules who calls n db call key asked w (event.Want call asked) (Wants n call asked) h (wants_come c era rules who calls n db call key asked w h may spent)
+
+-- a store
+pub stores_follows : (c : Config) (era : Era) (rules : Rules) (who : Callers) (calls n db call : ℕ) (key v : List ℕ) (w : Cluster) → Calls_at c era rules who calls n db call key (op.Store db key v) w →
+    is_some (state_at db key (node_at n w)).locked ≡ true → (at_record c n db key (λ at o. store call v o) (makes call (begins (node_at n w)))).spent ≡ false →
+    Goes c era rules who calls n call (op.Store db key v) w (at_record c n db key (λ at o. store call v o) (makes call (begins (node_at n w))))
+stores_follows c era rules who calls n db call key v w h locked spent =
+    call_follows c era rules who calls n db call key (op.Store db key v) w (event.Store call v) (Stores n call v) h (stores_come c era rules who calls n db call key v w h locked spent)
+
+-- an unlock
+pub unlocks_follows : (c : Config) (era : Era) (rules : Rules) (who : Callers) (calls n db call : ℕ) (key : List ℕ) (w : Cluster) → Calls_at c era rules who calls n db call key (op.Unlock db key) w →
+    is_some (state_at db key (node_at n w)).locked ≡ true → (at_record c n db key (λ at o. unlock at call o) (makes call (begins (node_at n w)))).spent ≡ false →
+    Goes c era rules who calls n call (op.Unlock db key) w (at_record c n db key (λ at o. unlock at call o) (makes call (begins (node_at n w))))
+unlocks_follows c era rules who calls n db call key w h locked spent =
+    call_follows c era rules who calls n db call key (op.Unlock db key) w (event.Unlock call) (Unlocks n call) h (unlocks_come c era rules who calls n db call key w h locked spent)

@@ -27,9 +27,9 @@ use Rattle.ct_law_generation.proofs.Putting.{extends, fate_hidden}
 use Rattle.ct_law_generation.proofs.Clusters.{ClusterStays, inside, all_known, fate_stays, put_stays}
 
 -- nothing happens
-same_follows : (c : Config) (era : Era) (rules : Rules) (who : Callers) (calls n : ℕ) (pend : List PendingCall) (ws : ℕ → List ℕ → World) (t : Turn) → NodeStays c era rules who calls n t.node → Goes_on c era rules who calls n pend ws t t
+pub goes_nowhere : (c : Config) (era : Era) (rules : Rules) (who : Callers) (calls n : ℕ) (pend : List PendingCall) (ws : ℕ → List ℕ → World) (t : Turn) → NodeStays c era rules who calls n t.node → Goes_on c era rules who calls n pend ws t t
 unfolding heard
-same_follows c era rules who calls n pend ws t h = (h, (λ db key. ([], record { world = refl; labels = sym (append-nil _) })), λ before. before)
+goes_nowhere c era rules who calls n pend ws t h = (h, (λ db key. ([], record { world = refl; labels = sym (append-nil _) })), λ before. before)
 
 -- the cluster stays so, and schedules lead on to it that tell these labels more
 abbrev pub Cluster_goes : Config → Era → Rules → Callers → Cluster → List Label → Type 0
@@ -61,7 +61,7 @@ comes_on c era rules who w k s r labels es real small h sched at up is spent =
     delivers c era rules who w k s r.0 r.1 real small t (h.nodes n t) (all_known c era rules who w h) at is (plain_at era.number w.sent k s at h.sent) ok (asks_here c era rules w labels es real sched r.0 r.1) spent)
     (λ (out : (is_current s.frame (node_at n w) && has_records (kind_at c r.0)) ≡ false).
     subst (λ (u : Turn). Goes_on c era rules who w.calls n (pending w) (λ db key. project era.number db key w) turn u) (sym (arrives_not c rules n s.frame turn r.0 r.1 is out))
-    (same_follows c era rules who w.calls n (pending w) (λ db key. project era.number db key w) turn (h.nodes n t)))
+    (goes_nowhere c era rules who w.calls n (pending w) (λ db key. project era.number db key w) turn (h.nodes n t)))
     (true_or_false (is_current s.frame (node_at n w) && has_records (kind_at c r.0))))
 
 -- what became of a message does not matter

@@ -22,7 +22,7 @@ use Rattle.ct_rules_node.specs.Laws.{left_by}
 use Rattle.ct_cluster.specs.Cluster.{Cluster, Sent, node_at, pending}
 use Rattle.ct_cluster.specs.Steps.{frames_of}
 use Rattle.ct_register.specs.Words.{is_in}
-use Rattle.ct_law_world.specs.World.{View, Mail, Comes, waiting_call, World}
+use Rattle.ct_law_world.specs.World.{View, Mail, Comes, waiting_call, World, Event}
 use Rattle.ct_law_generation.specs.Shown.{Era, scene, view, mail_of, mails, project, amid}
 use Rattle.ct_law_generation.proofs.Weave.{it_is_itself}
 use Rattle.ct_law_generation.proofs.Wishing.{arrive_wish}
@@ -30,7 +30,7 @@ use Rattle.ct_law_generation.proofs.Pending.{Callers, Known, KnownAt, NodeKnown}
 use Rattle.ct_law_generation.proofs.Forming.{mail_comes}
 use Rattle.ct_law_generation.proofs.Staying.{NodeStays, number_of, of_era, Of_records}
 use Rattle.ct_law_generation.proofs.Events.{arrives_at, comes_happen}
-use Rattle.ct_law_generation.proofs.Following.{Goes_on, follows, finds_waiting, IsEra, Asks}
+use Rattle.ct_law_generation.proofs.Following.{Goes_on, follows, finds_waiting, IsEra, Asks, Comes_to}
 use Rattle.ct_law_generation.proofs.Plain.{IsPlain, of_plain}
 
 -- ---- where the message is in the mail of its record
@@ -99,6 +99,33 @@ current_here c era rules who calls n f x h e =
     let both = and_parts (is_present_in f.generation x && is_among f.sender x.members) (list_all (λ m. is_among m x.members) (named_in f.msg)) e in
     sym (number_of f.generation x (and_parts (is_present_in f.generation x) (is_among f.sender x.members) both.0).0) ∙ of_era c era rules who calls n x h
 
+-- the message is an event at its record
+pub delivery_comes : (c : Config) (era : Era) (rules : Rules) (who : Callers) (w : Cluster) (k : ℕ) (s : Sent) (db : ℕ) (key : List ℕ) → ((d : ℕ) → d < length c.dbs → is_db d ≡ true) → NodeStays c era rules who w.calls s.frame.receiver (node_at s.frame.receiver w) → ((m : ℕ) → NodeKnown who w.calls m (node_at m w)) →
+    slice_get w.sent k ≡ Some s → record_in s.frame.msg ≡ Some (db, key) → IsPlain era.number s.frame → s.frame.generation ≡ era.number → has_records (kind_at c db) ≡ true → Asks (scene c era rules db key) (project era.number db key w) →
+    (at_record c s.frame.receiver db key (λ at o. arrive at rules s.frame.sender s.frame.msg o) (begins (node_at s.frame.receiver w))).spent ≡ false →
+    (ev : Event) × Comes_to c era rules who w.calls s.frame.receiver db key (event.Arrive s.frame.sender s.frame.msg) (begins (node_at s.frame.receiver w)) (pending w) (waiting_call (state_at db key (node_at s.frame.receiver w)).wish) (project era.number db key w) ev
+unfolding KnownAt state_at node.view
+delivery_comes c era rules who w k s db key small h all at r plain now kind asks spent =
+    let n = s.frame.receiver in
+    let t = begins (node_at n w) in
+    let inside = has_place c db kind in
+    let sound = of_plain era.number s.frame (db, key) plain r now in
+    let mail = mail_there era.number db key w.sent k s at now r in (
+      Comes mail.0,
+      record {
+        has = small db inside;
+        there = subst (λ (l : ℕ). db < l) (sym h.size) inside;
+        may = mail_comes (scene c era rules db key) n (view db key (node_at n w)) _ sound;
+        from = sound.sender;
+        whole = whole_part c n db key (λ at o. arrive at rules s.frame.sender s.frame.msg o) t spent;
+        known = arrive_wish (Known who w.calls n db key) (place_of c n db key (node_at n w)) rules s.frame.sender s.frame.msg (node.view db key (node_at n w)) ((h.known.dbs db).records key);
+        waits = arrive_wish (Of_records c db key) (place_of c n db key (node_at n w)) rules s.frame.sender s.frame.msg (node.view db key (node_at n w)) (h.waits db key);
+        finds = finds_waiting who w.calls n db key w all;
+        lawful = subst (λ (v : World). Asks (scene c era rules db key) v) (begun era.number db key n w) asks;
+        is_event = comes_happen c era rules n db mail.0 s.frame.sender key s.frame.msg t (project era.number db key w) h.knows (longer (mails era.number db key w.sent) _ mail.0 _ mail.1);
+      },
+    )
+
 -- A message of a record that was sent comes to its receiver, which follows it: the receiver stays as it was, and the world of
 -- every record follows.
 pub delivers : (c : Config) (era : Era) (rules : Rules) (who : Callers) (w : Cluster) (k : ℕ) (s : Sent) (db0 : ℕ) (key0 : List ℕ) → IsEra c era → ((db : ℕ) → db < length c.dbs → is_db db ≡ true) →
@@ -107,26 +134,11 @@ pub delivers : (c : Config) (era : Era) (rules : Rules) (who : Callers) (w : Clu
     (is_current s.frame (node_at s.frame.receiver w) && has_records (kind_at c db0)) ≡ true → Asks (scene c era rules db0 key0) (project era.number db0 key0 w) →
     (arrives c rules s.frame.receiver s.frame (begins (node_at s.frame.receiver w)) s.frame.msg).spent ≡ false →
     Goes_on c era rules who w.calls s.frame.receiver (pending w) (λ db key. project era.number db key w) (begins (node_at s.frame.receiver w)) (arrives c rules s.frame.receiver s.frame (begins (node_at s.frame.receiver w)) s.frame.msg)
-unfolding KnownAt state_at node.view
 delivers c era rules who w k s db0 key0 real small member h all at r plain ok asks spent =
     let n = s.frame.receiver in
     let t = begins (node_at n w) in
     let is = arrives_at c rules n s.frame t db0 key0 r ok in
     let parts = and_parts (is_current s.frame (node_at n w)) (has_records (kind_at c db0)) ok in
-    let inside = has_place c db0 parts.1 in
-    let now = current_here c era rules who w.calls n s.frame (node_at n w) h parts.0 in
-    let sound = of_plain era.number s.frame (db0, key0) plain r now in
-    let mail = mail_there era.number db0 key0 w.sent k s at now r in
+    let comes = delivery_comes c era rules who w k s db0 key0 small h all at r plain (current_here c era rules who w.calls n s.frame (node_at n w) h parts.0) parts.1 asks (sym (ap (λ (u : Turn). u.spent) is) ∙ spent) in
     subst (λ (u : Turn). Goes_on c era rules who w.calls n (pending w) (λ db key. project era.number db key w) t u) (sym is)
-    (follows c era rules who w.calls n db0 key0 (event.Arrive s.frame.sender s.frame.msg) t (pending w) (waiting_call (state_at db0 key0 (node_at n w)).wish) (λ db key. project era.number db key w) (Comes mail.0) real member h (record {
-      has = small db0 inside;
-      there = subst (λ (l : ℕ). db0 < l) (sym h.size) inside;
-      may = mail_comes (scene c era rules db0 key0) n (view db0 key0 (node_at n w)) _ sound;
-      from = sound.sender;
-      whole = whole_part c n db0 key0 (λ at o. arrive at rules s.frame.sender s.frame.msg o) t (sym (ap (λ (u : Turn). u.spent) is) ∙ spent);
-      known = arrive_wish (Known who w.calls n db0 key0) (place_of c n db0 key0 (node_at n w)) rules s.frame.sender s.frame.msg (node.view db0 key0 (node_at n w)) ((h.known.dbs db0).records key0);
-      waits = arrive_wish (Of_records c db0 key0) (place_of c n db0 key0 (node_at n w)) rules s.frame.sender s.frame.msg (node.view db0 key0 (node_at n w)) (h.waits db0 key0);
-      finds = finds_waiting who w.calls n db0 key0 w all;
-      lawful = subst (λ (v : World). Asks (scene c era rules db0 key0) v) (begun era.number db0 key0 n w) asks;
-      is_event = comes_happen c era rules n db0 mail.0 s.frame.sender key0 s.frame.msg t (project era.number db0 key0 w) h.knows (longer (mails era.number db0 key0 w.sent) _ mail.0 _ mail.1);
-    }))
+    (follows c era rules who w.calls n db0 key0 (event.Arrive s.frame.sender s.frame.msg) t (pending w) (waiting_call (state_at db0 key0 (node_at n w)).wish) (λ db key. project era.number db key w) comes.0 real member h comes.1)

@@ -31,7 +31,7 @@ use Rattle.ct_law_world.specs.Labels as law
 use Rattle.ct_law_world.specs.World.{Scene, World, Event, LeadsTo, last, trace, happens, put, place, starts, view_of, told, sent, waiting_call, own_call, Stepped}
 use Rattle.ct_law_generation.specs.Shown.{Era, scene, view, project, AllAsked, Finds, amid, Follows, Schedules}
 use Rattle.ct_law_generation.proofs.Plain.{AllPlain, plain_more, plain_sends}
-use Rattle.ct_law_generation.proofs.Hearing.{frames_more, accepts_asked, asked_left, asked_right}
+use Rattle.ct_law_generation.proofs.Hearing.{frames_more, accepts_asked, asked_left, asked_right, list_more}
 use Rattle.ct_law_generation.proofs.Speaking.{Told, move_told}
 use Rattle.ct_law_generation.proofs.Wishing.{Wishful}
 use Rattle.ct_law_generation.proofs.Pending.{Callers, is_call, Known, KnownAt, NodeKnown, answered_as, pending_fits, pending_has}
@@ -39,10 +39,6 @@ use Rattle.ct_law_generation.proofs.Forming.{Is_formed, Is_sound_mail, formed_mo
 use Rattle.ct_law_generation.proofs.Amid.{Fair, put_world, place_is}
 use Rattle.ct_law_generation.proofs.Staying.{NodeStays, Of_records, of_era, Sure, stays_at}
 use Rattle.ct_law_generation.proofs.Events.{each_follows}
-
-list_more : {X : Type 0} (xs ys zs : List X) → xs ++ (ys ++ zs) ≡ (xs ++ ys) ++ zs
-list_more [] ys zs = refl
-list_more (x ∷ xs) ys zs = ap (λ (l : List _). x ∷ l) (list_more xs ys zs)
 
 -- ---- the law says that all answers were asked for
 

@@ -116,7 +116,7 @@ frames_more (out.Send f ∷ xs) ys = ap (λ (l : List Sent). record { frame = f;
 frames_more (out.Answer call a ∷ xs) ys = frames_more xs ys
 frames_more (out.Note x ∷ xs) ys = frames_more xs ys
 
-list_more : {X : Type 0} (xs ys zs : List X) → xs ++ (ys ++ zs) ≡ (xs ++ ys) ++ zs
+pub list_more : {X : Type 0} (xs ys zs : List X) → xs ++ (ys ++ zs) ≡ (xs ++ ys) ++ zs
 list_more [] ys zs = refl
 list_more (x ∷ xs) ys zs = ap (λ (l : List _). x ∷ l) (list_more xs ys zs)
 
@@ -167,7 +167,7 @@ mails_same at g me (act.Send receiver m ∷ xs) h =
 mails_same at g me (act.Answer call a ∷ xs) h = mails_same at g me xs h.1
 mails_same at g me (act.Finished floor ∷ xs) h = mails_same at g me xs h.1
 
-other_not : (a b : Bool) → b ≡ false → (a && b) ≡ false
+pub other_not : (a b : Bool) → b ≡ false → (a && b) ≡ false
 other_not true b e = e
 other_not false b e = refl
 

@@ -48,12 +48,9 @@ use Rattle.ct_law_generation.proofs.Committed.{filter_more, own_untold, commit_b
 use Rattle.ct_law_generation.proofs.Assembled.{Starts, Run_goes, Taken_goes, runs, lines_tell, client_turn, counted_calls, lock_taken, read_taken, write_taken, apply_taken, store_taken, unlock_taken}
 use Rattle.ct_register.specs.Lines.{Lines}
 use Rattle.ct_law_generation.proofs.Kept.{client_tells}
+use Rattle.ct_lcp2.proofs.Choices.{all_append}
 
 -- ---- what a call tells
-
-all_more : {X : Type 0} (P : X → Type 0) (xs ys : List X) → AllByRecursion P xs → AllByRecursion P ys → AllByRecursion P (xs ++ ys)
-all_more P [] ys h k = k
-all_more P (x ∷ xs) ys h k = (h.0, all_more P xs ys h.1 k)
 
 -- that a commit begins is left out
 begun_left_out : (c : Config) (n : ℕ) (o : ClientOp) (lines : List Line) → record_labels c (traces.begun_by n o lines) ≡ []
@@ -85,7 +82,7 @@ call_tells c w v n o u x is =
     ∙ ap (λ (y : Stepped). record_labels c (line_labels s calls y.lines)) is
     ∙ ap (λ (l : List Label). record_labels c l) (lines_tell s calls n _ u.outs)
 
--- a call by which the cluster goes on, where all that it tells of records is of line 1
+-- a call by which the cluster goes on, where all that it tells of records is of the line
 call_taken : (c : Config) (era : Era) (rules : Rules) (reg : Lines) (w : Cluster) (ls : List Label) (n : ℕ) (o : ClientOp) → AllByRecursion (IsOfLine c era.number reg) (told_by_call c rules w n o) →
     ((who : Callers) (es : ℕ → List ℕ → List law.Event) → ClusterStays c era rules who w → Schedules c era rules w ls es → is_up n w ≡ true →
     Cluster_goes c era rules (called_by n o w who) (put n (client_turn c rules w n o) [] (counted w)).cluster (ls ++ told_by_call c rules w n o)) →
@@ -100,7 +97,7 @@ call_taken c era rules reg w ls n o own goes h x ok e =
     (record {
       who = called_by n o w h.who;
       goes = goes h.who h.goes.1 h.goes.0 h.goes.2 (runs c w n _ ok);
-      own = all_more (IsOfLine c era.number reg) ls (told_by_call c rules w n o) h.own own;
+      own = all_append (IsOfLine c era.number reg) ls (told_by_call c rules w n o) h.own own;
     }))
 
 -- ---- a call that is refused

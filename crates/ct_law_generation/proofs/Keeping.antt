@@ -1,70 +1,38 @@
 -- What a message of a record tells, and what a vacuum tells, is of records of the line.
-use Rattle.std.proofs.Common.{◌≡◌, ℕ, ◌<◌, true, false, List, [], ◌∷◌, length, Some, refl, sym, ap, ◌∙◌, subst, ⊎_elim}
-use Rattle.std.specs.Prelude.{Contains, slice_get, ◌&&◌}
+use Rattle.std.proofs.Common.{◌≡◌, ℕ, ◌<◌, true, false, List, [], ◌∷◌, length, Some, sym, ap, ◌∙◌, subst, ⊎_elim}
+use Rattle.std.specs.Prelude.{slice_get, ◌&&◌}
 use Rattle.std.proofs.lemmas.Bool.{cond_both, and_parts}
 use Rattle.ct_msg.specs.declared.config.Config.{Config}
-use Rattle.ct_frame.specs.Fields.{is_db}
 use Rattle.ct_call.specs.Rules.{Rules}
-use Rattle.ct_deleg.specs.Tracked.{Ascends}
 use Rattle.ct_store.specs.Map.{Pairs}
-use Rattle.ct_rules.specs.Moves.{arrive}
 use Rattle.ct_rules.specs.declared.event.MoveEvent.TheVariants as event
 use Rattle.ct_rules.specs.declared.state.RecState.{RecState}
 use Rattle.ct_rules_node.specs.Node.{db_at, state_at, has_records, kind_at, is_serving, without}
 use Rattle.ct_rules_node.specs.Turn.{Turn, begins}
-use Rattle.ct_rules_node.specs.Records as node
-use Rattle.ct_rules_node.specs.Records.{at_record, place_of}
+use Rattle.ct_rules_node.specs.Records.{at_record}
 use Rattle.ct_rules_node.specs.Admission.{record_in, is_current}
 use Rattle.ct_rules_node.specs.Steps.{arrives, vacuum_all, vacuums}
 use Rattle.ct_cluster.specs.Cluster.{Cluster, Sent, is_up, node_at, pending}
 use Rattle.ct_cluster.specs.Labels.{Label}
 use Rattle.ct_cluster.specs.declared.step.PendingCall.{PendingCall}
-use Rattle.ct_law_world.specs.World.{World, Event, Comes, Vacuums, waiting_call}
-use Rattle.ct_law_generation.specs.Shown.{Era, scene, view, mails, project, amid, labels_of}
+use Rattle.ct_law_world.specs.World.{World, Vacuums, waiting_call}
+use Rattle.ct_law_generation.specs.Shown.{Era, scene, project, amid, labels_of}
 use Rattle.ct_law_generation.proofs.Weave.{true_or_false}
-use Rattle.ct_law_generation.proofs.Wishing.{arrive_wish, vacuum_wish}
-use Rattle.ct_law_generation.proofs.Pending.{Callers, Known, KnownAt, NodeKnown}
-use Rattle.ct_law_generation.proofs.Forming.{mail_comes}
-use Rattle.ct_law_generation.proofs.Staying.{NodeStays, Of_records}
-use Rattle.ct_law_generation.proofs.Events.{arrives_at, arrives_not, comes_happen}
-use Rattle.ct_law_generation.proofs.Following.{Asks, Comes_to, Goes_on, follows, finds_waiting, IsEra, asks_here}
-use Rattle.ct_law_generation.proofs.Delivering.{begun, whole_part, has_place, mail_there, longer, current_here}
+use Rattle.ct_law_generation.proofs.Pending.{Callers}
+use Rattle.ct_law_generation.proofs.Staying.{AllWishes}
+use Rattle.ct_law_generation.proofs.Events.{arrives_at, arrives_not}
+use Rattle.ct_law_generation.proofs.Following.{Asks, Goes_on, follows, finds_waiting, asks_here}
+use Rattle.ct_law_generation.proofs.Delivering.{begun, has_place, current_here, delivery_comes}
 use Rattle.ct_law_generation.proofs.Clusters.{all_known}
-use Rattle.ct_law_generation.proofs.Vacuumed.{AllWaited, vacuumed, others_come, waited_finds, finds_waited, vacuums_happen, waited_on, whole_before, asks_amid, goes_more, goes_nowhere}
+use Rattle.ct_law_generation.proofs.Vacuumed.{Found, vacuumed, vacuum_comes, finds_waited, waited_on, whole_before, asks_amid, goes_more}
 use Rattle.ct_law_generation.proofs.Assembled.{Starts, Run_goes, Tells}
 use Rattle.ct_law_generation.proofs.Kept.{event_kept}
-use Rattle.ct_law_generation.proofs.Plain.{IsPlain, plain_at, of_plain}
+use Rattle.ct_law_generation.proofs.Plain.{plain_at}
 use Rattle.ct_register.specs.Lines.{Lines}
 use Rattle.ct_register.specs.Words.{is_in}
+use Rattle.ct_law_generation.proofs.Coming.{goes_nowhere}
 
 -- ---- a message of a record
-
--- the message is an event at its record
-delivery_comes : (c : Config) (era : Era) (rules : Rules) (who : Callers) (w : Cluster) (k : ℕ) (s : Sent) (db : ℕ) (key : List ℕ) → ((d : ℕ) → d < length c.dbs → is_db d ≡ true) → NodeStays c era rules who w.calls s.frame.receiver (node_at s.frame.receiver w) → ((m : ℕ) → NodeKnown who w.calls m (node_at m w)) →
-    slice_get w.sent k ≡ Some s → record_in s.frame.msg ≡ Some (db, key) → IsPlain era.number s.frame → s.frame.generation ≡ era.number → has_records (kind_at c db) ≡ true → Asks (scene c era rules db key) (project era.number db key w) →
-    (at_record c s.frame.receiver db key (λ at o. arrive at rules s.frame.sender s.frame.msg o) (begins (node_at s.frame.receiver w))).spent ≡ false →
-    (ev : Event) × Comes_to c era rules who w.calls s.frame.receiver db key (event.Arrive s.frame.sender s.frame.msg) (begins (node_at s.frame.receiver w)) (pending w) (waiting_call (state_at db key (node_at s.frame.receiver w)).wish) (project era.number db key w) ev
-unfolding KnownAt state_at node.view
-delivery_comes c era rules who w k s db key small h all at r plain now kind asks spent =
-    let n = s.frame.receiver in
-    let t = begins (node_at n w) in
-    let inside = has_place c db kind in
-    let sound = of_plain era.number s.frame (db, key) plain r now in
-    let mail = mail_there era.number db key w.sent k s at now r in (
-      Comes mail.0,
-      record {
-        has = small db inside;
-        there = subst (λ (l : ℕ). db < l) (sym h.size) inside;
-        may = mail_comes (scene c era rules db key) n (view db key (node_at n w)) _ sound;
-        from = sound.sender;
-        whole = whole_part c n db key (λ at o. arrive at rules s.frame.sender s.frame.msg o) t spent;
-        known = arrive_wish (Known who w.calls n db key) (place_of c n db key (node_at n w)) rules s.frame.sender s.frame.msg (node.view db key (node_at n w)) ((h.known.dbs db).records key);
-        waits = arrive_wish (Of_records c db key) (place_of c n db key (node_at n w)) rules s.frame.sender s.frame.msg (node.view db key (node_at n w)) (h.waits db key);
-        finds = finds_waiting who w.calls n db key w all;
-        lawful = subst (λ (v : World). Asks (scene c era rules db key) v) (begun era.number db key n w) asks;
-        is_event = comes_happen c era rules n db mail.0 s.frame.sender key s.frame.msg t (project era.number db key w) h.knows (longer (mails era.number db key w.sent) _ mail.0 _ mail.1);
-      },
-    )
 
 -- what its receiver tells, which follows it or drops it
 pub message_kept : (c : Config) (era : Era) (rules : Rules) (reg : Lines) (w : Cluster) (ls : List Label) (k : ℕ) (m : Sent) (r : ℕ × List ℕ) → Starts c era rules reg → Run_goes c era rules reg ls w → slice_get w.sent k ≡ Some m → is_up m.frame.receiver w ≡ true → record_in m.frame.msg ≡ Some r →
@@ -86,27 +54,9 @@ message_kept c era rules reg w ls k m r is h at up record_is spent =
 
 -- ---- a vacuum
 
--- a vacuum of one record is an event at it
-vacuum_comes : (c : Config) (era : Era) (rules : Rules) (who : Callers) (calls n db : ℕ) (key : List ℕ) (pend : List PendingCall) (w : World) (t : Turn) → IsEra c era → is_db db ≡ true → NodeStays c era rules who calls n t.node → db < length t.node.dbs → AllWaited db n pend t.node →
-    Asks (scene c era rules db key) (amid era.number db key n w t) → (at_record c n db key (vacuumed n t) t).spent ≡ false →
-    Comes_to c era rules who calls n db key (event.Vacuum (without n t.node.members)) t pend (waiting_call (state_at db key t.node).wish) w (Vacuums n)
-unfolding KnownAt state_at node.view
-vacuum_comes c era rules who calls n db key pend w t is small h there all asks spent = record {
-  has = small;
-  there = there;
-  may = subst (λ (ms : List ℕ). Ascends (without n ms) × ¬ (Contains (without n ms) n)) (sym h.knows) (others_come era.members n is.ascend);
-  from = refl;
-  whole = whole_part c n db key (vacuumed n t) t spent;
-  known = vacuum_wish (Known who calls n db key) (place_of c n db key t.node) (without n t.node.members) (node.view db key t.node) ((h.known.dbs db).records key);
-  waits = vacuum_wish (Of_records c db key) (place_of c n db key t.node) (without n t.node.members) (node.view db key t.node) (h.waits db key);
-  finds = waited_finds db key n pend (state_at db key t.node).wish (all key);
-  lawful = asks;
-  is_event = vacuums_happen c era rules n db key t w h.knows;
-}
-
 -- at every record of the database: from a turn t0 on, from which the step came to t
 all_kept : (c : Config) (era : Era) (rules : Rules) (reg : Lines) (who : Callers) (calls n db : ℕ) (m : Pairs RecState) (pend : List PendingCall) (ws : ℕ → List ℕ → World) (t0 t : Turn) → Starts c era rules reg → is_in n era.members ≡ true → has_records (kind_at c db) ≡ true →
-    ((key : List ℕ) → Asks (scene c era rules db key) (amid era.number db key n (ws db key) t0)) → AllWaited db n pend t.node → Goes_on c era rules who calls n pend ws t0 t → Tells c era reg n pend t → (vacuum_all c n db m t).spent ≡ false → Tells c era reg n pend (vacuum_all c n db m t)
+    ((key : List ℕ) → Asks (scene c era rules db key) (amid era.number db key n (ws db key) t0)) → AllWishes (Found n pend) t.node → Goes_on c era rules who calls n pend ws t0 t → Tells c era reg n pend t → (vacuum_all c n db m t).spent ≡ false → Tells c era reg n pend (vacuum_all c n db m t)
 unfolding vacuum_all
 all_kept c era rules reg who calls n db [] pend ws t0 t is inside kind asks all g before spent = before
 all_kept c era rules reg who calls n db (x ∷ m) pend ws t0 t is inside kind asks all g before spent =
@@ -131,5 +81,5 @@ vacuum_kept c era rules reg w ls n db is h up kind spent =
     let ws : ℕ → List ℕ → World = λ db key. project era.number db key w in
     cond_both (is_serving t.node.phase) (vacuum_all c n db (db_at db t.node).records t) t (λ (u : Turn). u.spent ≡ false → Tells c era reg n (pending w) u)
     (λ _ whole. all_kept c era rules reg h.who w.calls n db (db_at db t.node).records (pending w) ws t t is inside kind (λ key. subst (λ (v : World). Asks (scene c era rules db key) v) (begun era.number db key n w) (asks_here c era rules w ls h.goes.1 is.era_is h.goes.2 db key))
-    (λ key. finds_waited db key n (pending w) (state_at db key t.node).wish (finds_waiting h.who w.calls n db key w (all_known c era rules h.who w h.goes.0))) (goes_nowhere c era rules h.who w.calls n (pending w) ws t stays) tt whole)
+    (λ db key. finds_waited db key n (pending w) (state_at db key t.node).wish (finds_waiting h.who w.calls n db key w (all_known c era rules h.who w h.goes.0))) (goes_nowhere c era rules h.who w.calls n (pending w) ws t stays) tt whole)
     (λ _ whole. tt) spent

@@ -1,6 +1,6 @@
 -- What a client's call on a record tells, where it is not refused, is of records of the line.
-use Rattle.std.proofs.Common.{◌≡◌, ℕ, ◌+◌, ◌<◌, true, false, List, [], ◌∷◌, ◌++◌, map, Option, None, refl, sym, ap, ◌∙◌, subst}
-use Rattle.std.specs.Prelude.{is_some, Ok}
+use Rattle.std.proofs.Common.{◌≡◌, ℕ, ◌+◌, true, false, List, [], ◌∷◌, ◌++◌, map, Option, None, refl, sym, ap, ◌∙◌, subst}
+use Rattle.std.specs.Prelude.{Ok}
 use Rattle.std.specs.List.{AllByRecursion}
 use Rattle.ct_msg.specs.declared.client.ClientOp.{ClientOp}
 use Rattle.ct_msg.specs.declared.client.ClientOp.TheVariants as op
@@ -8,15 +8,12 @@ use Rattle.ct_msg.specs.declared.config.Config.{Config}
 use Rattle.ct_frame.specs.declared.event.Out.{Out}
 use Rattle.ct_frame.specs.declared.event.Event.TheVariants as node_event
 use Rattle.ct_call.specs.Rules.{Rules}
-use Rattle.ct_rules.specs.Form.{MayCome}
-use Rattle.ct_rules.specs.Sent.{is_from_node}
-use Rattle.ct_rules.specs.Moves.{move, store, unlock}
+use Rattle.ct_rules.specs.Moves.{move}
 use Rattle.ct_rules.specs.Parts.{want}
 use Rattle.ct_rules.specs.declared.event.MoveEvent.{MoveEvent}
 use Rattle.ct_rules.specs.declared.event.MoveEvent.TheVariants as event
 use Rattle.ct_rules_node.specs.Node.{state_at, has_records, is_persistent, kind_at}
 use Rattle.ct_rules_node.specs.Turn.{Turn, begins, makes}
-use Rattle.ct_rules_node.specs.Records as node
 use Rattle.ct_rules_node.specs.Records.{out_of, acted, at_record, place_of}
 use Rattle.ct_rules_node.specs.Clients as clients
 use Rattle.ct_rules_node.specs.Clients.{refusal, serves, no_such_db}
@@ -29,17 +26,13 @@ use Rattle.ct_cluster.specs.Steps.{Stepped, steps}
 use Rattle.ct_cluster.specs.declared.step.PendingCall.{PendingCall}
 use Rattle.ct_cluster.specs.declared.step.Step.TheVariants as step
 use Rattle.ct_register.specs.Legal.{db_of, key_of}
-use Rattle.ct_law_world.specs.World.{World, Event, Wants, Stores, Unlocks, happens, put, place, own_call, may_want}
-use Rattle.ct_law_generation.specs.Shown.{Era, scene, view, project, amid, labels_of}
-use Rattle.ct_law_generation.proofs.Wishing.{Wishful, want_wish, store_wish, unlock_wish}
+use Rattle.ct_law_world.specs.World.{World, Event, Wants, Stores, Unlocks, own_call, may_want}
+use Rattle.ct_law_generation.specs.Shown.{Era, project, labels_of}
 use Rattle.ct_law_generation.proofs.Hearing.{labels_more}
-use Rattle.ct_law_generation.proofs.Pending.{Callers, Known}
-use Rattle.ct_law_generation.proofs.Forming.{may_want_comes}
-use Rattle.ct_law_generation.proofs.Staying.{NodeStays, Of_records, phase_of}
-use Rattle.ct_law_generation.proofs.Events.{wants_happen, stores_happen, unlocks_happen}
-use Rattle.ct_law_generation.proofs.Following.{Comes_to, fair, Asks}
-use Rattle.ct_law_generation.proofs.Delivering.{begun, whole_part, has_place}
-use Rattle.ct_law_generation.proofs.Calling.{own_pending, Calls_at, finds_own, wished_before}
+use Rattle.ct_law_generation.proofs.Pending.{Callers}
+use Rattle.ct_law_generation.proofs.Staying.{NodeStays, phase_of}
+use Rattle.ct_law_generation.proofs.Following.{Comes_to, fair}
+use Rattle.ct_law_generation.proofs.Calling.{own_pending, Calls_at, wants_come, stores_come, unlocks_come}
 use Rattle.ct_law_generation.proofs.Called.{counted, called_by, calls_at}
 use Rattle.ct_law_generation.proofs.Admitted.{admits, may_lock, may_read, may_write, may_apply, may_store, may_unlock}
 use Rattle.ct_law_generation.proofs.Served.{client_serves, call_kind, serves_lock, serves_read, serves_write, serves_apply, serves_store, serves_unlock}
@@ -50,16 +43,13 @@ use Rattle.ct_law_generation.proofs.Fed.{fed_is}
 use Rattle.ct_law_generation.proofs.Assembled.{Starts, Run_goes, Tells, client_turn, runs}
 use Rattle.ct_register.specs.Lines.{Lines}
 use Rattle.ct_register.specs.Words.{is_in}
+use Rattle.ct_lcp2.proofs.Choices.{all_append}
 
 -- ---- a step at one record
 
-both_kept : (P : Label → Type 0) (xs ys : List Label) → AllByRecursion P xs → AllByRecursion P ys → AllByRecursion P (xs ++ ys)
-both_kept P [] ys h k = k
-both_kept P (x ∷ xs) ys h k = (h.0, both_kept P xs ys h.1 k)
-
 pub tells_more : (c : Config) (era : Era) (reg : Lines) (n : ℕ) (pend : List PendingCall) (xs ys : List Out) → AllByRecursion (Is_fit c era.number reg) (labels_of n pend xs) → AllByRecursion (Is_fit c era.number reg) (labels_of n pend ys) →
     AllByRecursion (Is_fit c era.number reg) (labels_of n pend (xs ++ ys))
-tells_more c era reg n pend xs ys h k = subst (λ (l : List Label). AllByRecursion (Is_fit c era.number reg) l) (sym (labels_more n pend xs ys)) (both_kept (Is_fit c era.number reg) (labels_of n pend xs) (labels_of n pend ys) h k)
+tells_more c era reg n pend xs ys h k = subst (λ (l : List Label). AllByRecursion (Is_fit c era.number reg) l) (sym (labels_more n pend xs ys)) (all_append (Is_fit c era.number reg) (labels_of n pend xs) (labels_of n pend ys) h k)
 
 -- what the node tells stays of records of the line over an event at a record
 pub event_kept : (c : Config) (era : Era) (rules : Rules) (reg : Lines) (who : Callers) (calls n db : ℕ) (key : List ℕ) (e : MoveEvent) (t : Turn) (pend : List PendingCall) (asks : ℕ → Option ClientOp) (w : World) (ev : Event) → Starts c era rules reg → is_in n era.members ≡ true → has_records (kind_at c db) ≡ true →
@@ -70,62 +60,6 @@ event_kept c era rules reg who calls n db key e t pend asks w ev is inside kind 
     let o = left_by c n db key (λ at o. move at rules e o) t in
     tells_more c era reg n pend t.outs (map (out_of t.node.generation n db key) o.acts) before
     (kept_fit c era.number reg _ (labels_kept c era.number reg (place_of c n db key t.node) t.node.generation n pend asks o.acts (is.line n inside) (of_records c db kind) f.sends f.finds f.asked))
-
--- ---- a call comes to its record
-
--- the call is an event at the record
-call_comes : (c : Config) (era : Era) (rules : Rules) (who : Callers) (calls n db call : ℕ) (key : List ℕ) (asked : ClientOp) (w : Cluster) (e : MoveEvent) (ev : Event) → Calls_at c era rules who calls n db call key asked w →
-    MayCome (place (scene c era rules db key) n (view db key (node_at n w))) (state_at db key (node_at n w)) e → is_from_node e ≡ true →
-    Wishful (Known who calls n db key) (left_by c n db key (λ at o. move at rules e o) (begins (node_at n w))).state.wish → Wishful (Of_records c db key) (left_by c n db key (λ at o. move at rules e o) (begins (node_at n w))).state.wish →
-    happens (scene c era rules db key) (amid era.number db key n (project era.number db key w) (begins (node_at n w))) ev ≡ put (scene c era rules db key) (amid era.number db key n (project era.number db key w) (begins (node_at n w))) n (own_call call asked) (left_by c n db key (λ at o. move at rules e o) (begins (node_at n w))) →
-    (at_record c n db key (λ at o. move at rules e o) (makes call (begins (node_at n w)))).spent ≡ false →
-    Comes_to c era rules who calls n db key e (makes call (begins (node_at n w))) (own_pending n call asked ∷ pending w) (own_call call asked) (project era.number db key w) ev
-unfolding makes
-call_comes c era rules who calls n db call key asked w e ev h may from known waits is spent = record {
-  has = h.small;
-  there = subst (λ (l : ℕ). db < l) (sym h.stays.size) (has_place c db h.kind);
-  may = may;
-  from = from;
-  whole = whole_part c n db key (λ at o. move at rules e o) (makes call (begins (node_at n w))) spent;
-  known = known;
-  waits = waits;
-  finds = finds_own n db call key asked (pending w) h.of_db h.of_key;
-  lawful = subst (λ (v : World). Asks (scene c era rules db key) v) (begun era.number db key n w) h.lawful;
-  is_event = is;
-}
-
--- a lock, a read, a write or a function
-wants_come : (c : Config) (era : Era) (rules : Rules) (who : Callers) (calls n db call : ℕ) (key : List ℕ) (asked : ClientOp) (w : Cluster) → Calls_at c era rules who calls n db call key asked w →
-    may_want (state_at db key (node_at n w)) asked ≡ true → (at_record c n db key (λ at o. want at rules call asked o) (makes call (begins (node_at n w)))).spent ≡ false →
-    Comes_to c era rules who calls n db key (event.Want call asked) (makes call (begins (node_at n w))) (own_pending n call asked ∷ pending w) (own_call call asked) (project era.number db key w) (Wants n call asked)
-unfolding node.view Known
-wants_come c era rules who calls n db call key asked w h may spent =
-    call_comes c era rules who calls n db call key asked w (event.Want call asked) (Wants n call asked) h (may_want_comes (scene c era rules db key) n call (view db key (node_at n w)) asked may) refl
-    (want_wish (Known who calls n db key) (place_of c n db key (node_at n w)) rules call asked (node.view db key (node_at n w)) (h.own, h.counted, h.of_db, h.of_key) (wished_before c era rules who calls n db call key asked w h))
-    (want_wish (Of_records c db key) (place_of c n db key (node_at n w)) rules call asked (node.view db key (node_at n w)) h.kind (h.stays.waits db key))
-    (wants_happen c era rules n db call key asked (begins (node_at n w)) (project era.number db key w) h.stays.knows may) spent
-
--- a store
-stores_come : (c : Config) (era : Era) (rules : Rules) (who : Callers) (calls n db call : ℕ) (key v : List ℕ) (w : Cluster) → Calls_at c era rules who calls n db call key (op.Store db key v) w →
-    is_some (state_at db key (node_at n w)).locked ≡ true → (at_record c n db key (λ at o. store call v o) (makes call (begins (node_at n w)))).spent ≡ false →
-    Comes_to c era rules who calls n db key (event.Store call v) (makes call (begins (node_at n w))) (own_pending n call (op.Store db key v) ∷ pending w) (own_call call (op.Store db key v)) (project era.number db key w) (Stores n call v)
-unfolding node.view
-stores_come c era rules who calls n db call key v w h locked spent =
-    call_comes c era rules who calls n db call key (op.Store db key v) w (event.Store call v) (Stores n call v) h locked refl
-    (store_wish (Known who calls n db key) call v (node.view db key (node_at n w)) (wished_before c era rules who calls n db call key (op.Store db key v) w h))
-    (store_wish (Of_records c db key) call v (node.view db key (node_at n w)) (h.stays.waits db key))
-    (stores_happen c era rules n db call key v (begins (node_at n w)) (project era.number db key w) h.stays.knows locked) spent
-
--- an unlock
-unlocks_come : (c : Config) (era : Era) (rules : Rules) (who : Callers) (calls n db call : ℕ) (key : List ℕ) (w : Cluster) → Calls_at c era rules who calls n db call key (op.Unlock db key) w →
-    is_some (state_at db key (node_at n w)).locked ≡ true → (at_record c n db key (λ at o. unlock at call o) (makes call (begins (node_at n w)))).spent ≡ false →
-    Comes_to c era rules who calls n db key (event.Unlock call) (makes call (begins (node_at n w))) (own_pending n call (op.Unlock db key) ∷ pending w) (own_call call (op.Unlock db key)) (project era.number db key w) (Unlocks n call)
-unfolding node.view
-unlocks_come c era rules who calls n db call key w h locked spent =
-    call_comes c era rules who calls n db call key (op.Unlock db key) w (event.Unlock call) (Unlocks n call) h locked refl
-    (unlock_wish (Known who calls n db key) (place_of c n db key (node_at n w)) call (node.view db key (node_at n w)) (wished_before c era rules who calls n db call key (op.Unlock db key) w h))
-    (unlock_wish (Of_records c db key) (place_of c n db key (node_at n w)) call (node.view db key (node_at n w)) (h.stays.waits db key))
-    (unlocks_happen c era rules n db call key (begins (node_at n w)) (project era.number db key w) h.stays.knows locked) spent
 
 -- ---- what the call tells
 

@@ -26,7 +26,6 @@ pub mod Lining
 pub mod Refused
 pub mod Fed
 pub mod Delivered
-pub mod Concluding
 pub mod Vacuumed
 pub mod Configured
 pub mod Locked

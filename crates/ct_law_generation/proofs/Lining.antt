@@ -96,10 +96,6 @@ unfolding Is_fit
 kept_fit config line r [] h = tt
 kept_fit config line r (x ∷ xs) h = (inl h.0, kept_fit config line r xs h.1)
 
-pub fit_more : (config : Config) (line : ℕ) (r : Lines) (xs ys : List Label) → AllByRecursion (Is_fit config line r) xs → AllByRecursion (Is_fit config line r) ys → AllByRecursion (Is_fit config line r) (xs ++ ys)
-fit_more config line r [] ys h k = k
-fit_more config line r (x ∷ xs) ys h k = (h.0, fit_more config line r xs ys h.1 k)
-
 first_own : (config : Config) (line : ℕ) (r : Lines) (x : Label) (rest : List Label) → Is_fit config line r x → AllByRecursion (IsOfLine config line r) rest → AllByRecursion (IsOfLine config line r) (cond (speaks_of_records config x) (x ∷ rest) rest)
 unfolding Is_fit
 first_own config line r x rest h k = ⊎_elim

@@ -22,6 +22,7 @@ use Rattle.ct_cluster.specs.Traces.{answered}
 use Rattle.ct_cluster.specs.declared.step.PendingCall.{PendingCall}
 use Rattle.ct_register.specs.Legal.{db_of, key_of}
 use Rattle.ct_law_generation.proofs.Wishing.{Wishful}
+use Rattle.ct_lcp2.proofs.Choices.{all_append}
 
 -- who made each call, and what it asked
 abbrev pub Callers : Type 0
@@ -74,10 +75,6 @@ numbered_any : (f : PendingCall → Bool) (xs : List PendingCall) → list_any f
 unfolding by_number
 numbered_any f [] = refl
 numbered_any f (x ∷ xs) = ranked_any f x (by_number xs) ∙ ap (λ (b : Bool). f x || b) (numbered_any f xs)
-
-both_all : (P : PendingCall → Type 0) (xs ys : List PendingCall) → AllByRecursion P xs → AllByRecursion P ys → AllByRecursion P (xs ++ ys)
-both_all P [] ys h k = k
-both_all P (x ∷ xs) ys h k = (h.0, both_all P xs ys h.1 k)
 
 left_case : (b d e : Bool) → (d ≡ true → e ≡ true) → (b || d) ≡ true → (b || e) ≡ true
 left_case true d e f k = refl
@@ -141,7 +138,7 @@ none_known who calls n db key = tt
 records_fit : (who : Callers) (calls n db : ℕ) (m : Pairs RecState) → Ascends m → ((key : List ℕ) → KnownAt who calls n db key (look key m)) → AllByRecursion (Fits who) (wished_in n m)
 unfolding wished_in IsStrictlySortedBy KnownAt or_nothing Wishful
 records_fit who calls n db [] h all = tt
-records_fit who calls n db (e ∷ m) h all = both_all (Fits who) (wished n e.1.wish) (wished_in n m)
+records_fit who calls n db (e ∷ m) h all = all_append (Fits who) (wished n e.1.wish) (wished_in n m)
     (one (look_head (KnownAt who calls n db) e m all))
     (records_fit who calls n db m h.1 (look_tail (KnownAt who calls n db) e m h (none_known who calls n db) all))
   where
@@ -183,8 +180,8 @@ unfolding pending_in AllAscend or_untouched
 node_fits who calls n i [] h all = tt
 node_fits who calls n i (d ∷ ds) h all =
     let first : DatabaseKnown who calls n i d = subst (λ (j : ℕ). DatabaseKnown who calls n j d) (omega arith) (all 0) in
-    both_all (Fits who) (wished_in n d.records ++ committing n i d.commit) (pending_in n (i + 1) ds)
-    (both_all (Fits who) (wished_in n d.records) (committing n i d.commit) (records_fit who calls n i d.records h.0 first.records) (committing_fits who calls n i d.commit first.commit))
+    all_append (Fits who) (wished_in n d.records ++ committing n i d.commit) (pending_in n (i + 1) ds)
+    (all_append (Fits who) (wished_in n d.records) (committing n i d.commit) (records_fit who calls n i d.records h.0 first.records) (committing_fits who calls n i d.commit first.commit))
     (node_fits who calls n (i + 1) ds h.1 (λ k. subst (λ (j : ℕ). DatabaseKnown who calls n j (or_untouched (slice_get ds k))) (next_index i k) (all (suc k))))
 
 node_any : (n i k : ℕ) (ds : List Database) (key : List ℕ) (w : Wish) → (or_nothing (look key (or_untouched (slice_get ds k)).records)).wish ≡ Some w → list_any (is_call w.call) (pending_in n i ds) ≡ true
@@ -201,7 +198,7 @@ unfolding pending_from or_absent db_at
 nodes_fit who calls i [] all = tt
 nodes_fit who calls i (x ∷ ns) all =
     let first : NodeKnown who calls i x = subst (λ (j : ℕ). NodeKnown who calls j x) (omega arith) (all 0) in
-    both_all (Fits who) (pending_in i 0 x.dbs) (pending_from (i + 1) ns) (node_fits who calls i 0 x.dbs first.order (λ k. subst (λ (j : ℕ). DatabaseKnown who calls i j (or_untouched (slice_get x.dbs k))) (zero_more k) (first.dbs k)))
+    all_append (Fits who) (pending_in i 0 x.dbs) (pending_from (i + 1) ns) (node_fits who calls i 0 x.dbs first.order (λ k. subst (λ (j : ℕ). DatabaseKnown who calls i j (or_untouched (slice_get x.dbs k))) (zero_more k) (first.dbs k)))
     (nodes_fit who calls (i + 1) ns (λ k. subst (λ (j : ℕ). NodeKnown who calls j (or_absent (slice_get ns k))) (next_index i k) (all (suc k))))
 
 nodes_any : (i k db : ℕ) (ns : List Node) (key : List ℕ) (w : Wish) → (state_at db key (or_absent (slice_get ns k))).wish ≡ Some w → list_any (is_call w.call) (pending_from i ns) ≡ true

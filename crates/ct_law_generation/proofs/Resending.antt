@@ -1,5 +1,5 @@
 -- Retry of records: each has its Call sent again, and then its Revokes, once.
-use Rattle.std.proofs.Common.{◌≡◌, ◌≢◌, ℕ, zero, suc, ◌+◌, ◌<◌, ◌≤◌, Bool, true, false, cond, ◌&&◌, List, [], ◌∷◌, ◌++◌, append-nil, length, Option, Some, None, refl, sym, ap, ◌∙◌, arith, subst}
+use Rattle.std.proofs.Common.{◌≡◌, ◌≢◌, ℕ, zero, suc, ◌+◌, ◌<◌, ◌≤◌, Bool, true, false, cond, ◌&&◌, List, [], ◌∷◌, ◌++◌, append-nil, length, Option, Some, None, refl, sym, ap, ◌∙◌, arith, subst, append_assoc}
 use Rattle.std.specs.Prelude.{slice_get, nat_lt}
 use Rattle.std.specs.Ordering.{is_eq}
 use Rattle.std.specs.List.{filter}
@@ -38,7 +38,7 @@ use Rattle.ct_law_world.specs.Labels as law
 use Rattle.ct_law_world.specs.World.{View, World, Resends, place, starts, sent, told, answers, call_of, waiting_call, Stepped, put, happens}
 use Rattle.ct_law_generation.specs.Shown.{Era, scene, view, mails, told_by_all, heard, labels_of, amid, Comes_by}
 use Rattle.ct_law_generation.proofs.Pending.{Callers}
-use Rattle.ct_law_generation.proofs.Amid.{self, put_world}
+use Rattle.ct_law_generation.proofs.Amid.{if_same, self, put_world}
 use Rattle.ct_law_generation.proofs.Staying.{NodeStays}
 use Rattle.ct_law_generation.proofs.Following.{Goes_on}
 use Rattle.ct_law_generation.proofs.Retried.{more, calls_sent, revokes_sent, resend_is, sent_more, calls_untold, revokes_untold, calls_at, revokes_at, Retries_at, Passes, passes_more, calls_just, revokes_just, all_passes, all_mail}
@@ -235,14 +235,6 @@ resends_mail c era rules who calls n db key t r h =
     ∙ ap (λ (m : List Mail). mails era.number db key (frames_of u.outs) ++ m) (revoke_times n (place (scene c era rules db key) n v) _ _ (all_meets 0 db db key t.node.dbs (omega arith) h.known.order))
     ∙ ap (λ (m : List Mail). m ++ sent n (revokes_at c era rules n db key v)) first
 
-if_same : {X : Type 0} (b : Bool) (x y z : X) → cond b x (cond b y z) ≡ cond b x z
-if_same true x y z = refl
-if_same false x y z = refl
-
-list_more : {X : Type 0} (xs ys zs : List X) → (xs ++ ys) ++ zs ≡ xs ++ (ys ++ zs)
-list_more [] ys zs = refl
-list_more (x ∷ xs) ys zs = ap (λ (l : List _). x ∷ l) (list_more xs ys zs)
-
 -- what the world's Resend leaves
 abbrev resent : Config → Era → Rules → ℕ → ℕ → List ℕ → View → Moving
 resent c era rules n db key v = more (revokes_at c era rules n db key v) (more (calls_at c era rules n db key v) (starts v))
@@ -270,8 +262,8 @@ resends_follow c era rules who calls n pend db key w t member r h =
     let calls' = calls_at c era rules n db key v in
     let revokes' = revokes_at c era rules n db key v in
     let mail : (w.mail ++ mails era.number db key (frames_of t.outs)) ++ sent n (calls' ++ revokes') ≡ w.mail ++ mails era.number db key (frames_of u.outs)
-    = list_more w.mail (mails era.number db key (frames_of t.outs)) _ ∙ ap (λ (m : List Mail). w.mail ++ m)
-    (ap (λ (m : List Mail). mails era.number db key (frames_of t.outs) ++ m) (sent_more n calls' revokes') ∙ sym (list_more (mails era.number db key (frames_of t.outs)) (sent n calls') (sent n revokes')) ∙ sym (resends_mail c era rules who calls n db key t r h)) in
+    = append_assoc w.mail (mails era.number db key (frames_of t.outs)) _ ∙ ap (λ (m : List Mail). w.mail ++ m)
+    (ap (λ (m : List Mail). mails era.number db key (frames_of t.outs) ++ m) (sent_more n calls' revokes') ∙ sym (append_assoc (mails era.number db key (frames_of t.outs)) (sent n calls') (sent n revokes')) ∙ sym (resends_mail c era rules who calls n db key t r h)) in
     let untold : told n asks (calls' ++ revokes') ≡ [] = told_more n asks calls' revokes' (calls_untold n asks _ _) (revokes_untold n asks _ _) in
     record {
       world = ap (λ (x : Stepped). x.world) all ∙ (λ i. record { nodes = λ j. nodes j i; joined = λ _. true; mail = mail i });

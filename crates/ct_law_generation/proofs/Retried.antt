@@ -1,5 +1,5 @@
 -- Retry: what was not answered is sent again. A part that only sends leaves what a node has of every record.
-use Rattle.std.proofs.Common.{◌≡◌, ◌≢◌, ℕ, ◌<◌, length, arith, subst, ⊎_elim, Bool, true, false, cond, List, [], ◌∷◌, ◌++◌, map, Option, Some, None, refl, sym, ap, ◌∙◌}
+use Rattle.std.proofs.Common.{◌≡◌, ◌≢◌, ℕ, ◌<◌, length, arith, subst, ⊎_elim, Bool, true, false, cond, List, [], ◌∷◌, ◌++◌, map, Option, Some, None, refl, sym, ap, ◌∙◌, append_assoc}
 use Rattle.std.specs.Prelude.{nat_eq, ◌&&◌}
 use Rattle.ct_frame.specs.declared.frame.Msg.{Msg}
 use Rattle.ct_frame.specs.declared.frame.Msg.TheVariants as msg
@@ -55,10 +55,6 @@ use Rattle.ct_law_generation.proofs.Speaking.{call_again_told, revoke_again_told
 use Rattle.ct_law_generation.proofs.Forming.{sound_moves}
 use Rattle.ct_law_generation.proofs.Amid.{place_is}
 
-list_more : {X : Type 0} (xs ys zs : List X) → (xs ++ ys) ++ zs ≡ xs ++ (ys ++ zs)
-list_more [] ys zs = refl
-list_more (x ∷ xs) ys zs = ap (λ (l : List _). x ∷ l) (list_more xs ys zs)
-
 no_more : {X : Type 0} (xs : List X) → xs ++ [] ≡ xs
 no_more [] = refl
 no_more (x ∷ xs) = ap (λ (l : List _). x ∷ l) (no_more xs)
@@ -76,7 +72,7 @@ all_sent (n ∷ ns) m = act.Send n m ∷ all_sent ns m
 send_all_is : (ns : List ℕ) (m : Msg) (o : Moving) → send_all ns m o ≡ more (all_sent ns m) o
 unfolding send_all send acts all_sent
 send_all_is [] m o = ap (λ (l : List Act). record o { acts = l }) (sym (no_more o.acts))
-send_all_is (n ∷ ns) m o = send_all_is ns m (send n m o) ∙ ap (λ (l : List Act). record o { acts = l }) (list_more o.acts (act.Send n m ∷ []) (all_sent ns m))
+send_all_is (n ∷ ns) m o = send_all_is ns m (send n m o) ∙ ap (λ (l : List Act). record o { acts = l }) (append_assoc o.acts (act.Send n m ∷ []) (all_sent ns m))
 
 -- the Call of a wish that has a request
 unfoldable pub calls_sent : Place → Option Wish → List Act
@@ -118,7 +114,7 @@ resend_is at o = ap (revoke_again at) (call_again_is at o) ∙ revoke_again_is a
 pub sent_more : (n : ℕ) (xs ys : List Act) → sent n (xs ++ ys) ≡ sent n xs ++ sent n ys
 unfolding sent
 sent_more n [] ys = refl
-sent_more n (x ∷ xs) ys = ap (λ (l : List Mail). sends n x ++ l) (sent_more n xs ys) ∙ sym (list_more (sends n x) (sent n xs) (sent n ys))
+sent_more n (x ∷ xs) ys = ap (λ (l : List Mail). sends n x ++ l) (sent_more n xs ys) ∙ sym (append_assoc (sends n x) (sent n xs) (sent n ys))
 
 -- nobody asks anything
 abbrev pub nothing_asked : ℕ → Option ClientOp
@@ -394,5 +390,5 @@ all_mail c era rules who calls n part what (x ∷ xs) t s l h db key =
         (subst (λ (q : List ℕ). mails era.number db q (frames_of (at_record c n x.db x.key part t).outs) ≡ mails era.number db q (frames_of t.outs) ++ sent n (what db q (view db q t.node))) p.1
         (subst (λ (d : ℕ). mails era.number d x.key (frames_of (at_record c n x.db x.key part t).outs) ≡ mails era.number d x.key (frames_of t.outs) ++ sent n (what d x.key (view d x.key t.node))) p.0
         (own_mail c era n x.db x.key part t _ (of_era c era rules who calls n t.node h) (s x.db x.key t h l.0))))
-        ∙ list_more (mails era.number db key (frames_of t.outs)) _ _)
+        ∙ append_assoc (mails era.number db key (frames_of t.outs)) _ _)
     decide false e = ap (λ (m : List Mail). m ++ times (filter (is_called_at db key) xs) (sent n (what db key (view db key t.node)))) (other_mail c era n x.db db x.key key part t _ (s x.db x.key t h l.0) (called_not db key x e))

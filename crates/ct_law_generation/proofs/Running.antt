@@ -26,7 +26,8 @@ use Rattle.ct_register.specs.Words.{is_in}
 use Rattle.ct_promise.specs.Generation.{is_of_one_generation, speaks_of_records, record_labels}
 use Rattle.ct_promise.specs.Marked.{MarksGoOnIn, is_removal}
 use Rattle.ct_promise.specs.Kept.{RecordsHold, RecordsRun, RunsFrom}
-use Rattle.ct_law_world.specs.World.{Scene, World}
+use Rattle.ct_law_world.specs.World as law
+use Rattle.ct_law_world.specs.World.{Scene, World, LeadsTo}
 use Rattle.ct_law_world.proofs.Invariant.{Ghost}
 use Rattle.ct_law_record.proofs.Worlds.{WorldInv}
 use Rattle.ct_law_record.proofs.Law.{leads}
@@ -38,7 +39,6 @@ use Rattle.ct_law_generation.proofs.Staying.{NodeStays}
 use Rattle.ct_law_generation.proofs.Clusters.{ClusterStays}
 use Rattle.ct_law_generation.proofs.Following.{asks_by_law}
 use Rattle.ct_law_generation.proofs.Fed.{fed_is}
-use Rattle.ct_law_generation.proofs.Concluding.{EachIsOne}
 use Rattle.ct_law_generation.proofs.Assembled.{Run_goes, Starts}
 use Rattle.ct_law_generation.proofs.Stepping.{is_yield, step_goes_on}
 use Rattle.ct_law_generation.proofs.Yielding.{yielded, yields, yield_runs, yield_accepted}
@@ -165,7 +165,9 @@ restart c era rules who w start h = record {
 other_rules : (s : Scene) (rules : Rules) (w : World) (r : Register) (g : Ghost) → WorldInv s w r g → WorldInv (record s { rules = rules }) w r g
 other_rules s rules w r g h = record { frames = h.frames; register = h.register; all = h.all; nodes = h.nodes; master = h.master; outside = h.outside; senders = h.senders }
 
-leads_here : (c : Config) (era : Era) (rules others : Rules) (w : Cluster) (r : Lines) (ghosts : Ghosts) → list_all is_node era.members ≡ true → Followed c era rules w r ghosts → EachIsOne c (era_from era w) others r
+-- so each record is one register
+leads_here : (c : Config) (era : Era) (rules others : Rules) (w : Cluster) (r : Lines) (ghosts : Ghosts) → list_all is_node era.members ≡ true → Followed c era rules w r ghosts →
+    (db : ℕ) (key : List ℕ) (es : List law.Event) → LeadsTo (scene c era others db key) (project era.number db key w) (r.records era.number db key) es
 leads_here c era rules others w r ghosts real f db key es =
     leads (scene c era others db key) (project era.number db key w) (r.records era.number db key) (ghosts db key) es real (other_rules (scene c era rules db key) others (project era.number db key w) (r.records era.number db key) (ghosts db key) (f db key))
 
@@ -177,7 +179,6 @@ starts_here c era rules w r ghosts is h = record {
     positive = is.positive;
     asks = λ others db key. asks_by_law (scene c era others db key) (project era.number db key w) (r.records era.number db key) (leads_here c era rules others w r ghosts is.real h.followed db key);
   };
-  law = leads_here c era rules rules w r ghosts is.real h.followed;
   line = h.line.inside;
   ready = h.line.ready;
   small = is.small;

@@ -30,13 +30,14 @@ use Rattle.ct_law_generation.proofs.Speaking.{About, Told}
 use Rattle.ct_law_generation.proofs.Hearing.{labels_more}
 use Rattle.ct_law_generation.proofs.Pending.{Callers}
 use Rattle.ct_law_generation.proofs.Staying.{NodeStays, phase_of}
-use Rattle.ct_law_generation.proofs.Lining.{record_quiet, Is_fit, fit_more, sent_fits}
+use Rattle.ct_law_generation.proofs.Lining.{record_quiet, Is_fit, sent_fits}
 use Rattle.ct_law_generation.proofs.Retried.{nothing_asked, Just_sends, outs_are, just_passes, calls_at, revokes_at, Retries_at, calls_just, revokes_just, at_all, Sends_each, AllInside, all_passes}
 use Rattle.ct_law_generation.proofs.Resending.{places_in, call_all_is, revoke_in_is, all_inside, pending_inside, resends_of}
 use Rattle.ct_law_generation.proofs.Retrying.{retry_is}
 use Rattle.ct_law_generation.proofs.Assembled.{Starts, Run_goes, Tells}
 use Rattle.ct_law_generation.proofs.Following.{node_of}
 use Rattle.ct_register.specs.Lines.{Lines}
+use Rattle.ct_lcp2.proofs.Choices.{all_append}
 
 -- ---- a step at a record that only sends
 
@@ -90,7 +91,7 @@ unfolding posts does labels_of
 post_fits c line reg n pend g k m t e =
     let x : List Out = out.Send (record { generation = g; sender = n; receiver = k; msg = m }) ∷ [] in
     subst (λ (l : List Label). AllByRecursion (Is_fit c line reg) l) (sym (labels_more n pend t.outs x ∙ ap (λ (l : List Label). labels_of n pend t.outs ++ l) (append-nil (sent_label n g m))))
-    (fit_more c line reg (labels_of n pend t.outs) (sent_label n g m) e (sent_fits c line reg n g m))
+    (all_append (Is_fit c line reg) (labels_of n pend t.outs) (sent_label n g m) e (sent_fits c line reg n g m))
 
 pub posts_fit : (c : Config) (line : ℕ) (reg : Lines) (n : ℕ) (pend : List PendingCall) (g : ℕ) (ks : List ℕ) (m : Msg) (t : Turn) → Fits c line reg n pend t → Fits c line reg n pend (posts_all g n ks m t)
 unfolding posts_all

@@ -43,7 +43,7 @@ use Rattle.ct_law_generation.proofs.Following.{IsEra, Asks, all_plain, node_of, 
 use Rattle.ct_law_generation.proofs.Delivering.{whole_part}
 use Rattle.ct_law_generation.proofs.Retried.{AllInside}
 use Rattle.ct_law_generation.proofs.Resending.{pending_inside}
-use Rattle.ct_law_generation.proofs.Vacuumed.{goes_more, asks_amid, Waited, waited_finds, finds_waited, either_whole}
+use Rattle.ct_law_generation.proofs.Vacuumed.{Found, goes_more, asks_amid, Waited, waited_finds, finds_waited, either_whole}
 
 -- ---- the rule of one record
 
@@ -227,10 +227,6 @@ again_goes c era rules who calls n db key pend ws t real member h k =
 pub again_wishes : (P : ℕ → List ℕ → ℕ → ClientOp → Type 0) (c : Config) (rules : Rules) (n db : ℕ) (key : List ℕ) (t : Turn) → NodeAscends t.node → db < length t.node.dbs → AllWishes P t.node → AllWishes P (at_record c n db key (want_again rules) t).node
 unfolding node.view
 again_wishes P c rules n db key t order there all = wishes_at P c n db key (want_again rules) t order there all (again_wish (P db key) (place_of c n db key t.node) rules (node.view db key t.node) (all db key))
-
--- each call that waits is found among these
-abbrev pub Found : ℕ → List PendingCall → ℕ → List ℕ → ℕ → ClientOp → Type 0
-Found n pend db key call asked = Waited db key n pend call asked
 
 -- a step that was whole at its end was so before
 pub wants_before : (c : Config) (rules : Rules) (n : ℕ) (xs : List Called) (t : Turn) → (want_all c rules n xs t).spent ≡ false → t.spent ≡ false

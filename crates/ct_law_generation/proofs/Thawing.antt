@@ -23,8 +23,8 @@ use Rattle.ct_law_generation.proofs.Pending.{Callers}
 use Rattle.ct_law_generation.proofs.Following.{Goes_on, known_wish, Asks, asks_here, finds_waiting}
 use Rattle.ct_law_generation.proofs.Lining.{Is_fit, kept_fit, labels_kept}
 use Rattle.ct_law_generation.proofs.Staying.{NodeStays, AllWishes, Of_records}
-use Rattle.ct_law_generation.proofs.Vacuumed.{goes_more, finds_waited, goes_nowhere}
-use Rattle.ct_law_generation.proofs.Thawed.{Thaws_from, Thaws_at, again_fair, again_goes, again_wishes, Found, wants_before, thaws_at, thawing, thawing_goes, thaws_go}
+use Rattle.ct_law_generation.proofs.Vacuumed.{Found, goes_more, finds_waited}
+use Rattle.ct_law_generation.proofs.Thawed.{Thaws_from, Thaws_at, again_fair, again_goes, again_wishes, wants_before, thaws_at, thawing, thawing_goes, thaws_go}
 use Rattle.ct_law_generation.proofs.Assembled.{Starts, Tells, Run_goes, pending_tells}
 use Rattle.ct_promise.specs.Generation.{speaks_of_records, is_note_of_records, record_labels}
 use Rattle.ct_law_generation.proofs.Retried.{AllInside}
@@ -41,7 +41,7 @@ use Rattle.ct_frame.specs.declared.frame.Msg.TheVariants as msg
 use Rattle.ct_cluster.specs.Traces.{own_labels}
 use Rattle.ct_law_generation.proofs.Weave.{true_or_false}
 use Rattle.ct_law_generation.proofs.Delivering.{begun}
-use Rattle.ct_law_generation.proofs.Coming.{Cluster_goes, put_goes}
+use Rattle.ct_law_generation.proofs.Coming.{Cluster_goes, put_goes, goes_nowhere}
 use Rattle.ct_law_generation.proofs.Clusters.{all_known}
 use Rattle.ct_rules_node.specs.Admission.{is_sound}
 use Rattle.ct_law_generation.proofs.Rounding.{arrives_thaw}

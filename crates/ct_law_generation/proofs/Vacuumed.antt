@@ -1,5 +1,5 @@
 -- Vacuum of a database, at every record of it in turn: the node stays as it was, and the world of every record follows.
-use Rattle.std.proofs.Common.{◌≡◌, ℕ, zero, suc, ◌+◌, ◌<◌, Bool, true, false, cond, ◌||◌, List, [], ◌∷◌, ◌++◌, length, Option, Some, None, refl, sym, ap, ◌∙◌, append-nil, arith, subst, ⊎_elim}
+use Rattle.std.proofs.Common.{◌≡◌, ℕ, zero, suc, ◌+◌, ◌<◌, Bool, true, false, cond, ◌||◌, List, [], ◌∷◌, ◌++◌, length, Option, Some, None, refl, sym, ap, ◌∙◌, arith, subst, ⊎_elim}
 use Rattle.std.specs.Prelude.{Contains, Ok, nat_eq, nat_lt, not, slice_get}
 use Rattle.std.proofs.lemmas.Bool.{cond_both, eqb-true, eq-eqb, ltb-true, and_parts}
 use Rattle.std.proofs.lemmas.List.Elements.{All-contains, filter_passes}
@@ -18,14 +18,13 @@ use Rattle.ct_rules.specs.declared.event.MoveEvent.TheVariants as event
 use Rattle.ct_rules.specs.declared.event.Place.{Place}
 use Rattle.ct_rules.specs.declared.state.RecState.{RecState}
 use Rattle.ct_rules.specs.declared.state.Wish.{Wish}
-use Rattle.ct_rules_node.specs.Node.{Node, Database, db_at, state_at, or_untouched, untouched, without, is_serving}
+use Rattle.ct_rules_node.specs.Node.{Database, db_at, state_at, or_untouched, untouched, without, is_serving}
 use Rattle.ct_rules_node.specs.Turn.{Turn, begins}
 use Rattle.ct_rules_node.specs.Records as node
 use Rattle.ct_rules_node.specs.Records.{acted, at_record, place_of}
 use Rattle.ct_rules_node.specs.Laws.{left_by}
 use Rattle.ct_rules_node.specs.Steps as node_steps
 use Rattle.ct_rules_node.specs.Steps.{vacuum_all, vacuums}
-use Rattle.ct_rules_node.proofs.AtRecord.{moves_at}
 use Rattle.ct_cluster.specs.Cluster.{Cluster, is_up, node_at, pending}
 use Rattle.ct_cluster.specs.Labels.{Label, Answered}
 use Rattle.ct_cluster.specs.Steps as steps
@@ -35,24 +34,20 @@ use Rattle.ct_register.specs.Legal.{db_of, key_of}
 use Rattle.ct_register.specs.Words.{is_in}
 use Rattle.ct_law_world.specs.World.{Scene, View, World, Vacuums, happens, put, last, trace, place, starts, own_call, waiting_call}
 use Rattle.ct_law_world.specs.World as law
-use Rattle.ct_law_generation.specs.Shown.{Era, scene, view, is_it, heard, told_by_all, labels_of, project, amid, Finds, Follows, Schedules}
-use Rattle.ct_law_generation.proofs.Weave.{it_is, true_or_false}
+use Rattle.ct_law_generation.specs.Shown.{Era, scene, view, heard, told_by_all, labels_of, project, amid, Finds, Follows, Schedules}
+use Rattle.ct_law_generation.proofs.Weave.{true_or_false}
 use Rattle.ct_law_generation.proofs.Wishing.{Wishful, vacuum_wish}
-use Rattle.ct_law_generation.proofs.Hearing.{heard_more}
+use Rattle.ct_law_generation.proofs.Hearing.{heard_more, list_more}
 use Rattle.ct_law_generation.proofs.Pending.{Callers, Known, KnownAt}
-use Rattle.ct_law_generation.proofs.Staying.{NodeStays, Of_records, kept_wish}
-use Rattle.ct_law_generation.proofs.Amid.{self, place_is, other_state}
+use Rattle.ct_law_generation.proofs.Staying.{NodeStays, Of_records, AllWishes, wishes_at}
+use Rattle.ct_law_generation.proofs.Amid.{self, place_is}
 use Rattle.ct_law_generation.proofs.Delivering.{begun, whole_part}
-use Rattle.ct_law_generation.proofs.Following.{last_more, trace_more, Asks, asks_on, asks_here, Goes_on, follows, finds_waiting, IsEra}
+use Rattle.ct_law_generation.proofs.Following.{last_more, trace_more, Asks, asks_on, asks_here, Goes_on, follows, finds_waiting, IsEra, Comes_to}
 use Rattle.ct_law_generation.proofs.Clusters.{ClusterStays, all_known}
 use Rattle.ct_law_generation.proofs.Fed.{fed_is}
-use Rattle.ct_law_generation.proofs.Coming.{Cluster_goes, put_goes}
+use Rattle.ct_law_generation.proofs.Coming.{Cluster_goes, put_goes, goes_nowhere}
 
 -- ---- one step after another
-
-list_more : {X : Type 0} (xs ys zs : List X) → xs ++ (ys ++ zs) ≡ (xs ++ ys) ++ zs
-list_more [] ys zs = refl
-list_more (x ∷ xs) ys zs = ap (λ (l : List _). x ∷ l) (list_more xs ys zs)
 
 -- the world of a record follows both
 pub follows_more : (g : ℕ) (s : Scene) (n : ℕ) (w : World) (calls : List PendingCall) (t u v : Turn) → Follows g s n w calls t u → Follows g s n w calls u v → Follows g s n w calls t v
@@ -72,11 +67,6 @@ follows_more g s n w calls t u v f k =
 pub goes_more : (c : Config) (era : Era) (rules : Rules) (who : Callers) (calls n : ℕ) (pend : List PendingCall) (ws : ℕ → List ℕ → World) (t u v : Turn) →
     Goes_on c era rules who calls n pend ws t u → Goes_on c era rules who calls n pend ws u v → Goes_on c era rules who calls n pend ws t v
 goes_more c era rules who calls n pend ws t u v f g = (g.0, λ db key. follows_more era.number (scene c era rules db key) n (ws db key) pend t u v (f.1 db key) (g.1 db key), λ before. g.2 (f.2 before))
-
--- nothing happens
-pub goes_nowhere : (c : Config) (era : Era) (rules : Rules) (who : Callers) (calls n : ℕ) (pend : List PendingCall) (ws : ℕ → List ℕ → World) (t : Turn) → NodeStays c era rules who calls n t.node → Goes_on c era rules who calls n pend ws t t
-unfolding heard
-goes_nowhere c era rules who calls n pend ws t h = (h, (λ db key. ([], record { world = refl; labels = sym (append-nil _) })), λ before. before)
 
 -- what every schedule before a step does, every one amid it does
 pub asks_amid : (g : ℕ) (s : Scene) (n : ℕ) (w : World) (calls : List PendingCall) (t u : Turn) → Asks s (amid g s.db s.key n w t) → Follows g s n w calls t u → Asks s (amid g s.db s.key n w u)
@@ -131,9 +121,9 @@ unfolding Wishful
 finds_waited db key n calls None h = tt
 finds_waited db key n calls (Some x) h = (let p = h.about x.call x.op (waiting_self x) in (h.found x.call x.op (waiting_self x), p.0, p.1))
 
--- so it is of all records of a database of the node
-abbrev pub AllWaited : ℕ → ℕ → List PendingCall → Node → Type 0
-AllWaited db n calls x = (key : List ℕ) → Wishful (Waited db key n calls) (state_at db key x).wish
+-- each call that waits is found among these
+abbrev pub Found : ℕ → List PendingCall → ℕ → List ℕ → ℕ → ClientOp → Type 0
+Found n pend db key call asked = Waited db key n pend call asked
 
 -- ---- the step at one of the records
 
@@ -151,33 +141,35 @@ vacuums_happen c era rules n db key t w h =
 
 -- the calls that wait are found after the step
 pub waited_on : (c : Config) (era : Era) (rules : Rules) (who : Callers) (calls n db : ℕ) (key : List ℕ) (pend : List PendingCall) (t : Turn) → NodeStays c era rules who calls n t.node → db < length t.node.dbs →
-    AllWaited db n pend t.node → AllWaited db n pend (at_record c n db key (vacuumed n t) t).node
+    AllWishes (Found n pend) t.node → AllWishes (Found n pend) (at_record c n db key (vacuumed n t) t).node
 unfolding node.view
-waited_on c era rules who calls n db key pend t h there all k = ⊎_elim
-    (λ (is : is_it db k db key ≡ true). (let p = it_is db db k key is in
-    subst (λ (j : List ℕ). Wishful (Waited db j n pend) (state_at db j (at_record c n db key (vacuumed n t) t).node).wish) p.1
-    (subst (λ (s : RecState). Wishful (Waited db key n pend) s.wish) (sym ((moves_at c n db key (vacuumed n t) t h.known.order).seen there))
-    (kept_wish (Waited db key n pend) (left_by c n db key (vacuumed n t) t).state (vacuum_wish (Waited db key n pend) (place_of c n db key t.node) (without n t.node.members) (node.view db key t.node) (all key))))))
-    (λ (unlike : is_it db k db key ≡ false). subst (λ (s : RecState). Wishful (Waited db k n pend) s.wish) (sym (other_state c n db db key k (vacuumed n t) t h.known.order unlike)) (all k))
-    (true_or_false (is_it db k db key))
+waited_on c era rules who calls n db key pend t h there all =
+    wishes_at (Found n pend) c n db key (vacuumed n t) t h.known.order there all (vacuum_wish (Waited db key n pend) (place_of c n db key t.node) (without n t.node.members) (node.view db key t.node) (all db key))
+
+-- a vacuum of one record is an event at it
+pub vacuum_comes : (c : Config) (era : Era) (rules : Rules) (who : Callers) (calls n db : ℕ) (key : List ℕ) (pend : List PendingCall) (w : World) (t : Turn) → IsEra c era → is_db db ≡ true → NodeStays c era rules who calls n t.node → db < length t.node.dbs → AllWishes (Found n pend) t.node →
+    Asks (scene c era rules db key) (amid era.number db key n w t) → (at_record c n db key (vacuumed n t) t).spent ≡ false →
+    Comes_to c era rules who calls n db key (event.Vacuum (without n t.node.members)) t pend (waiting_call (state_at db key t.node).wish) w (Vacuums n)
+unfolding KnownAt state_at node.view
+vacuum_comes c era rules who calls n db key pend w t is small h there all asks spent = record {
+  has = small;
+  there = there;
+  may = subst (λ (ms : List ℕ). Ascends (without n ms) × ¬ (Contains (without n ms) n)) (sym h.knows) (others_come era.members n is.ascend);
+  from = refl;
+  whole = whole_part c n db key (vacuumed n t) t spent;
+  known = vacuum_wish (Known who calls n db key) (place_of c n db key t.node) (without n t.node.members) (node.view db key t.node) ((h.known.dbs db).records key);
+  waits = vacuum_wish (Of_records c db key) (place_of c n db key t.node) (without n t.node.members) (node.view db key t.node) (h.waits db key);
+  finds = waited_finds db key n pend (state_at db key t.node).wish (all db key);
+  lawful = asks;
+  is_event = vacuums_happen c era rules n db key t w h.knows;
+}
 
 vacuum_goes : (c : Config) (era : Era) (rules : Rules) (who : Callers) (calls n db : ℕ) (key : List ℕ) (pend : List PendingCall) (ws : ℕ → List ℕ → World) (t : Turn) → IsEra c era → is_in n era.members ≡ true → is_db db ≡ true →
-    NodeStays c era rules who calls n t.node → db < length t.node.dbs → AllWaited db n pend t.node → Asks (scene c era rules db key) (amid era.number db key n (ws db key) t) → (at_record c n db key (vacuumed n t) t).spent ≡ false →
+    NodeStays c era rules who calls n t.node → db < length t.node.dbs → AllWishes (Found n pend) t.node → Asks (scene c era rules db key) (amid era.number db key n (ws db key) t) → (at_record c n db key (vacuumed n t) t).spent ≡ false →
     Goes_on c era rules who calls n pend ws t (at_record c n db key (vacuumed n t) t)
-unfolding KnownAt state_at node.view
 vacuum_goes c era rules who calls n db key pend ws t real member small h there all asks spent =
-    follows c era rules who calls n db key (event.Vacuum (without n t.node.members)) t pend (waiting_call (state_at db key t.node).wish) ws (Vacuums n) real member h (record {
-      has = small;
-      there = there;
-      may = subst (λ (ms : List ℕ). Ascends (without n ms) × ¬ (Contains (without n ms) n)) (sym h.knows) (others_come era.members n real.ascend);
-      from = refl;
-      whole = whole_part c n db key (vacuumed n t) t spent;
-      known = vacuum_wish (Known who calls n db key) (place_of c n db key t.node) (without n t.node.members) (node.view db key t.node) ((h.known.dbs db).records key);
-      waits = vacuum_wish (Of_records c db key) (place_of c n db key t.node) (without n t.node.members) (node.view db key t.node) (h.waits db key);
-      finds = waited_finds db key n pend (state_at db key t.node).wish (all key);
-      lawful = asks;
-      is_event = vacuums_happen c era rules n db key t (ws db key) h.knows;
-    })
+    follows c era rules who calls n db key (event.Vacuum (without n t.node.members)) t pend (waiting_call (state_at db key t.node).wish) ws (Vacuums n) real member h
+    (vacuum_comes c era rules who calls n db key pend (ws db key) t real small h there all asks spent)
 
 -- ---- at every record of the database
 
@@ -193,7 +185,7 @@ whole_before c n db (x ∷ m) t e = either_whole t.spent (left_by c n db x.0 (va
 
 -- from a turn t0 on, from which the step came to t
 all_go : (c : Config) (era : Era) (rules : Rules) (who : Callers) (calls n db : ℕ) (m : Pairs RecState) (pend : List PendingCall) (ws : ℕ → List ℕ → World) (t0 t : Turn) → IsEra c era → is_in n era.members ≡ true → is_db db ≡ true →
-    db < length c.dbs → ((key : List ℕ) → Asks (scene c era rules db key) (amid era.number db key n (ws db key) t0)) → AllWaited db n pend t.node → Goes_on c era rules who calls n pend ws t0 t → (vacuum_all c n db m t).spent ≡ false →
+    db < length c.dbs → ((key : List ℕ) → Asks (scene c era rules db key) (amid era.number db key n (ws db key) t0)) → AllWishes (Found n pend) t.node → Goes_on c era rules who calls n pend ws t0 t → (vacuum_all c n db m t).spent ≡ false →
     Goes_on c era rules who calls n pend ws t0 (vacuum_all c n db m t)
 unfolding vacuum_all
 all_go c era rules who calls n db [] pend ws t0 t real member small inside asks all g spent = g
@@ -217,7 +209,7 @@ no_records c n db t e = ap (λ (d : Database). vacuum_all c n db d.records t) (p
 
 -- A vacuum of a database: the node stays as it was, and the world of every record follows.
 pub vacuums_follow : (c : Config) (era : Era) (rules : Rules) (who : Callers) (w : Cluster) (n db : ℕ) → IsEra c era → ((d : ℕ) → d < length c.dbs → is_db d ≡ true) → is_in n era.members ≡ true →
-    NodeStays c era rules who w.calls n (node_at n w) → ((key : List ℕ) → Finds db key n (pending w) (waiting_call (state_at db key (node_at n w)).wish)) → ((key : List ℕ) → Asks (scene c era rules db key) (project era.number db key w)) →
+    NodeStays c era rules who w.calls n (node_at n w) → ((db : ℕ) (key : List ℕ) → Finds db key n (pending w) (waiting_call (state_at db key (node_at n w)).wish)) → ((key : List ℕ) → Asks (scene c era rules db key) (project era.number db key w)) →
     (vacuums c n db (begins (node_at n w))).spent ≡ false →
     Goes_on c era rules who w.calls n (pending w) (λ db key. project era.number db key w) (begins (node_at n w)) (vacuums c n db (begins (node_at n w)))
 unfolding vacuums
@@ -229,7 +221,7 @@ vacuums_follow c era rules who w n db real small member h finds asks spent =
     (λ _ whole. ⊎_elim
     (λ (is : nat_lt db (length t.node.dbs) ≡ true). (let inside : db < length c.dbs = subst (λ (l : ℕ). db < l) h.size (ltb-true db (length t.node.dbs) is) in
     all_go c era rules who w.calls n db (db_at db t.node).records (pending w) ws t t real member (small db inside) inside
-    (λ key. subst (λ (v : World). Asks (scene c era rules db key) v) (begun era.number db key n w) (asks key)) (λ key. finds_waited db key n (pending w) (state_at db key t.node).wish (finds key)) same whole))
+    (λ key. subst (λ (v : World). Asks (scene c era rules db key) v) (begun era.number db key n w) (asks key)) (λ db key. finds_waited db key n (pending w) (state_at db key t.node).wish (finds db key)) same whole))
     (λ (not_so : nat_lt db (length t.node.dbs) ≡ false). subst (λ (u : Turn). Goes_on c era rules who w.calls n (pending w) ws t u) (sym (no_records c n db t not_so)) same)
     (true_or_false (nat_lt db (length t.node.dbs))))
     (λ _ whole. same) spent
@@ -241,7 +233,7 @@ pub vacuums_goes : (c : Config) (era : Era) (rules : Rules) (who : Callers) (w :
 vacuums_goes c era rules who w n db labels es real small h sched up spent =
     let t = h.up n up in
     put_goes c era rules who w n (vacuums c n db (begins (node_at n w))) labels es t h sched
-    (vacuums_follow c era rules who w n db real small t (h.nodes n t) (λ key. finds_waiting who w.calls n db key w (all_known c era rules who w h)) (λ key. asks_here c era rules w labels es real sched db key) spent)
+    (vacuums_follow c era rules who w n db real small t (h.nodes n t) (λ db key. finds_waiting who w.calls n db key w (all_known c era rules who w h)) (λ key. asks_here c era rules w labels es real sched db key) spent)
 
 -- the vacuum is given to a node that runs, and the step is taken
 pub vacuum_fed : (c : Config) (era : Era) (rules : Rules) (who : Callers) (w : Cluster) (n db : ℕ) (labels : List Label) (es : ℕ → List ℕ → List law.Event) (x : steps.Stepped) → IsEra c era → ((d : ℕ) → d < length c.dbs → is_db d ≡ true) →

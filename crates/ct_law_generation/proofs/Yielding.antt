@@ -1,11 +1,11 @@
 -- The recovery lock is given back: nothing else of the cluster changes, and the registers accept what is told of it.
-use Rattle.std.proofs.Common.{◌≡◌, ℕ, Bool, true, false, not, [], ◌∷◌, Option, None, Some, refl, ap, ◌∙◌}
+use Rattle.std.proofs.Common.{◌≡◌, ℕ, true, [], ◌∷◌, Option, None, Some, refl, ap, ◌∙◌}
 use Rattle.std.proofs.lemmas.Bool.{eqb-true}
 use Rattle.std.specs.Prelude.{nat_lt}
 use Rattle.ct_msg.specs.declared.config.Config.{Config}
 use Rattle.ct_call.specs.Rules.{Rules}
 use Rattle.ct_cluster.specs.Cluster.{Cluster, is_up}
-use Rattle.ct_cluster.specs.Faults.{faulty_if, first_of, no_such_node, node_down, is_holder, not_holder, fault_of, is_allowed}
+use Rattle.ct_cluster.specs.Faults.{first_of, no_such_node, node_down, is_holder, not_holder, fault_of, is_allowed}
 use Rattle.ct_cluster.specs.Labels.{Yielded}
 use Rattle.ct_cluster.specs.Steps.{done, steps, steps_or, applied}
 use Rattle.ct_cluster.specs.Traces.{label_of, line_labels, own_labels, labels, taken, ran_one}
@@ -14,18 +14,13 @@ use Rattle.ct_cluster.specs.declared.step.Step.TheVariants as step
 use Rattle.ct_cluster.specs.declared.step.StepFault.{StepFault}
 use Rattle.ct_register.specs.Legal.{AcceptsLabels}
 use Rattle.ct_register.specs.Lines.{Lines}
+use Rattle.ct_law_generation.proofs.Assembled.{not_faulty}
 
 -- the cluster with a free recovery lock
 abbrev pub yielded : Cluster → Cluster
 yielded w = record w { holder = None }
 
 -- ---- why it is not refused
-
--- where a refusal is not there, its condition does not hold
-unfaulted : (b : Bool) (f : StepFault) → faulty_if (not b) f ≡ None → b ≡ true
-unfolding faulty_if
-unfaulted true f e = refl
-unfaulted false f e = absurd (cc)
 
 -- where none of three refusals is there, each is not there
 none_of : (a b d : Option StepFault) → first_of (a ∷ b ∷ d ∷ []) ≡ None → (a ≡ None) × (b ≡ None) × (d ≡ None)
@@ -49,9 +44,9 @@ pub record Yields (c : Config) (w : Cluster) (n : ℕ) : Type 0 where
 pub yields : (c : Config) (w : Cluster) (n : ℕ) → fault_of c w (step.Yield n) ≡ None → Yields c w n
 unfolding fault_of no_such_node node_down not_holder
 yields c w n e = (let parts = none_of (no_such_node c n) (node_down w n) (not_holder w n) e in record {
-  there = unfaulted (nat_lt n c.nodes) _ parts.0;
-  up = unfaulted (is_up n w) _ parts.1;
-  held = holds_it n w.holder (unfaulted (is_holder n w.holder) _ parts.2);
+  there = not_faulty (nat_lt n c.nodes) _ parts.0;
+  up = not_faulty (is_up n w) _ parts.1;
+  held = holds_it n w.holder (not_faulty (is_holder n w.holder) _ parts.2);
 })
 
 -- ---- what it becomes
