@@ -1,5 +1,5 @@
 -- FINISH: the versions, the copies and the entry are gone, and the floor is above all that was.
-use Rattle.std.proofs.Common.{length, ap, ◌≡◌, ◌≢◌, ℕ, ◌+◌, ◌<◌, ◌≤◌, true, false, Option, Some, None, List, [], take, refl, sym, ◌∙◌, inr, arith, subst}
+use Rattle.std.proofs.Common.{length, ◌≡◌, ◌≢◌, ℕ, ◌+◌, ◌<◌, ◌≤◌, true, false, Option, Some, None, List, [], take, refl, sym, ◌∙◌, inr, arith, subst}
 use Rattle.std.proofs.lemmas.Bool.{false_from_ne_true}
 use Rattle.ct_law_world.proofs.Invariant.{span_of, Start, Ghost, Emptied, Joined, Says, Facts, NodeInv, Holds, Kept, default_entry}
 use Rattle.ct_law_world.proofs.Nodes.{past_none}
@@ -14,6 +14,7 @@ use Rattle.ct_register.specs.Register.{reading, emptied}
 use Rattle.ct_law_world.specs.Labels.{Vacuumed}
 use Rattle.ct_law_world.proofs.Rule
 use Rattle.ct_law_world.proofs.Rule.{is_odd, Body, Call, Copy, Done, Frame, Give, Grant, Node, Out, Pass, Recalls, Refuse, Revoke, RevokeAck, VDelete, VDeleted, VStore, VStored, Wish, greater, has_node, is_here, is_reading, rank, reads_op, tell, value_of, with_node}
+use Rattle.ct_law_event.proofs.Phases.{rank_none}
 
 abbrev pub finished : ℕ → ℕ → Ghost → Ghost
 finished m floor g = record { entry = default_entry m floor; queue = g.queue; frames = g.frames; register = emptied g.register; readers = []; revoking = false; top = g.top; place = λ _. 0; vacuum = None; base = g.top; joint = g.top + 1; mark = λ _. 0 }
@@ -79,10 +80,6 @@ greater_right : (a b : ℕ) → b ≤ greater a b
 unfolding greater
 greater_right a b = grind arith
 
-absent_rank : (c : Option Copy) → c ≡ None → rank c ≡ 0
-unfolding rank
-absent_rank c e = ap rank e
-
 absent_here : (c : Option Copy) → c ≡ None → is_here c ≡ true → ⊥
 unfolding is_here
 absent_here None e h = cc
@@ -128,7 +125,7 @@ module _ (rules : Rules) (ps : List ℕ) (m me : ℕ) (nodes : ℕ → Node) (fr
                 (λ w e l a nz same. (let k = h.good.mine.own w e a nz same l in omega arith)) h.good.mine;
             others = λ n ne. (let f = h.good.others n ne in let s = still g n (nodes n) (gone n ne) f in
                 subst (λ (c : Option Copy). Facts (finished m floor g) n c (nodes n).wish (nodes n).next (nodes n).locked (nodes n).recalls (nodes n).tracked (nodes n).revoking (nodes n).fresh) (sym (gone n ne))
-                (NodeInv-finished m floor g n (nodes n) (omega arith) (omega arith) none readers.1 unowned s.0 s.1 s.2 (λ _. absent_rank (nodes n).copy (gone n ne)) (λ w e l a. absurd (ne (a ∙ sym is.0))) f));
+                (NodeInv-finished m floor g n (nodes n) (omega arith) (omega arith) none readers.1 unowned s.0 s.1 s.2 (λ _. rank_none (nodes n).copy (gone n ne)) (λ w e l a. absurd (ne (a ∙ sym is.0))) f));
             master = λ e. record { entry = inr (refl, refl, refl, omega arith); queue = (h.good.master e).queue; vacuum = refl };
             joined = h.good.joined;
             master_other = λ ne. absurd (ne at);

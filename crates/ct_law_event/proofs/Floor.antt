@@ -10,18 +10,15 @@ use Rattle.ct_call.specs.Rules.{Rules}
 use Rattle.ct_rules.specs.declared.state.Entry.{Entry}
 use Rattle.ct_law_world.proofs.Rule
 use Rattle.ct_law_world.proofs.Rule.{Copy, Frame, Node, Out, Wish, greater, is_here, rank, with_node}
+use Rattle.ct_law_event.proofs.Phases.{rank_none}
 
-greater_left : (a b : ℕ) → a ≤ greater a b
+pub greater_left : (a b : ℕ) → a ≤ greater a b
 unfolding greater
 greater_left a b = grind arith
 
 here_none : (c : Option Copy) → c ≡ None → is_here c ≡ false
 unfolding is_here
 here_none c e = ap is_here e
-
-rank_none : (c : Option Copy) → c ≡ None → rank c ≡ 0
-unfolding rank
-rank_none c e = ap rank e
 
 module _ (rules : Rules) (ps : List ℕ) (m me : ℕ) (nodes : ℕ → Node) (frames : List Frame) (r : Start) where
   rise_holds : (floor : ℕ) (g : Ghost) (o : Out) → me ≡ m → o.node.entry ≡ None → g.entry ≡ default_entry m o.node.floor → o.node.copy ≡ None → g.top ≤ g.base → o.node.floor < floor → Holds rules ps m me nodes frames r g o →

@@ -21,6 +21,7 @@ use Rattle.ct_rules.specs.State.{is_nil}
 use Rattle.ct_register.specs.Register.{Register, reading}
 use Rattle.ct_law_world.proofs.Rule
 use Rattle.ct_law_world.proofs.Rule.{is_storing, risen, Body, Copy, Frame, Grant, Here, Node, Out, VDelete, VDeleted, VStore, VStored, Wish, drop_copy, give, greater, has_node, is_free, is_here, is_idle, is_reading, raise_copy, rank, reads_op, rsn_of, send, send_all, tell, value_of, with_node}
+use Rattle.ct_law_event.proofs.Floor.{greater_left}
 
 -- absent copies come to stand for what copies of this rank do
 abbrev pub raised : ℕ → (ℕ → ℕ) → ℕ → ℕ
@@ -33,10 +34,6 @@ greater_low a low le = grind arith
 greater_high : (a low : ℕ) → low ≤ a → greater a low ≡ a
 unfolding greater
 greater_high a low le = grind arith
-
-greater_left : (a b : ℕ) → a ≤ greater a b
-unfolding greater
-greater_left a b = grind arith
 
 greater_rises : (a b low : ℕ) → a ≤ b → greater a low ≤ greater b low
 unfolding greater

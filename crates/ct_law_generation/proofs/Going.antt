@@ -24,12 +24,12 @@ use Rattle.ct_law_world.proofs.Invariant.{Ghost}
 use Rattle.ct_law_record.proofs.Worlds.{WorldInv, nodes_at}
 use Rattle.ct_law_record.proofs.Law
 use Rattle.ct_law_record.proofs.MarkedRun.{Through, marks_of, marks_hold, unmarked, run_marks}
-use Rattle.ct_law_generation.specs.Shown.{Era, scene, project, IsOfLine, Schedules}
-use Rattle.ct_law_generation.proofs.Weave.{weave}
-use Rattle.ct_law_generation.proofs.Hearing.{accepts_heard}
-use Rattle.ct_law_generation.proofs.Holding.{Lined, SeenWithin, records_hold}
-use Rattle.ct_law_generation.proofs.Removing.{removed_as_told, removed_in_records, removed_heard}
-use Rattle.ct_law_generation.proofs.Clearing.{AllAscend, step_clears}
+use Rattle.ct_law_shown.specs.Shown.{Era, scene, project, IsOfLine, Schedules}
+use Rattle.ct_law_shown.proofs.Weave.{weave}
+use Rattle.ct_law_shown.proofs.Hearing.{accepts_heard}
+use Rattle.ct_law_cluster.proofs.Holding.{Lined, SeenWithin, records_hold}
+use Rattle.ct_law_removal.proofs.Removing.{removed_as_told, removed_in_records, removed_heard}
+use Rattle.ct_law_removal.proofs.Clearing.{AllAscend, step_clears}
 
 -- ---- one record
 

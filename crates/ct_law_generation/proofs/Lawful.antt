@@ -21,17 +21,17 @@ use Rattle.ct_law_record.proofs.Worlds.{WorldInv}
 use Rattle.ct_law_record.proofs.Law.{bare_ghost, bare_holds}
 use Rattle.ct_law_record.proofs.Births.{born_ghost, born_holds}
 use Rattle.ct_law_record.proofs.MarkedLaw.{bare_marks}
-use Rattle.ct_law_generation.specs.Shown.{scene, project}
-use Rattle.ct_law_generation.proofs.Pending.{Callers}
-use Rattle.ct_law_generation.proofs.Clusters.{all_known}
-use Rattle.ct_law_generation.proofs.Configured.{all_real, all_small}
-use Rattle.ct_law_generation.proofs.Opening.{first_era, first_is_era, below_everyone, opened_world, opened_stays}
-use Rattle.ct_law_generation.proofs.BornWorlds.{era_from}
-use Rattle.ct_law_generation.proofs.BornStarts.{born_real, each_begins, born_line, born_installed, born_holder}
-use Rattle.ct_law_generation.proofs.BornCalls.{callers_in}
-use Rattle.ct_law_generation.proofs.BornStays.{born_stays}
+use Rattle.ct_law_shown.specs.Shown.{scene, project}
+use Rattle.ct_law_node.proofs.Pending.{Callers}
+use Rattle.ct_law_cluster.proofs.Clusters.{all_known}
+use Rattle.ct_law_cluster.proofs.Configured.{all_real, all_small}
+use Rattle.ct_law_cluster.proofs.Opening.{first_era, first_is_era, below_everyone, opened_world, opened_stays}
+use Rattle.ct_law_birth.proofs.BornWorlds.{era_from}
+use Rattle.ct_law_birth.proofs.BornStarts.{born_real, each_begins, born_line, born_installed, born_holder}
+use Rattle.ct_law_birth.proofs.BornCalls.{callers_in}
+use Rattle.ct_law_birth.proofs.BornStays.{born_stays}
 use Rattle.ct_law_generation.proofs.Going.{Ghosts, marks_of_all, Followed}
-use Rattle.ct_law_generation.proofs.Entries.{opening_home, born_home}
+use Rattle.ct_law_entry.proofs.Entries.{opening_home, born_home}
 use Rattle.ct_law_generation.proofs.Running.{IsGeneration, Lives, restart, runs_from}
 
 -- ---- from the opening

@@ -32,19 +32,19 @@ use Rattle.ct_law_world.proofs.Invariant.{Ghost}
 use Rattle.ct_law_record.proofs.Worlds.{WorldInv}
 use Rattle.ct_law_record.proofs.Law.{leads}
 use Rattle.ct_law_record.proofs.MarkedRun.{marks_of}
-use Rattle.ct_law_generation.specs.Shown.{Era, scene, project, AllInstalled, heard, told_by_all, Schedules}
-use Rattle.ct_law_generation.proofs.Weave.{true_or_false}
-use Rattle.ct_law_generation.proofs.Pending.{Callers}
-use Rattle.ct_law_generation.proofs.Staying.{NodeStays}
-use Rattle.ct_law_generation.proofs.Clusters.{ClusterStays}
-use Rattle.ct_law_generation.proofs.Following.{asks_by_law}
-use Rattle.ct_law_generation.proofs.Fed.{fed_is}
-use Rattle.ct_law_generation.proofs.Assembled.{Run_goes, Starts}
-use Rattle.ct_law_generation.proofs.Stepping.{is_yield, step_goes_on}
-use Rattle.ct_law_generation.proofs.Yielding.{yielded, yields, yield_runs, yield_accepted}
+use Rattle.ct_law_shown.specs.Shown.{Era, scene, project, AllInstalled, heard, told_by_all, Schedules}
+use Rattle.ct_law_shown.proofs.Weave.{true_or_false}
+use Rattle.ct_law_node.proofs.Pending.{Callers}
+use Rattle.ct_law_node.proofs.Staying.{NodeStays}
+use Rattle.ct_law_cluster.proofs.Clusters.{ClusterStays}
+use Rattle.ct_law_node.proofs.Following.{asks_by_law}
+use Rattle.ct_law_cluster.proofs.Fed.{fed_is}
+use Rattle.ct_law_step.proofs.Assembled.{Run_goes, Starts}
+use Rattle.ct_law_step.proofs.Stepping.{is_yield, step_goes_on}
+use Rattle.ct_law_beside.proofs.Yielding.{yielded, yields, yield_runs, yield_accepted}
 use Rattle.ct_law_generation.proofs.Going.{Ghosts, marks_of_all, Followed, followed_hold, era_from, step_goes}
-use Rattle.ct_law_generation.proofs.AtHome.{AllAtHome, step_home}
-use Rattle.ct_law_generation.proofs.Entries.{lined}
+use Rattle.ct_law_entry.proofs.AtHome.{AllAtHome, step_home}
+use Rattle.ct_law_entry.proofs.Entries.{lined}
 
 -- ---- the recovery lock stays where it is
 

@@ -86,12 +86,6 @@ vacuum_more v n c d up some h = record {
   deleted = λ a b. past_more (v.rsn + 2) c d up some (h.deleted a b);
 }
 
-pub vacuum_none : (v : Vacuuming) (n : ℕ) (c : Option Copy) → rank c ≡ 0 → VacuumAt v n c
-vacuum_none v n c e = record {
-  storing = λ a b. past_none (v.rsn + 1) c e;
-  deleted = λ a b. past_none (v.rsn + 2) c e;
-}
-
 pub vacuum_top : (v : Vacuuming) (n : ℕ) (c : Option Copy) → v.rsn + 2 ≤ rank c → VacuumAt v n c
 vacuum_top v n c le = record {
   storing = λ a b. past_top (v.rsn + 1) c (omega arith);

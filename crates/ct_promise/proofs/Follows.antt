@@ -34,7 +34,7 @@ promise_follows law config rules steps is = run_keeps config rules steps _ _ _ (
 
 -- ---- one generation
 
-filter_more : {X : Type 0} (f : X → Bool) (xs ys : List X) → filter f (xs ++ ys) ≡ filter f xs ++ filter f ys
+pub filter_more : {X : Type 0} (f : X → Bool) (xs ys : List X) → filter f (xs ++ ys) ≡ filter f xs ++ filter f ys
 filter_more f [] ys = refl
 filter_more f (x ∷ xs) ys = first (f x) (filter_more f xs ys)
   where

@@ -1,0 +1,4 @@
+pub mod Committed
+pub mod Asides
+pub mod Rounding
+pub mod Yielding

@@ -1,0 +1,63 @@
+-- The recovery lock is given back: nothing else of the cluster changes, and the registers accept what is told of it.
+use Rattle.std.proofs.Common.{◌≡◌, ℕ, true, [], ◌∷◌, Option, None, Some, refl, ap, ◌∙◌}
+use Rattle.std.proofs.lemmas.Bool.{eqb-true}
+use Rattle.std.specs.Prelude.{nat_lt}
+use Rattle.ct_msg.specs.declared.config.Config.{Config}
+use Rattle.ct_call.specs.Rules.{Rules}
+use Rattle.ct_cluster.specs.Cluster.{Cluster, is_up}
+use Rattle.ct_cluster.specs.Faults.{first_of, no_such_node, node_down, is_holder, not_holder, fault_of, is_allowed}
+use Rattle.ct_cluster.specs.Labels.{Yielded}
+use Rattle.ct_cluster.specs.Steps.{done, steps, steps_or, applied}
+use Rattle.ct_cluster.specs.Traces.{label_of, line_labels, own_labels, labels, taken, ran_one}
+use Rattle.ct_cluster.specs.declared.step.Line.TheVariants as line
+use Rattle.ct_cluster.specs.declared.step.Step.TheVariants as step
+use Rattle.ct_cluster.specs.declared.step.StepFault.{StepFault}
+use Rattle.ct_register.specs.Legal.{AcceptsLabels}
+use Rattle.ct_register.specs.Lines.{Lines}
+use Rattle.ct_law_cluster.proofs.Faulting.{not_faulty}
+
+-- the cluster with a free recovery lock
+abbrev pub yielded : Cluster → Cluster
+yielded w = record w { holder = None }
+
+-- ---- why it is not refused
+
+-- where none of three refusals is there, each is not there
+none_of : (a b d : Option StepFault) → first_of (a ∷ b ∷ d ∷ []) ≡ None → (a ≡ None) × (b ≡ None) × (d ≡ None)
+unfolding first_of
+none_of None None None e = (refl, refl, refl)
+none_of None None (Some f) e = absurd (cc)
+none_of None (Some f) d e = absurd (cc)
+none_of (Some f) b d e = absurd (cc)
+
+holds_it : (n : ℕ) (h : Option ℕ) → is_holder n h ≡ true → h ≡ Some n
+unfolding is_holder
+holds_it n None e = absurd (cc)
+holds_it n (Some h) e = ap (λ (k : ℕ). Some k) (eqb-true h n e)
+
+-- the node is there, runs, and holds the lock
+pub record Yields (c : Config) (w : Cluster) (n : ℕ) : Type 0 where
+  pub there : nat_lt n c.nodes ≡ true
+  pub up : is_up n w ≡ true
+  pub held : w.holder ≡ Some n
+
+pub yields : (c : Config) (w : Cluster) (n : ℕ) → fault_of c w (step.Yield n) ≡ None → Yields c w n
+unfolding fault_of no_such_node node_down not_holder
+yields c w n e = (let parts = none_of (no_such_node c n) (node_down w n) (not_holder w n) e in record {
+  there = not_faulty (nat_lt n c.nodes) _ parts.0;
+  up = not_faulty (is_up n w) _ parts.1;
+  held = holds_it n w.holder (not_faulty (is_holder n w.holder) _ parts.2);
+})
+
+-- ---- what it becomes
+
+-- so it runs
+pub yield_runs : (c : Config) (rules : Rules) (w : Cluster) (n : ℕ) → fault_of c w (step.Yield n) ≡ None → ran_one c rules w (step.Yield n) ≡ record { cluster = yielded w; lines = line.Yielded n ∷ []; trace = Yielded n ∷ [] }
+unfolding ran_one is_allowed applied steps_or steps done taken labels own_labels line_labels label_of
+yield_runs c rules w n e = ap (λ (f : Option StepFault). taken w (step.Yield n) (steps_or c rules w (step.Yield n) f)) e
+
+-- ---- what is told of it
+
+-- registers that have the recovery lock where the cluster has it accept that, and have it there again
+pub yield_accepted : (c : Config) (rules : Rules) (w : Cluster) (n : ℕ) (r : Lines) → Yields c w n → r.holder ≡ w.holder → AcceptsLabels c rules r (Yielded n ∷ []) (record r { holder = None })
+yield_accepted c rules w n r h e = (record r { holder = None }, (e ∙ h.held, refl), refl)

@@ -1,0 +1,17 @@
+pub mod Clusters
+pub mod Holding
+pub mod Coming
+pub mod Opening
+pub mod Counting
+pub mod Called
+pub mod Admitted
+pub mod Configured
+pub mod Served
+pub mod Clients
+pub mod Lining
+pub mod Refused
+pub mod Fed
+pub mod Delivered
+pub mod Vacuumed
+pub mod Locked
+pub mod Faulting

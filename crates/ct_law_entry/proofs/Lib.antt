@@ -1,0 +1,4 @@
+pub mod Homing
+pub mod Leaving
+pub mod AtHome
+pub mod Entries

@@ -1,0 +1,4 @@
+pub mod Retried
+pub mod Resending
+pub mod Retrying
+pub mod Thawed

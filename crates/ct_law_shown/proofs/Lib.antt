@@ -1,0 +1,8 @@
+pub mod Weave
+pub mod Standing
+pub mod Speaking
+pub mod Wishing
+pub mod Hearing
+pub mod Telling
+pub mod Amid
+pub mod Events
