@@ -1,4 +1,4 @@
--- What is shown of the statements. The promises themselves are not shown here.
+-- What is shown here of the statements: what follows from what among them, and that nothing is marked at the opening.
 use Rattle.ct_msg.specs.declared.config.Config.{Config}
 use Rattle.ct_cluster.specs.Cluster.{opening}
 use Rattle.ct_register.specs.Lines

@@ -1,4 +1,6 @@
-//! What is shown of the statements. The promises themselves are not shown here.
+//! What follows from what among the statements, and that they speak of something. The laws of one generation are shown in
+//! ct_law_generation, and with them what is promised of its records. The promise of every run and the law of marks are not
+//! shown.
 ghost use Rattle.ct_promise.specs.Laws.{OpeningIsMarked, PromiseFollows, OneGenerationFollows, RowsFollow};
 ghost use Rattle.ct_promise.specs.Small.{RowsAreThere};
 
@@ -15,19 +17,19 @@ pub fn rows_are_there()
     ensures { RowsAreThere }
 {}
 
-/// The promise of every run follows from the law of marks. That law itself is not shown here.
+/// The promise of every run follows from the law of marks, which is not shown.
 #[tactic(auto, using(crate::proofs::Follows::promise_follows))]
 pub fn promise_follows()
     ensures { PromiseFollows }
 {}
 
-/// What is promised of records in the first generation follows from its law step by step, which is not shown here.
+/// What is promised of records in the first generation follows from its law step by step, which ct_law_generation shows.
 #[tactic(auto, using(crate::proofs::Follows::one_generation_follows))]
 pub fn one_generation_follows()
     ensures { OneGenerationFollows }
 {}
 
-/// So it does in a generation that began with rows.
+/// So it does in a generation that began with rows, whose law ct_law_generation shows, too.
 pub fn rows_follow()
     ensures { RowsFollow }
 {}
