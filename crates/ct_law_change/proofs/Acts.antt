@@ -1,8 +1,8 @@
 -- Each part of the rule keeps the invariant: what is sent, told, given, revoked, granted, drained.
 use Rattle.std.proofs.Common.{◌≡◌, ◌≢◌, ◌⊎◌, ℕ, ◌<◌, ◌≤◌, Bool, true, false, Option, Some, None, List, [], ◌∷◌, ◌++◌, length, length-append, refl, sym, ap, ◌∙◌, inl, inr, ⊎_elim, arith, append_assoc, subst, not, ◌&&◌, ◌||◌, ◌==◌, le_of_eq}
 use Rattle.std.proofs.lemmas.Bool.{and_parts, not-true, cond_both, cases_eq, eqb-false, lt-leb, le-leb, ne_eqb, eq-eqb}
-use Rattle.ct_law_world.proofs.Invariant.{span_of, Goes, Start, Waits, readers_of, is_revoking, Ghost, RevokeAt, Says, BodyAt, Recalled, NodeInv, MasterFacts, MasterInv, GlobalInv, Good, Holds, Kept}
-use Rattle.ct_law_world.proofs.Nodes.{and_frame, NodeInv-frame, given, NodeInv-given, rank_of, NodeInv-nowish, NodeInv-recalls, seeing, NodeInv-seeing}
+use Rattle.ct_law_fact.proofs.Invariant.{span_of, Goes, Start, Waits, readers_of, is_revoking, Ghost, RevokeAt, Says, BodyAt, Recalled, NodeInv, MasterFacts, MasterInv, GlobalInv, Good, Holds, Kept}
+use Rattle.ct_law_fact.proofs.Nodes.{and_frame, NodeInv-frame, given, NodeInv-given, rank_of, NodeInv-nowish, NodeInv-recalls, seeing, NodeInv-seeing}
 use Rattle.ct_law_change.proofs.Markings.{grows_none, goes_on, goes_told}
 use Rattle.ct_law_world.specs.Marked.{is_removal, is_removed}
 use Rattle.ct_law_change.proofs.Holder.{Change, Shift, Own, NodeInv-shift, NodeInv-own}
@@ -24,7 +24,7 @@ use Rattle.ct_rules.specs.declared.state.RecallNote.{RecallNote}
 use Rattle.ct_register.specs.Register.{Register, reading}
 use Rattle.ct_register.specs.Words.{at as changed}
 use Rattle.ct_law_world.specs.Labels.{Label, Told, AcceptsLabel, AcceptsAll}
-use Rattle.ct_law_world.proofs.Rule.{applies, read_here, Body, Copy, Done, Frame, Give, Grant, Node, Out, Revoke, Wish, drain, end_vacuum, give, grant, has_node, is_free, is_here, is_idle, is_wish, rank, reads_op, revoke, revoke_again, rsn_of, satisfy, send, send_all, tell, value_of, with_node, with_value, yield_record}
+use Rattle.ct_law_fact.proofs.Rule.{applies, read_here, Body, Copy, Done, Frame, Give, Grant, Node, Out, Revoke, Wish, drain, end_vacuum, give, grant, has_node, is_free, is_here, is_idle, is_wish, rank, reads_op, revoke, revoke_again, rsn_of, satisfy, send, send_all, tell, value_of, with_node, with_value, yield_record}
 use Rattle.ct_law_change.proofs.Small.{given_is, read_accepted, reads_is_read, changed_me, changed_other}
 
 module _ (rules : Rules) (ps : List ℕ) (m me : ℕ) (nodes : ℕ → Node) (frames : List Frame) (r : Start) where

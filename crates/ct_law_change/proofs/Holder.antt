@@ -1,15 +1,15 @@
 -- The node that the entry names becomes holder; and what the holder changes: for the other nodes, and for itself.
 use Rattle.std.proofs.Common.{length, ap, ◌≡◌, ◌≢◌, ◌⊎◌, ℕ, ◌+◌, ◌<◌, ◌≤◌, true, false, ◌||◌, Option, Some, None, [], refl, sym, ◌∙◌, ⊎_elim, arith, subst, take}
 use Rattle.std.proofs.lemmas.Bool.{false_from_ne_true}
-use Rattle.ct_law_world.proofs.Invariant.{span_of, Grows, Past, Sent, Asked, Waits, Recalled, readers_of, is_revoking, Ghost, PassAt, GiveAt, RefuseAt, Ungranted, Emptied, Joined, VacuumAt, Says, NodeInv, GlobalInv}
-use Rattle.ct_law_world.proofs.Nodes.{kind_eq, past_more, past_top, vacuum_top}
-use Rattle.ct_law_world.proofs.Copies.{whole_reading}
+use Rattle.ct_law_fact.proofs.Invariant.{span_of, Grows, Past, Sent, Asked, Waits, Recalled, readers_of, is_revoking, Ghost, PassAt, GiveAt, RefuseAt, Ungranted, Emptied, Joined, VacuumAt, Says, NodeInv, GlobalInv}
+use Rattle.ct_law_fact.proofs.Nodes.{kind_eq, past_more, past_top, vacuum_top}
+use Rattle.ct_law_fact.proofs.Copies.{whole_reading}
 use Rattle.std.specs.Prelude.{List}
 use Rattle.ct_deleg.specs.Tracked.{Revocation}
 use Rattle.ct_vacuum.specs.Vacuum.{Vacuuming}
 use Rattle.ct_rules.specs.declared.state.Entry.{Entry}
 use Rattle.ct_register.specs.Register.{reading}
-use Rattle.ct_law_world.proofs.Rule.{is_odd, is_kind_odd, Body, Call, Copy, Done, Frame, Give, Grant, Here, Node, Pass, Recalls, Refuse, Revoke, RevokeAck, VDelete, VDeleted, VStore, VStored, Wish, has_node, is_here, is_kind_here, is_kind_reading, is_reading, rank, reads_op, value_of}
+use Rattle.ct_law_fact.proofs.Rule.{is_odd, is_kind_odd, Body, Call, Copy, Done, Frame, Give, Grant, Here, Node, Pass, Recalls, Refuse, Revoke, RevokeAck, VDelete, VDeleted, VStore, VStored, Wish, has_node, is_here, is_kind_here, is_kind_reading, is_reading, rank, reads_op, value_of}
 
 here_even : (c : Option Copy) → is_here c ≡ true → is_odd c ≡ false
 unfolding is_here is_odd is_kind_here is_kind_odd

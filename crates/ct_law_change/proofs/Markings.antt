@@ -5,9 +5,9 @@ use Rattle.std.proofs.lemmas.List.{take_all, take-append-le}
 use Rattle.ct_register.specs.Register.{reading}
 use Rattle.ct_law_world.specs.Labels.{Label, Joined}
 use Rattle.ct_law_world.specs.Marked.{is_removal, is_removed}
-use Rattle.ct_law_world.proofs.Invariant.{Span, Grows, Empties, Goes, Marking}
-use Rattle.ct_law_world.proofs.Copies.{lt_cases}
-use Rattle.ct_law_world.proofs.Rule.{greater}
+use Rattle.ct_law_fact.proofs.Invariant.{Span, Grows, Empties, Goes, Marking}
+use Rattle.ct_law_fact.proofs.Copies.{lt_cases}
+use Rattle.ct_law_fact.proofs.Rule.{greater}
 
 -- spans
 pub grows_none : (a : Span) → Grows a a

@@ -2,7 +2,7 @@
 use Rattle.std.proofs.Common.{◌≡◌, ◌≢◌, ◌⊎◌, ℕ, ◌+◌, ◌<◌, ◌≤◌, Bool, true, false, Option, Some, None, List, [], ◌∷◌, ◌++◌, length, take, refl, sym, ap, ◌∙◌, inl, inr, ⊎_elim, arith, subst, ◌||◌, cond, leb, length-append}
 use Rattle.std.proofs.lemmas.Bool.{lt-leb, le-leb}
 use Rattle.std.proofs.lemmas.List.{take-append-le}
-use Rattle.ct_law_world.proofs.Invariant.{readers_of, is_revoking, Ghost, Ungranted, Emptied, Joined, Says, NodeInv, GlobalInv}
+use Rattle.ct_law_fact.proofs.Invariant.{readers_of, is_revoking, Ghost, Ungranted, Emptied, Joined, Says, NodeInv, GlobalInv}
 use Rattle.ct_law_change.proofs.Holder.{Change, Shift, Granted}
 use Rattle.ct_law_change.proofs.Markings.{grows_top, grows_grown, marking_top, marking_grown}
 use Rattle.std.specs.Prelude.{List}
@@ -12,7 +12,7 @@ use Rattle.ct_rules.specs.State.{is_nil}
 use Rattle.ct_register.specs.Register.{Register, reading}
 use Rattle.ct_register.specs.Words.{at as changed}
 use Rattle.ct_law_world.specs.Labels.{Label, AcceptsLabel, AcceptsAll}
-use Rattle.ct_law_world.proofs.Rule.{Body, Copy, Node, Wish, has_node, is_here, is_idle, is_reading, rank, value_of, with_value}
+use Rattle.ct_law_fact.proofs.Rule.{Body, Copy, Node, Wish, has_node, is_here, is_idle, is_reading, rank, value_of, with_value}
 
 pub accepts_one_more : (rules : Rules) (r s t : Register) (labels : List Label) (l : Label) → AcceptsAll rules r labels s → AcceptsLabel rules s l t → AcceptsAll rules r (labels ++ (l ∷ [])) t
 accepts_one_more rules r s t [] l h a = (t, subst (λ x. AcceptsLabel rules x l t) h a, refl)

@@ -1,9 +1,9 @@
 -- Revocations and copies for reading.
 use Rattle.std.proofs.Common.{◌≡◌, ◌≢◌, ◌⊎◌, ℕ, ◌+◌, ◌<◌, Bool, true, false, Option, Some, None, List, [], ◌∷◌, refl, sym, ap, ◌∙◌, inl, inr, ⊎_elim, arith, subst, not, ◌&&◌, ◌||◌, ◌==◌, nat_le, eqb-true, eq-eqb}
 use Rattle.std.proofs.lemmas.Bool.{and_parts, not-true, cond_both, cases_eq, false_from_ne_true}
-use Rattle.ct_law_world.proofs.Invariant.{Start, Sent, readers_of, is_revoking, Ghost, Ungranted, RevokeAt, AckAt, Says, BodyAt, NodeInv, Holds, Kept}
-use Rattle.ct_law_world.proofs.Nodes.{and_frame, NodeInv-called, called, rank_of, ungranted_new, NodeInv-stale, reading-stale, rank-stale}
-use Rattle.ct_law_world.proofs.Copies.{NodeInv-granted, granted}
+use Rattle.ct_law_fact.proofs.Invariant.{Start, Sent, readers_of, is_revoking, Ghost, Ungranted, RevokeAt, AckAt, Says, BodyAt, NodeInv, Holds, Kept}
+use Rattle.ct_law_fact.proofs.Nodes.{and_frame, NodeInv-called, called, rank_of, ungranted_new, NodeInv-stale, reading-stale, rank-stale}
+use Rattle.ct_law_fact.proofs.Copies.{NodeInv-granted, granted}
 use Rattle.ct_law_change.proofs.Parts.{nil_none, tracks, change_tracks, global_tracks, Done_with, granted_to, granted_end, shift_to, shift_end, nobody_has}
 use Rattle.ct_law_change.proofs.Acts.{send_holds, node_holds, own_holds, Others, master_copy, see_holds, satisfy_holds, drain_holds}
 use Rattle.ct_law_change.proofs.Small.{reads_is_read}
@@ -13,7 +13,7 @@ use Rattle.ct_call.specs.Rules.{Rules}
 use Rattle.ct_deleg.specs.Tracked.{Revocation, others}
 use Rattle.ct_rules.specs.State.{is_nil}
 use Rattle.ct_rules.specs.declared.state.Entry.{Entry}
-use Rattle.ct_law_world.proofs.Rule.{risen, reads, is_kind_here, Body, Call, Copy, For_reading, Frame, Grant, Here, Node, Out, Revoke, RevokeAck, Wish, end_revocation, end_wish, has_node, is_here, is_reading, is_wish, on_ack, on_grant, on_revoke, rank, reads_op, rsn_of, send, stale, value_of, with_node}
+use Rattle.ct_law_fact.proofs.Rule.{risen, reads, is_kind_here, Body, Call, Copy, For_reading, Frame, Grant, Here, Node, Out, Revoke, RevokeAck, Wish, end_revocation, end_wish, has_node, is_here, is_reading, is_wish, on_ack, on_grant, on_revoke, rank, reads_op, rsn_of, send, stale, value_of, with_node}
 
 pub has-without : (k n : ℕ) (ns : List ℕ) → k ≢ n → has_node k ns ≡ true → has_node k (others n ns) ≡ true
 unfolding has_node

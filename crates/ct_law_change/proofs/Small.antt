@@ -10,7 +10,7 @@ use Rattle.ct_rules.specs.State.{is_read_op, is_read_kind, kind_of}
 use Rattle.ct_register.specs.Register.{Register, reading, OwnedByNoOther}
 use Rattle.ct_register.specs.Words.{at as changed}
 use Rattle.ct_law_world.specs.Labels.{Told, AcceptsLabel}
-use Rattle.ct_law_world.proofs.Rule.{Given, given_copy, Copy, Op, is_here, reads_op, rsn_of, value_of}
+use Rattle.ct_law_fact.proofs.Rule.{Given, given_copy, Copy, Op, is_here, reads_op, rsn_of, value_of}
 
 pub given_is : (c : Option Copy) → is_here c ≡ true → given_copy c ≡ Some (record { rsn = rsn_of c; kind = Given; value = value_of c })
 unfolding given_copy is_here rsn_of value_of

@@ -20,7 +20,7 @@ use Rattle.ct_law_shown.proofs.Weave.{true_or_false}
 use Rattle.ct_law_node.proofs.Pending.{Callers}
 use Rattle.ct_law_node.proofs.Plain.{plain_at}
 use Rattle.ct_law_node.proofs.Staying.{NodeStays}
-use Rattle.ct_law_shown.proofs.Events.{arrives_not}
+use Rattle.ct_law_node.proofs.Events.{arrives_not}
 use Rattle.ct_law_node.proofs.Following.{Goes_on, IsEra, asks_here}
 use Rattle.ct_law_node.proofs.Delivering.{begun, delivers}
 use Rattle.ct_law_node.proofs.Putting.{extends, fate_hidden}

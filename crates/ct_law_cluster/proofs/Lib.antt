@@ -8,7 +8,6 @@ pub mod Admitted
 pub mod Configured
 pub mod Served
 pub mod Clients
-pub mod Lining
 pub mod Refused
 pub mod Fed
 pub mod Delivered

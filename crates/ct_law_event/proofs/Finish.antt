@@ -1,8 +1,8 @@
 -- FINISH: the versions, the copies and the entry are gone, and the floor is above all that was.
 use Rattle.std.proofs.Common.{length, ◌≡◌, ◌≢◌, ℕ, ◌+◌, ◌<◌, ◌≤◌, true, false, Option, Some, None, List, [], take, refl, sym, ◌∙◌, inr, arith, subst}
 use Rattle.std.proofs.lemmas.Bool.{false_from_ne_true}
-use Rattle.ct_law_world.proofs.Invariant.{span_of, Start, Ghost, Emptied, Joined, Says, Facts, NodeInv, Holds, Kept, default_entry}
-use Rattle.ct_law_world.proofs.Nodes.{past_none}
+use Rattle.ct_law_fact.proofs.Invariant.{span_of, Start, Ghost, Emptied, Joined, Says, Facts, NodeInv, Holds, Kept, default_entry}
+use Rattle.ct_law_fact.proofs.Nodes.{past_none}
 use Rattle.ct_law_world.specs.Marked.{is_removal, is_removed}
 use Rattle.ct_law_change.proofs.Markings.{goes_removed, goes_top}
 use Rattle.ct_law_change.proofs.Parts.{nobody_has, readers_idle, accepts_one_more}
@@ -12,8 +12,8 @@ use Rattle.ct_call.specs.Rules.{Rules}
 use Rattle.ct_deleg.specs.Tracked.{Revocation}
 use Rattle.ct_register.specs.Register.{reading, emptied}
 use Rattle.ct_law_world.specs.Labels.{Vacuumed}
-use Rattle.ct_law_world.proofs.Rule
-use Rattle.ct_law_world.proofs.Rule.{is_odd, Body, Call, Copy, Done, Frame, Give, Grant, Node, Out, Pass, Recalls, Refuse, Revoke, RevokeAck, VDelete, VDeleted, VStore, VStored, Wish, greater, has_node, is_here, is_reading, rank, reads_op, tell, value_of, with_node}
+use Rattle.ct_law_fact.proofs.Rule
+use Rattle.ct_law_fact.proofs.Rule.{is_odd, Body, Call, Copy, Done, Frame, Give, Grant, Node, Out, Pass, Recalls, Refuse, Revoke, RevokeAck, VDelete, VDeleted, VStore, VStored, Wish, greater, has_node, is_here, is_reading, rank, reads_op, tell, value_of, with_node}
 use Rattle.ct_law_event.proofs.Phases.{rank_none}
 
 abbrev pub finished : ℕ → ℕ → Ghost → Ghost

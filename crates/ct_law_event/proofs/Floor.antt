@@ -1,15 +1,15 @@
 -- A vacuum of another key ends: the floor rises, and where this key has no entry, the next OPEN moves on.
 use Rattle.std.proofs.Common.{◌≡◌, ◌≢◌, ℕ, ◌<◌, ◌≤◌, false, Option, Some, None, List, refl, sym, ap, ◌∙◌, inl, inr, ⊎_elim, arith}
 use Rattle.std.proofs.lemmas.Bool.{cases_eq, false_from_ne_true}
-use Rattle.ct_law_world.proofs.Invariant.{Start, Ghost, Holds, Kept, default_entry}
-use Rattle.ct_law_world.proofs.Copies.{NodeInv-moved, moved}
+use Rattle.ct_law_fact.proofs.Invariant.{Start, Ghost, Holds, Kept, default_entry}
+use Rattle.ct_law_fact.proofs.Copies.{NodeInv-moved, moved}
 use Rattle.ct_law_change.proofs.Markings.{marking_moved}
 use Rattle.ct_law_change.proofs.Acts.{node_holds}
 use Rattle.std.specs.Prelude.{List, []}
 use Rattle.ct_call.specs.Rules.{Rules}
 use Rattle.ct_rules.specs.declared.state.Entry.{Entry}
-use Rattle.ct_law_world.proofs.Rule
-use Rattle.ct_law_world.proofs.Rule.{Copy, Frame, Node, Out, Wish, greater, is_here, rank, with_node}
+use Rattle.ct_law_fact.proofs.Rule
+use Rattle.ct_law_fact.proofs.Rule.{Copy, Frame, Node, Out, Wish, greater, is_here, rank, with_node}
 use Rattle.ct_law_event.proofs.Phases.{rank_none}
 
 pub greater_left : (a b : ℕ) → a ≤ greater a b

@@ -1,8 +1,8 @@
 -- Each client call, and what the location master does, keeps the invariant.
 use Rattle.std.proofs.Common.{◌≡◌, ◌≢◌, ℕ, ◌+◌, ◌≤◌, Bool, true, false, Option, Some, None, List, [], ◌∷◌, refl, sym, ap, ◌∙◌, inl, inr, ⊎_elim, arith, subst, ◌&&◌, ◌||◌, cond}
 use Rattle.std.proofs.lemmas.Bool.{and_parts, cond_both, false_from_ne_true, or_cases}
-use Rattle.ct_law_world.proofs.Invariant.{span_of, Start, Asked, readers_of, is_revoking, Ghost, RefuseAt, Says, Holds, Kept}
-use Rattle.ct_law_world.proofs.Nodes.{NodeInv-called, called}
+use Rattle.ct_law_fact.proofs.Invariant.{span_of, Start, Asked, readers_of, is_revoking, Ghost, RefuseAt, Says, Holds, Kept}
+use Rattle.ct_law_fact.proofs.Nodes.{NodeInv-called, called}
 use Rattle.ct_law_change.proofs.Holder.{NodeInv-shift, NodeInv-holding, held, holding}
 use Rattle.ct_law_world.specs.Marked.{is_removed}
 use Rattle.ct_law_change.proofs.Markings.{grows_top, goes_on, marking_top}
@@ -18,8 +18,8 @@ use Rattle.ct_rules.specs.State.{is_nil, is_read_op, kind_of}
 use Rattle.ct_rules.specs.declared.state.Entry.{Entry}
 use Rattle.ct_rules.specs.declared.state.Waiter.{Waiter}
 use Rattle.ct_law_world.specs.Labels.{Told}
-use Rattle.ct_law_world.proofs.Rule
-use Rattle.ct_law_world.proofs.Rule.{wait_for_copies, Body, Call, Copy, Done, Frame, Give, Grant, Here, Kind, Node, Op, Out, Pass, Recalls, Refuse, Revoke, RevokeAck, Wish, become, drain, has_node, is_here, is_idle, is_read, is_reading, rank, reads_op, rsn_of, satisfy, send, tell, value_of, with_node, with_value}
+use Rattle.ct_law_fact.proofs.Rule
+use Rattle.ct_law_fact.proofs.Rule.{wait_for_copies, Body, Call, Copy, Done, Frame, Give, Grant, Here, Kind, Node, Op, Out, Pass, Recalls, Refuse, Revoke, RevokeAck, Wish, become, drain, has_node, is_here, is_idle, is_read, is_reading, rank, reads_op, rsn_of, satisfy, send, tell, value_of, with_node, with_value}
 
 module _ (rules : Rules) (ps : List ℕ) (m me : ℕ) (nodes : ℕ → Node) (frames : List Frame) (r : Start) where
   pub call_holds : (op : Op) (g : Ghost) (o : Out) → is_here o.node.copy ≡ false → Holds rules ps m me nodes frames r g o → Kept rules ps m me nodes frames r (Rule.call me m op o)

@@ -1,16 +1,16 @@
 -- A lock that ends without its client, and a node that stops.
 use Rattle.std.proofs.Common.{◌≡◌, ◌≢◌, ℕ, ◌≤◌, Bool, true, false, Option, Some, None, List, refl, sym, ap, ◌∙◌, arith, subst}
 use Rattle.std.proofs.lemmas.Bool.{eq-eqb, ne_eqb}
-use Rattle.ct_law_world.proofs.Invariant.{span_of, Start, Ghost, Holds, Kept}
+use Rattle.ct_law_fact.proofs.Invariant.{span_of, Start, Ghost, Holds, Kept}
 use Rattle.ct_law_change.proofs.Acts.{lock_holds}
 use Rattle.ct_law_change.proofs.Small.{changed_me, changed_other}
 use Rattle.std.specs.Prelude.{List}
 use Rattle.ct_call.specs.Rules.{Rules}
 use Rattle.ct_register.specs.Register.{left_by, owner_without}
-use Rattle.ct_law_world.proofs.Rule.{Frame, Node, Out, rank, tell, with_node}
+use Rattle.ct_law_fact.proofs.Rule.{Frame, Node, Out, rank, tell, with_node}
 use Rattle.ct_register.specs.Words.{at as changed}
 use Rattle.ct_law_world.specs.Labels.{Ended, Left}
-use Rattle.ct_law_world.proofs.Nodes.{seeing, NodeInv-seeing}
+use Rattle.ct_law_fact.proofs.Nodes.{seeing, NodeInv-seeing}
 use Rattle.ct_law_world.specs.Marked.{is_removal}
 use Rattle.ct_law_change.proofs.Markings.{goes_told}
 use Rattle.ct_law_change.proofs.Parts.{accepts_one_more}

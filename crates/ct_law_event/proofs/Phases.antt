@@ -1,13 +1,13 @@
 -- Small lemmas of a vacuum: whom it misses, its phases, and copies that are absent or far enough.
 use Rattle.std.proofs.Common.{◌≡◌, ◌≢◌, ◌⊎◌, ℕ, ◌≤◌, Bool, true, false, Option, Some, None, List, [], ◌∷◌, refl, ap, inl, inr, ⊎_elim, arith, ◌&&◌, ◌==◌, eqb-true}
 use Rattle.std.proofs.lemmas.Bool.{and_parts, cases_eq, false_from_ne_true}
-use Rattle.ct_law_world.proofs.Invariant.{Past}
+use Rattle.ct_law_fact.proofs.Invariant.{Past}
 use Rattle.ct_law_change.proofs.Revoking.{has-without}
 use Rattle.std.specs.Prelude.{List}
 use Rattle.ct_vacuum.specs.Vacuum.{Vacuuming, is_phase, awaits, without, is_last, is_none as is_none_left}
 use Rattle.ct_vacuum.specs.declared.vacuum.VacuumPhase.{VacuumPhase}
 use Rattle.ct_vacuum.specs.declared.vacuum.VacuumPhase.TheVariants.{Storing, Deleting}
-use Rattle.ct_law_world.proofs.Rule.{is_storing, Copy, has_node, rank, value_of}
+use Rattle.ct_law_fact.proofs.Rule.{is_storing, Copy, has_node, rank, value_of}
 
 pub fewer_has : (k n : ℕ) (ns : List ℕ) → has_node k ns ≡ false → has_node k (without n ns) ≡ false
 unfolding has_node

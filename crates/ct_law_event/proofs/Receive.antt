@@ -1,9 +1,9 @@
 -- Each frame that comes keeps the invariant, but for those of the vacuum.
 use Rattle.std.proofs.Common.{◌≡◌, ◌≢◌, ◌⊎◌, ℕ, ◌+◌, ◌-◌, ◌<◌, ◌≤◌, Bool, true, false, Option, Some, None, List, [], ◌∷◌, ◌++◌, refl, sym, ap, ◌∙◌, inl, inr, ⊎_elim, arith, subst, not, ◌&&◌, ◌==◌, nat_lt, nat_le, eqb-true, ltb-false, leb-true}
 use Rattle.std.proofs.lemmas.Bool.{and_parts, cond_both, cases_eq, eq-eqb, eqb-false, false_from_ne_true}
-use Rattle.ct_law_world.proofs.Invariant.{Start, Asked, Waits, Recalled, Ghost, PassAt, GiveAt, RefuseAt, Says, NodeInv, Holds, Kept, default_entry}
-use Rattle.ct_law_world.proofs.Nodes.{NodeInv-queue, each_asked, asked_rest, asked_first}
-use Rattle.ct_law_world.proofs.Copies.{NodeInv-moved, moved}
+use Rattle.ct_law_fact.proofs.Invariant.{Start, Asked, Waits, Recalled, Ghost, PassAt, GiveAt, RefuseAt, Says, NodeInv, Holds, Kept, default_entry}
+use Rattle.ct_law_fact.proofs.Nodes.{NodeInv-queue, each_asked, asked_rest, asked_first}
+use Rattle.ct_law_fact.proofs.Copies.{NodeInv-moved, moved}
 use Rattle.ct_law_change.proofs.Holder.{held}
 use Rattle.ct_law_world.specs.Marked.{is_removal, is_removed}
 use Rattle.ct_law_change.proofs.Markings.{marking_moved}
@@ -24,8 +24,8 @@ use Rattle.ct_rules.specs.declared.state.RecallNote.{RecallNote}
 use Rattle.ct_rules.specs.declared.state.Waiter.{Waiter}
 use Rattle.ct_register.specs.Register.{reading}
 use Rattle.ct_law_world.specs.Labels.{Told}
-use Rattle.ct_law_world.proofs.Rule
-use Rattle.ct_law_world.proofs.Rule.{Body, Call, Copy, Done, Frame, Give, Given, Grant, Here, Kind, Node, Op, Out, Pass, Recalls, Refuse, Revoke, RevokeAck, Wish, become, drain, end_vacuum, is_free, is_given, is_here, is_kind_given, is_kind_here, is_read, is_reading, is_wish, rank, reads_op, rsn_of, satisfy, satisfy_wish, send, tell, value_of, with_node, with_value}
+use Rattle.ct_law_fact.proofs.Rule
+use Rattle.ct_law_fact.proofs.Rule.{Body, Call, Copy, Done, Frame, Give, Given, Grant, Here, Kind, Node, Op, Out, Pass, Recalls, Refuse, Revoke, RevokeAck, Wish, become, drain, end_vacuum, is_free, is_given, is_here, is_kind_given, is_kind_here, is_read, is_reading, is_wish, rank, reads_op, rsn_of, satisfy, satisfy_wish, send, tell, value_of, with_node, with_value}
 
 -- what is known of every node where the entry may move on to this least
 pub record Calm (g : Ghost) (least n : ℕ) (copy : Option Copy) (now : Option Wish) : Type 0 where

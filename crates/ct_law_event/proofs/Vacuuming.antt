@@ -1,9 +1,9 @@
 -- The frames of a vacuum, and the vacuum event.
 use Rattle.std.proofs.Common.{◌≡◌, ◌≢◌, ℕ, ◌+◌, ◌<◌, ◌≤◌, true, false, Option, Some, None, List, [], ◌∷◌, take, refl, sym, ap, ◌∙◌, inl, inr, ⊎_elim, arith, subst, ◌&&◌, ◌==◌, eqb-true}
 use Rattle.std.proofs.lemmas.Bool.{and_parts, cond_both, cases_eq, eq-eqb, eqb-false, false_from_ne_true}
-use Rattle.ct_law_world.proofs.Invariant.{span_of, Start, readers_of, Ghost, Past, Emptied, Joined, VStoreAt, VDeleteAt, Says, VacuumAt, NodeInv, Emptying, GlobalInv, Holds, Kept}
-use Rattle.ct_law_world.proofs.Nodes.{rank_of, past_none}
-use Rattle.ct_law_world.proofs.Copies.{touched, NodeInv-raised, NodeInv-dropped, raised_past, dropped_past, lt_cases, whole_reading}
+use Rattle.ct_law_fact.proofs.Invariant.{span_of, Start, readers_of, Ghost, Past, Emptied, Joined, VStoreAt, VDeleteAt, Says, VacuumAt, NodeInv, Emptying, GlobalInv, Holds, Kept}
+use Rattle.ct_law_fact.proofs.Nodes.{rank_of, past_none}
+use Rattle.ct_law_fact.proofs.Copies.{touched, NodeInv-raised, NodeInv-dropped, raised_past, dropped_past, lt_cases, whole_reading}
 use Rattle.ct_law_change.proofs.Holder.{Change, Shift, Own}
 use Rattle.ct_law_change.proofs.Markings.{grows_none, grows_top, marking_top, marking_deleting}
 use Rattle.ct_law_change.proofs.Parts.{nil_none, nobody_has, readers_idle, granted_end}
@@ -19,8 +19,8 @@ use Rattle.ct_vacuum.specs.declared.vacuum.VacuumPhase.{VacuumPhase}
 use Rattle.ct_vacuum.specs.declared.vacuum.VacuumPhase.TheVariants.{Storing, Deleting}
 use Rattle.ct_rules.specs.State.{is_nil}
 use Rattle.ct_register.specs.Register.{Register, reading}
-use Rattle.ct_law_world.proofs.Rule
-use Rattle.ct_law_world.proofs.Rule.{is_storing, risen, Body, Copy, Frame, Grant, Here, Node, Out, VDelete, VDeleted, VStore, VStored, Wish, drop_copy, give, greater, has_node, is_free, is_here, is_idle, is_reading, raise_copy, rank, reads_op, rsn_of, send, send_all, tell, value_of, with_node}
+use Rattle.ct_law_fact.proofs.Rule
+use Rattle.ct_law_fact.proofs.Rule.{is_storing, risen, Body, Copy, Frame, Grant, Here, Node, Out, VDelete, VDeleted, VStore, VStored, Wish, drop_copy, give, greater, has_node, is_free, is_here, is_idle, is_reading, raise_copy, rank, reads_op, rsn_of, send, send_all, tell, value_of, with_node}
 use Rattle.ct_law_event.proofs.Floor.{greater_left}
 
 -- absent copies come to stand for what copies of this rank do

@@ -19,8 +19,8 @@ use Rattle.ct_law_world.specs.Labels.{AcceptsAll}
 use Rattle.ct_law_world.specs.Labels as law
 use Rattle.ct_law_world.specs.World.{Scene, World, Event, trace, last}
 use Rattle.ct_law_world.specs.Marked as law_marked
-use Rattle.ct_law_world.proofs.Rule
-use Rattle.ct_law_world.proofs.Invariant.{Ghost}
+use Rattle.ct_law_fact.proofs.Rule
+use Rattle.ct_law_fact.proofs.Invariant.{Ghost}
 use Rattle.ct_law_record.proofs.Worlds.{WorldInv, nodes_at}
 use Rattle.ct_law_record.proofs.Law
 use Rattle.ct_law_record.proofs.MarkedRun.{Through, marks_of, marks_hold, unmarked, run_marks}

@@ -16,7 +16,7 @@ use Rattle.ct_promise.specs.Kept.{RunsFrom, LawOfOneGeneration, LawFromRows}
 use Rattle.ct_promise.specs.Generation.{PromiseOfOneGeneration}
 use Rattle.ct_promise.proofs.Follows.{one_generation_follows, rows_follow}
 use Rattle.ct_law_world.specs.World.{World}
-use Rattle.ct_law_world.proofs.Invariant.{Ghost}
+use Rattle.ct_law_fact.proofs.Invariant.{Ghost}
 use Rattle.ct_law_record.proofs.Worlds.{WorldInv}
 use Rattle.ct_law_record.proofs.Law.{bare_ghost, bare_holds}
 use Rattle.ct_law_record.proofs.Births.{born_ghost, born_holds}

@@ -28,7 +28,7 @@ use Rattle.ct_promise.specs.Marked.{MarksGoOnIn, is_removal}
 use Rattle.ct_promise.specs.Kept.{RecordsHold, RecordsRun, RunsFrom}
 use Rattle.ct_law_world.specs.World as law
 use Rattle.ct_law_world.specs.World.{Scene, World, LeadsTo}
-use Rattle.ct_law_world.proofs.Invariant.{Ghost}
+use Rattle.ct_law_fact.proofs.Invariant.{Ghost}
 use Rattle.ct_law_record.proofs.Worlds.{WorldInv}
 use Rattle.ct_law_record.proofs.Law.{leads}
 use Rattle.ct_law_record.proofs.MarkedRun.{marks_of}

@@ -21,8 +21,8 @@ use Rattle.ct_rules.specs.declared.state.RecallNote.{RecallNote}
 use Rattle.ct_rules.specs.declared.state.RecState.{RecState}
 use Rattle.ct_rules.specs.declared.state.Wish.{Wish}
 use Rattle.ct_law_world.specs.Labels.{Told}
-use Rattle.ct_law_world.proofs.Rule
-use Rattle.ct_law_world.proofs.Rule.{Kind, Copy, Node, Frame, Body, Out}
+use Rattle.ct_law_fact.proofs.Rule
+use Rattle.ct_law_fact.proofs.Rule.{Kind, Copy, Node, Frame, Body, Out}
 use Rattle.ct_deleg.specs.Tracked.{Tracked, added, begun, placed}
 use Rattle.ct_law_like.proofs.Likeness.{copy_of, wish_of, body_of, out_of, FineAt, like_send, like_send_all, like_reply, rsn_like, value_like, with_value_like, gives_like, flags_like, own_like, free_like, wished_like}
 

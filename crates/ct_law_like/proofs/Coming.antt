@@ -18,8 +18,8 @@ use Rattle.ct_rules.specs.declared.state.Entry.{Entry}
 use Rattle.ct_rules.specs.declared.state.Waiter.{Waiter}
 use Rattle.ct_rules.specs.declared.state.Wish.{Wish}
 use Rattle.ct_law_world.specs.Labels.{Told, Vacuumed}
-use Rattle.ct_law_world.proofs.Rule
-use Rattle.ct_law_world.proofs.Rule.{Kind, Copy, Node, Frame, Body, Out}
+use Rattle.ct_law_fact.proofs.Rule
+use Rattle.ct_law_fact.proofs.Rule.{Kind, Copy, Node, Frame, Body, Out}
 use Rattle.ct_deleg.specs.Tracked.{Tracked, untracked, Revocation, others, awaiting, acked_by, is_last, is_none_left}
 use Rattle.ct_law_like.proofs.Likeness.{kind_at, copy_of, wish_of, body_of, out_of, FineAt, like_send, like_send_all, like_reply, like_finished, rsn_like, rank_like, value_like, mastered_like, with_value_like, risen_like, own_like, free_like, wished_like}
 use Rattle.ct_law_like.proofs.Alike.{none_is_not_some, if_like, like_give, like_satisfy, like_drained}

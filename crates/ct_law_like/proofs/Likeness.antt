@@ -19,8 +19,8 @@ use Rattle.ct_rules.specs.declared.state.RecState.{RecState}
 use Rattle.ct_rules.specs.declared.state.Wish.{Wish}
 use Rattle.ct_law_world.specs.Labels.{Told, Vacuumed}
 use Rattle.ct_law_world.specs.World.{Mail, answers, call_of, told, sends, sent}
-use Rattle.ct_law_world.proofs.Rule
-use Rattle.ct_law_world.proofs.Rule.{Kind, Copy, Node, Frame, Body, Out}
+use Rattle.ct_law_fact.proofs.Rule
+use Rattle.ct_law_fact.proofs.Rule.{Kind, Copy, Node, Frame, Body, Out}
 
 -- a copy that is for reading, and whose data master is the node itself or nobody, is odd: there is none
 unfoldable pub kind_at : ℕ → RecCopy → Kind

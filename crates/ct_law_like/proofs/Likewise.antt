@@ -22,8 +22,8 @@ use Rattle.ct_rules.specs.declared.state.RecallNote.{RecallNote}
 use Rattle.ct_rules.specs.declared.state.Waiter.{Waiter}
 use Rattle.ct_rules.specs.declared.state.Wish.{Wish}
 use Rattle.ct_law_world.specs.Labels.{Told}
-use Rattle.ct_law_world.proofs.Rule
-use Rattle.ct_law_world.proofs.Rule.{Kind, Copy, Node, Frame, Body, Out}
+use Rattle.ct_law_fact.proofs.Rule
+use Rattle.ct_law_fact.proofs.Rule.{Kind, Copy, Node, Frame, Body, Out}
 use Rattle.ct_law_like.proofs.Likeness.{kind_at, copy_of, wish_of, body_of, out_of, FineAt, like_send, like_reply, rsn_like, rank_like, value_like, mastered_like, for_reading_like, with_value_like, given_like, raised_like, own_like, free_like}
 use Rattle.ct_law_like.proofs.Alike.{none_is_not_some, idle_like, if_like, like_opened_quiet, like_satisfy, like_revoke, like_grant, like_yield, like_drained}
 use Rattle.ct_rules.specs.Frames

@@ -30,7 +30,7 @@ use Rattle.ct_law_shown.proofs.Wishing.{Wishful, want_wish, store_wish, unlock_w
 use Rattle.ct_law_node.proofs.Pending.{Callers, Known, KnownAt}
 use Rattle.ct_law_node.proofs.Forming.{may_want_comes}
 use Rattle.ct_law_node.proofs.Staying.{NodeStays, Of_records}
-use Rattle.ct_law_shown.proofs.Events.{wants_happen, stores_happen, unlocks_happen}
+use Rattle.ct_law_node.proofs.Events.{wants_happen, stores_happen, unlocks_happen}
 use Rattle.ct_law_node.proofs.Following.{Asks, IsEra, Goes_on, follows, Comes_to}
 use Rattle.ct_law_node.proofs.Delivering.{begun, whole_part, has_place}
 

@@ -29,7 +29,7 @@ use Rattle.ct_law_shown.proofs.Wishing.{arrive_wish}
 use Rattle.ct_law_node.proofs.Pending.{Callers, Known, KnownAt, NodeKnown}
 use Rattle.ct_law_node.proofs.Forming.{mail_comes}
 use Rattle.ct_law_node.proofs.Staying.{NodeStays, number_of, of_era, Of_records}
-use Rattle.ct_law_shown.proofs.Events.{arrives_at, comes_happen}
+use Rattle.ct_law_node.proofs.Events.{arrives_at, comes_happen}
 use Rattle.ct_law_node.proofs.Following.{Goes_on, follows, finds_waiting, IsEra, Asks, Comes_to}
 use Rattle.ct_law_node.proofs.Plain.{IsPlain, of_plain}
 

@@ -38,7 +38,7 @@ use Rattle.ct_law_node.proofs.Pending.{Callers, is_call, Known, KnownAt, NodeKno
 use Rattle.ct_law_node.proofs.Forming.{Is_formed, Is_sound_mail, formed_moves, formed_blank, sound_moves}
 use Rattle.ct_law_shown.proofs.Amid.{Fair, put_world, place_is}
 use Rattle.ct_law_node.proofs.Staying.{NodeStays, Of_records, of_era, Sure, stays_at}
-use Rattle.ct_law_shown.proofs.Events.{each_follows}
+use Rattle.ct_law_node.proofs.Events.{each_follows}
 
 -- ---- the law says that all answers were asked for
 

@@ -6,3 +6,5 @@ pub mod Following
 pub mod Delivering
 pub mod Calling
 pub mod Putting
+pub mod Events
+pub mod Lining

@@ -2,15 +2,15 @@
 use Rattle.std.proofs.Common.{◌&&◌, not, ◌≡◌, ◌≢◌, ℕ, ◌+◌, Bool, true, false, Option, Some, None, List, [], refl, sym, ap, ◌∙◌, arith, ◌<◌, ◌≤◌, subst, eq-eqb, take, nat_eq, cond, leb, length, le_refl, eqb-true, inl}
 use Rattle.ct_rules.specs.State.{nobody, plain, a_copy, nothing_kept}
 use Rattle.ct_rules.specs.declared.state.Wish.{Wish}
-use Rattle.ct_law_world.proofs.Rule
-use Rattle.ct_law_world.proofs.Rule.{Kind, Copy, Node, Frame, Body, Out}
+use Rattle.ct_law_fact.proofs.Rule
+use Rattle.ct_law_fact.proofs.Rule.{Kind, Copy, Node, Frame, Body, Out}
 use Rattle.ct_law_like.proofs.Likeness.{copy_of, frames_of, kind_at, node_of}
-use Rattle.ct_law_world.proofs.Invariant.{Past, Marking, Sent, Ghost, Asked, Waits, Emptied, readers_of, is_revoking, Facts, MasterFacts, NodeInv}
+use Rattle.ct_law_fact.proofs.Invariant.{Past, Marking, Sent, Ghost, Asked, Waits, Emptied, readers_of, is_revoking, Facts, MasterFacts, NodeInv}
 use Rattle.std.specs.List.{list_all}
 use Rattle.ct_frame.specs.Fields.{is_node}
 use Rattle.ct_register.specs.Register.{reading, newborn}
 use Rattle.ct_law_world.specs.World.{Scene, AreDrawn, born_state, born, SeesAtMost, IsBornAsOneRegister}
-use Rattle.ct_law_world.proofs.Nodes.{past_top, past_none}
+use Rattle.ct_law_fact.proofs.Nodes.{past_top, past_none}
 use Rattle.ct_law_record.proofs.Worlds.{WorldInv, member_real}
 use Rattle.ct_law_record.proofs.Law.{leads, drawn_low}
 use Rattle.ct_rules_node.specs.Rounds.{installed_state, copy_from, row_master, or_nobody, entry_from}

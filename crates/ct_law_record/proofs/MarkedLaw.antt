@@ -9,7 +9,7 @@ use Rattle.ct_register.specs.Register.{Register, newborn}
 use Rattle.ct_register.specs.Words.{is_in}
 use Rattle.ct_law_world.specs.Marked.{Holds, Runs, RunsFrom, OpensWithMarks, BeginsWithMarks, IsBornWithMarks}
 use Rattle.ct_law_world.specs.World.{Scene, World, Event, happens}
-use Rattle.ct_law_world.proofs.Invariant.{Ghost}
+use Rattle.ct_law_fact.proofs.Invariant.{Ghost}
 use Rattle.ct_law_record.proofs.Law.{stands, kept_all, parent, bare_ghost, bare_holds}
 use Rattle.ct_law_record.proofs.Births.{born_ghost, born_holds}
 use Rattle.ct_law_record.proofs.MarkLists.{dense}

@@ -13,17 +13,17 @@ use Rattle.ct_law_world.specs.Labels.{Label, AcceptsAll}
 use Rattle.ct_law_world.specs.World.{Mail, told, sent, own_call, waiting_call, may_want, View, starts, sends, Scene, World, Event, Wants, Stores, Unlocks, Releases, Comes, Vacuums, Resends, Thaws, Ends, Leaves, Joins, Rises, place, peers, Stepped, view_of, steps, joins, unlocked, put, comes, happens, trace, last}
 use Rattle.ct_law_world.specs.Labels as label
 use Rattle.ct_law_event.proofs.Leaving.{end_holds, leave_holds}
-use Rattle.ct_law_world.proofs.Rule
-use Rattle.ct_law_world.proofs.Rule.{Kind, Copy, Node, Frame, Body, Out}
+use Rattle.ct_law_fact.proofs.Rule
+use Rattle.ct_law_fact.proofs.Rule.{Kind, Copy, Node, Frame, Body, Out}
 use Rattle.ct_law_like.proofs.Likeness.{copy_of, node_of, out_of, frame_of, frames_of, frames_append}
 use Rattle.ct_rules.specs.Frames
 use Rattle.ct_deleg.specs.Tracked.{others}
 use Rattle.ct_rules.specs.Moves
 use Rattle.ct_rules_node.specs.Rounds
 use Rattle.ct_register.specs.Register.{Register, joined_by}
-use Rattle.ct_law_world.proofs.Nodes.{seeing, NodeInv-seeing}
+use Rattle.ct_law_fact.proofs.Nodes.{seeing, NodeInv-seeing}
 use Rattle.ct_law_change.proofs.Small.{changed_other}
-use Rattle.ct_law_world.proofs.Invariant.{Start, span_of, Goes, Sent, Ghost, NodeInv, Holds, Kept, MasterInv, GlobalInv}
+use Rattle.ct_law_fact.proofs.Invariant.{Start, span_of, Goes, Sent, Ghost, NodeInv, Holds, Kept, MasterInv, GlobalInv}
 use Rattle.ct_law_event.proofs.Vacuuming.{Apart}
 use Rattle.ct_law_world.specs.Marked.{is_removed}
 use Rattle.ct_law_change.proofs.Markings.{RunsOn, goes_stays, goes_joined, runs_then, runs_none}

@@ -38,7 +38,7 @@ use Rattle.ct_law_node.proofs.Pending.{Callers, Known, KnownAt}
 use Rattle.ct_law_node.proofs.Forming.{Is_formed, Is_sound_mail, formed_moves, formed_blank, sound_moves}
 use Rattle.ct_law_shown.proofs.Amid.{self, put_world, place_is, Fair}
 use Rattle.ct_law_node.proofs.Staying.{NodeStays, Sure, stays_at, AllWishes, Of_records, of_era, wishes_at}
-use Rattle.ct_law_shown.proofs.Events.{each_follows}
+use Rattle.ct_law_node.proofs.Events.{each_follows}
 use Rattle.ct_law_node.proofs.Following.{IsEra, Asks, all_plain, node_of, Goes_on, asked_now}
 use Rattle.ct_law_node.proofs.Delivering.{whole_part}
 use Rattle.ct_law_retry.proofs.Retried.{AllInside}

@@ -5,4 +5,3 @@ pub mod Wishing
 pub mod Hearing
 pub mod Telling
 pub mod Amid
-pub mod Events

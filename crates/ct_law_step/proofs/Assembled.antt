@@ -28,7 +28,7 @@ use Rattle.ct_promise.specs.Generation.{speaks_of_records, record_labels}
 use Rattle.ct_law_shown.specs.Shown.{Era, IsOfLine, told_by_all, labels_of, Schedules, AllInstalled}
 use Rattle.ct_law_node.proofs.Pending.{Callers}
 use Rattle.ct_law_cluster.proofs.Clusters.{ClusterStays}
-use Rattle.ct_law_cluster.proofs.Lining.{Is_fit, fit_own, fit_told}
+use Rattle.ct_law_node.proofs.Lining.{Is_fit, fit_own, fit_told}
 use Rattle.ct_law_retry.proofs.Retrying.{retry_cluster}
 use Rattle.ct_cluster.specs.declared.step.Line.{Line}
 use Rattle.ct_rules_node.specs.Clients as clients

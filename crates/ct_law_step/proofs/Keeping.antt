@@ -20,7 +20,7 @@ use Rattle.ct_law_shown.specs.Shown.{Era, scene, project, amid, labels_of}
 use Rattle.ct_law_shown.proofs.Weave.{true_or_false}
 use Rattle.ct_law_node.proofs.Pending.{Callers}
 use Rattle.ct_law_node.proofs.Staying.{AllWishes}
-use Rattle.ct_law_shown.proofs.Events.{arrives_at, arrives_not}
+use Rattle.ct_law_node.proofs.Events.{arrives_at, arrives_not}
 use Rattle.ct_law_node.proofs.Following.{Asks, Goes_on, follows, finds_waiting, asks_here}
 use Rattle.ct_law_node.proofs.Delivering.{begun, has_place, current_here, delivery_comes}
 use Rattle.ct_law_cluster.proofs.Clusters.{all_known}

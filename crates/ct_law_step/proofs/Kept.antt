@@ -37,7 +37,7 @@ use Rattle.ct_law_cluster.proofs.Called.{counted, called_by, calls_at}
 use Rattle.ct_law_cluster.proofs.Admitted.{admits, may_lock, may_read, may_write, may_apply, may_store, may_unlock}
 use Rattle.ct_law_cluster.proofs.Served.{client_serves, call_kind, serves_lock, serves_read, serves_write, serves_apply, serves_store, serves_unlock}
 use Rattle.ct_law_beside.proofs.Committed.{commit_kind}
-use Rattle.ct_law_cluster.proofs.Lining.{Is_fit, kept_fit, labels_kept}
+use Rattle.ct_law_node.proofs.Lining.{Is_fit, kept_fit, labels_kept}
 use Rattle.ct_law_cluster.proofs.Configured.{of_records}
 use Rattle.ct_law_cluster.proofs.Fed.{fed_is}
 use Rattle.ct_law_step.proofs.Assembled.{Starts, Run_goes, Tells, client_turn}

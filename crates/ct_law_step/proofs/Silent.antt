@@ -30,7 +30,7 @@ use Rattle.ct_law_shown.proofs.Speaking.{About, Told}
 use Rattle.ct_law_shown.proofs.Hearing.{labels_more}
 use Rattle.ct_law_node.proofs.Pending.{Callers}
 use Rattle.ct_law_node.proofs.Staying.{NodeStays, phase_of}
-use Rattle.ct_law_cluster.proofs.Lining.{record_quiet, Is_fit, sent_fits}
+use Rattle.ct_law_node.proofs.Lining.{record_quiet, Is_fit, sent_fits}
 use Rattle.ct_law_retry.proofs.Retried.{nothing_asked, Just_sends, outs_are, just_passes, calls_at, revokes_at, Retries_at, calls_just, revokes_just, at_all, Sends_each, AllInside, all_passes}
 use Rattle.ct_law_retry.proofs.Resending.{places_in, call_all_is, revoke_in_is, all_inside, pending_inside, resends_of}
 use Rattle.ct_law_retry.proofs.Retrying.{retry_is}

@@ -21,7 +21,7 @@ use Rattle.ct_law_world.specs.World.{World, waiting_call}
 use Rattle.ct_law_shown.specs.Shown.{Era, labels_of, IsOfLine, AllInstalled, Finds, project, scene}
 use Rattle.ct_law_node.proofs.Pending.{Callers}
 use Rattle.ct_law_node.proofs.Following.{Goes_on, known_wish, Asks, asks_here, finds_waiting}
-use Rattle.ct_law_cluster.proofs.Lining.{Is_fit, kept_fit, labels_kept}
+use Rattle.ct_law_node.proofs.Lining.{Is_fit, kept_fit, labels_kept}
 use Rattle.ct_law_node.proofs.Staying.{NodeStays, AllWishes, Of_records}
 use Rattle.ct_law_cluster.proofs.Vacuumed.{Found, goes_more, finds_waited}
 use Rattle.ct_law_retry.proofs.Thawed.{Thaws_from, Thaws_at, again_fair, again_goes, again_wishes, wants_before, thaws_at, thawing, thawing_goes, thaws_go}

@@ -1,12 +1,12 @@
 -- What changes of one node, or of what was sent and asked, keep the invariant of a node.
 use Rattle.std.proofs.Common.{◌≡◌, ◌≢◌, ℕ, ◌+◌, ◌<◌, ◌≤◌, true, false, Option, Some, None, List, [], ◌∷◌, ◌++◌, refl, ap, inl, inr, arith, subst}
 use Rattle.std.proofs.lemmas.Bool.{false_from_ne_true}
-use Rattle.ct_law_world.proofs.Invariant.{Sent, Asked, Waits, readers_of, is_revoking, Ghost, Ungranted, Past, Says, BodyAt, Recalled, VacuumAt, NodeInv}
+use Rattle.ct_law_fact.proofs.Invariant.{Sent, Asked, Waits, readers_of, is_revoking, Ghost, Ungranted, Past, Says, BodyAt, Recalled, VacuumAt, NodeInv}
 use Rattle.std.specs.Prelude.{List}
 use Rattle.ct_vacuum.specs.Vacuum.{Vacuuming}
 use Rattle.ct_rules.specs.declared.state.RecallNote.{RecallNote}
 use Rattle.ct_rules.specs.declared.state.Waiter.{Waiter}
-use Rattle.ct_law_world.proofs.Rule.{is_odd, is_kind_odd, Body, Call, Copy, Frame, Give, Given, Grant, Node, Op, Pass, Recalls, Refuse, RevokeAck, VDeleted, VStored, Wish, is_here, is_kind_here, is_kind_reading, is_reading, rank, reads_op, rsn_of, stale, value_of}
+use Rattle.ct_law_fact.proofs.Rule.{is_odd, is_kind_odd, Body, Call, Copy, Frame, Give, Given, Grant, Node, Op, Pass, Recalls, Refuse, RevokeAck, VDeleted, VStored, Wish, is_here, is_kind_here, is_kind_reading, is_reading, rank, reads_op, rsn_of, stale, value_of}
 
 -- what holds of each frame sent, and of one more
 pub each_sent : (P : Frame → Type 0) (g : Frame) (fs : List Frame) → ((f : Frame) → Sent f fs → P f) → P g → (f : Frame) → Sent f (fs ++ (g ∷ [])) → P f

@@ -9,7 +9,7 @@ use Rattle.ct_rules.specs.declared.state.Waiter.{Waiter}
 use Rattle.ct_register.specs.Register.{Register, reading}
 use Rattle.ct_law_world.specs.Labels.{AcceptsAll}
 use Rattle.ct_law_world.specs.Marked.{is_removed}
-use Rattle.ct_law_world.proofs.Rule.{is_odd, Body, Call, Copy, Done, Frame, Give, Given, Grant, Node, Out, Pass, Recalls, Refuse, Revoke, RevokeAck, VDelete, VDeleted, VStore, VStored, Wish, has_node, is_here, is_reading, is_storing, rank, reads_op, value_of}
+use Rattle.ct_law_fact.proofs.Rule.{is_odd, Body, Call, Copy, Done, Frame, Give, Given, Grant, Node, Out, Pass, Recalls, Refuse, Revoke, RevokeAck, VDelete, VDeleted, VStore, VStored, Wish, has_node, is_here, is_reading, is_storing, rank, reads_op, value_of}
 
 -- the frame was sent
 unfoldable pub Sent : Frame → List Frame → Type 0

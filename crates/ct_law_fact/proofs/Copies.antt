@@ -1,13 +1,13 @@
 -- A reader takes what was granted; VStore raises a copy and VDelete takes it away; the entry moves on; the node that it names becomes holder.
 use Rattle.std.proofs.Common.{ap, ◌≡◌, ◌≢◌, ◌⊎◌, ℕ, ◌+◌, ◌<◌, ◌≤◌, Bool, true, false, Option, Some, None, [], refl, sym, ◌∙◌, inl, ⊎_elim, arith, subst, take, le_of_eq}
 use Rattle.std.proofs.lemmas.List.{take_all}
-use Rattle.ct_law_world.proofs.Invariant.{Ghost, Ungranted, Past, Emptied, Joined, Says, VacuumAt, NodeInv, GlobalInv}
-use Rattle.ct_law_world.proofs.Nodes.{past_top, vacuum_top}
+use Rattle.ct_law_fact.proofs.Invariant.{Ghost, Ungranted, Past, Emptied, Joined, Says, VacuumAt, NodeInv, GlobalInv}
+use Rattle.ct_law_fact.proofs.Nodes.{past_top, vacuum_top}
 use Rattle.std.specs.Prelude.{List}
 use Rattle.ct_vacuum.specs.Vacuum.{Vacuuming}
 use Rattle.ct_rules.specs.declared.state.Entry.{Entry}
 use Rattle.ct_register.specs.Register.{reading}
-use Rattle.ct_law_world.proofs.Rule.{is_odd, is_kind_odd, Body, Copy, For_reading, Give, Given, Grant, Node, Pass, Refuse, RevokeAck, Stale, VDeleted, VStored, Wish, drop_copy, has_node, is_here, is_kind_here, is_kind_reading, is_reading, raise_copy, rank, reads_op, value_of}
+use Rattle.ct_law_fact.proofs.Rule.{is_odd, is_kind_odd, Body, Copy, For_reading, Give, Given, Grant, Node, Pass, Refuse, RevokeAck, Stale, VDeleted, VStored, Wish, drop_copy, has_node, is_here, is_kind_here, is_kind_reading, is_reading, raise_copy, rank, reads_op, value_of}
 
 -- who stands at the top stands for the whole list
 pub whole_reading : (ps : List ℕ) (m : ℕ) (g : Ghost) (a : ℕ) → GlobalInv ps m g → g.top ≤ a → reading g.register.versions ≡ reading (take (g.place a) g.register.versions)
