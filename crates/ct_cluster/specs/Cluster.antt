@@ -1,11 +1,12 @@
 -- The cluster: its nodes, every message that was sent, and the recovery lock.
-use Rattle.std.specs.Prelude.{ℕ, zero, suc, ◌+◌, nat_lt, Bool, true, false, if◌then◌else◌, List, [], ◌∷◌, ◌++◌, replicate, Option, None, Some, slice_get}
+use Rattle.std.specs.Prelude.{ℕ, zero, suc, ◌+◌, Bool, true, false, if◌then◌else◌, List, [], ◌∷◌, ◌++◌, replicate, Option, None, Some, slice_get}
 use Rattle.ct_msg.specs.declared.client.ClientOp.TheVariants as op
 use Rattle.ct_msg.specs.declared.config.Config.{Config}
 use Rattle.ct_frame.specs.declared.frame.Frame.{Frame}
 use Rattle.ct_store.specs.Map.{Pairs}
 use Rattle.ct_rules.specs.declared.state.RecState.{RecState}
 use Rattle.ct_rules.specs.declared.state.Wish.{Wish}
+use Rattle.ct_rules_node.specs.Numbered.{by_number}
 use Rattle.ct_rules_node.specs.Node.{Node, Database, Committing}
 use Rattle.ct_rules_node.specs.Node as node
 use Rattle.ct_cluster.specs.declared.step.PendingCall.{PendingCall}
@@ -132,19 +133,9 @@ unfoldable pub pending_in : ℕ → ℕ → List Database → List PendingCall
 pending_in n i [] = []
 pending_in n i (d ∷ ds) = wished_in n d.records ++ committing n i d.commit ++ pending_in n (i + 1) ds
 
--- a call in its place among these, by its number
-unfoldable pub ranked : PendingCall → List PendingCall → List PendingCall
-ranked x [] = x ∷ []
-ranked x (y ∷ ys) = if nat_lt y.call x.call then y ∷ ranked x ys else x ∷ y ∷ ys
-
--- calls in the order of their numbers
-unfoldable pub by_number : List PendingCall → List PendingCall
-by_number [] = []
-by_number (x ∷ xs) = ranked x (by_number xs)
-
 -- Pending calls: those of a node, by number
 unfoldable pub pending_at : ℕ → Cluster → List PendingCall
-pending_at n w = by_number (pending_in n 0 (node_at n w).dbs)
+pending_at n w = by_number (λ x. x.call) (pending_in n 0 (node_at n w).dbs)
 
 -- Pending calls: those of these nodes; i is the number of the first of these
 unfoldable pub pending_from : ℕ → List Node → List PendingCall
@@ -153,4 +144,4 @@ pending_from i (n ∷ ns) = pending_in i 0 n.dbs ++ pending_from (i + 1) ns
 
 -- Pending calls: those of all nodes, by number
 unfoldable pub pending : Cluster → List PendingCall
-pending w = by_number (pending_from 0 w.nodes)
+pending w = by_number (λ x. x.call) (pending_from 0 w.nodes)

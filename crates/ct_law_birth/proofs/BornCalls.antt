@@ -14,7 +14,8 @@ use Rattle.ct_rules.specs.declared.state.RecState.{RecState}
 use Rattle.ct_rules.specs.declared.state.Wish.{Wish}
 use Rattle.ct_rules_node.specs.Node.{Node, Database, Committing, untouched, or_untouched, or_nothing, db_at, state_at}
 use Rattle.ct_rules_node.specs.Laws.{AllAscend}
-use Rattle.ct_cluster.specs.Cluster.{Cluster, node_at, or_absent, absent, wished, wished_in, committing, pending_in, ranked, by_number, pending_from, pending}
+use Rattle.ct_rules_node.proofs.Numbered.{unnumbered}
+use Rattle.ct_cluster.specs.Cluster.{Cluster, node_at, or_absent, absent, wished, wished_in, committing, pending_in, pending_from, pending}
 use Rattle.ct_cluster.specs.declared.step.PendingCall.{PendingCall}
 use Rattle.ct_register.specs.Legal.{kind_at, is_of_records}
 use Rattle.ct_register.specs.Words.{is_in}
@@ -85,20 +86,6 @@ module _ (P : PendingCall → Type 0) where
   back_all [] ys h = h
   back_all (x ∷ xs) ys h = back_all xs ys h.1
 
-  unranked : (x : PendingCall) (ys : List PendingCall) → AllByRecursion P (ranked x ys) → P x × AllByRecursion P ys
-  unfolding ranked
-  unranked x [] h = (h.0, tt)
-  unranked x (y ∷ ys) h = split (nat_lt y.call x.call) (λ k. unranked x ys k) h
-    where
-      split : (b : Bool) → (AllByRecursion P (ranked x ys) → P x × AllByRecursion P ys) → AllByRecursion P (cond b (y ∷ ranked x ys) (x ∷ y ∷ ys)) → P x × (P y × AllByRecursion P ys)
-      split true rest k = (let p = rest k.1 in (p.0, (k.0, p.1)))
-      split false rest k = k
-
-  unnumbered : (xs : List PendingCall) → AllByRecursion P (by_number xs) → AllByRecursion P xs
-  unfolding by_number
-  unnumbered [] h = h
-  unnumbered (x ∷ xs) h = (let p = unranked x (by_number xs) h in (p.0, unnumbered xs p.1))
-
   at_node : (i k : ℕ) (ns : List Node) → AllByRecursion P (pending_from i ns) → AllByRecursion P (pending_in (i + k) 0 (or_absent (slice_get ns k)).dbs)
   unfolding pending_from pending_in or_absent absent
   at_node i k [] h = tt
@@ -130,7 +117,7 @@ module _ (P : PendingCall → Type 0) where
 
   in_node : (w : Cluster) (n : ℕ) → AllByRecursion P (pending w) → AllByRecursion P (pending_in n 0 (node_at n w).dbs)
   unfolding pending node_at
-  in_node w n h = subst (λ (j : ℕ). AllByRecursion P (pending_in j 0 (or_absent (slice_get w.nodes n)).dbs)) (from_zero n) (at_node 0 n w.nodes (unnumbered (pending_from 0 w.nodes) h))
+  in_node w n h = subst (λ (j : ℕ). AllByRecursion P (pending_in j 0 (or_absent (slice_get w.nodes n)).dbs)) (from_zero n) (at_node 0 n w.nodes (unnumbered (λ x. x.call) P (pending_from 0 w.nodes) h))
 
   -- what holds of all calls that wait holds of that which waits for a record of a node
   call_at : (w : Cluster) (n db : ℕ) (key : List ℕ) → AllByRecursion P (pending w) → AllByRecursion P (wished n (or_nothing (look key (db_at db (node_at n w)).records)).wish)

@@ -1,10 +1,10 @@
 -- An answer to a call that waits gets the label of what that call asked, at its node.
 use Rattle.std.proofs.Common.{◌≡◌, ℕ, zero, suc, ◌+◌, ◌≤◌, Bool, true, false, cond, ◌||◌, List, [], ◌∷◌, ◌++◌, Option, Some, None, refl, sym, ◌∙◌, ap, subst, arith}
-use Rattle.std.specs.Prelude.{slice_get, nat_eq, nat_lt}
+use Rattle.std.specs.Prelude.{slice_get, nat_eq}
 use Rattle.std.specs.Ordering.{is_eq}
 use Rattle.std.specs.List.{AllByRecursion, list_any}
 use Rattle.std.specs.List.Sorted.{IsStrictlySortedBy}
-use Rattle.std.proofs.lemmas.Bool.{eqb-true, eq-eqb, cond_both}
+use Rattle.std.proofs.lemmas.Bool.{eqb-true, eq-eqb}
 use Rattle.ct_msg.specs.declared.client.Answer.{Answer}
 use Rattle.ct_msg.specs.declared.client.ClientOp.{ClientOp}
 use Rattle.ct_msg.specs.declared.client.ClientOp.TheVariants as op
@@ -16,7 +16,8 @@ use Rattle.ct_rules_node.specs.Node.{Node, Database, Committing, untouched, or_u
 use Rattle.ct_rules_node.specs.Laws.{AllAscend}
 use Rattle.ct_rules_node.proofs.Keys.{below_unseen}
 use Rattle.ct_rules_node.proofs.Installed.{own_key}
-use Rattle.ct_cluster.specs.Cluster.{Cluster, node_at, or_absent, absent, wished, wished_in, committing, pending_in, ranked, by_number, pending_from, pending}
+use Rattle.ct_rules_node.proofs.Numbered.{numbered_all, numbered_any}
+use Rattle.ct_cluster.specs.Cluster.{Cluster, node_at, or_absent, absent, wished, wished_in, committing, pending_in, pending_from, pending}
 use Rattle.ct_cluster.specs.Labels.{Label, Answered}
 use Rattle.ct_cluster.specs.Traces.{answered}
 use Rattle.ct_cluster.specs.declared.step.PendingCall.{PendingCall}
@@ -48,33 +49,7 @@ unfolding answered is_call
 answered_as who call a [] h e = absurd (cc)
 answered_as who call a (x ∷ xs) h e = answered_case who call a x (answered call a xs) (nat_eq x.call call) (list_any (is_call call) xs) h.0 (λ k. answered_as who call a xs h.1 k) refl e
 
--- ---- in the order of their numbers
-
-ranked_all : (P : PendingCall → Type 0) (x : PendingCall) (ys : List PendingCall) → P x → AllByRecursion P ys → AllByRecursion P (ranked x ys)
-unfolding ranked
-ranked_all P x [] p h = (p, h)
-ranked_all P x (y ∷ ys) p h = cond_both (nat_lt y.call x.call) _ _ (λ l. AllByRecursion P l) (λ _. (h.0, ranked_all P x ys p h.1)) (λ _. (p, h))
-
-numbered_all : (P : PendingCall → Type 0) (xs : List PendingCall) → AllByRecursion P xs → AllByRecursion P (by_number xs)
-unfolding by_number
-numbered_all P [] h = h
-numbered_all P (x ∷ xs) h = ranked_all P x (by_number xs) h.0 (numbered_all P xs h.1)
-
-swapped : (a b d : Bool) → (a || (b || d)) ≡ (b || (a || d))
-swapped true true d = refl
-swapped true false d = refl
-swapped false b d = refl
-
-ranked_any : (f : PendingCall → Bool) (x : PendingCall) (ys : List PendingCall) → list_any f (ranked x ys) ≡ (f x || list_any f ys)
-unfolding ranked
-ranked_any f x [] = refl
-ranked_any f x (y ∷ ys) = cond_both (nat_lt y.call x.call) _ _ (λ l. list_any f l ≡ (f x || (f y || list_any f ys)))
-    (λ _. ap (λ (b : Bool). f y || b) (ranked_any f x ys) ∙ swapped (f y) (f x) (list_any f ys)) (λ _. refl)
-
-numbered_any : (f : PendingCall → Bool) (xs : List PendingCall) → list_any f (by_number xs) ≡ list_any f xs
-unfolding by_number
-numbered_any f [] = refl
-numbered_any f (x ∷ xs) = ranked_any f x (by_number xs) ∙ ap (λ (b : Bool). f x || b) (numbered_any f xs)
+-- ---- in two lists, one after the other
 
 left_case : (b d e : Bool) → (d ≡ true → e ≡ true) → (b || d) ≡ true → (b || e) ≡ true
 left_case true d e f k = refl
@@ -209,8 +184,8 @@ nodes_any i (suc k) db (x ∷ ns) key w e = right_any (is_call w.call) (pending_
 
 pub pending_fits : (who : Callers) (calls : ℕ) (w : Cluster) → ((n : ℕ) → NodeKnown who calls n (node_at n w)) → AllByRecursion (Fits who) (pending w)
 unfolding pending node_at
-pending_fits who calls w all = numbered_all (Fits who) (pending_from 0 w.nodes) (nodes_fit who calls 0 w.nodes (λ k. subst (λ (j : ℕ). NodeKnown who calls j (or_absent (slice_get w.nodes k))) (zero_more k) (all k)))
+pending_fits who calls w all = numbered_all (λ x. x.call) (Fits who) (pending_from 0 w.nodes) (nodes_fit who calls 0 w.nodes (λ k. subst (λ (j : ℕ). NodeKnown who calls j (or_absent (slice_get w.nodes k))) (zero_more k) (all k)))
 
 pub pending_has : (w : Cluster) (n db : ℕ) (key : List ℕ) (x : Wish) → (state_at db key (node_at n w)).wish ≡ Some x → list_any (is_call x.call) (pending w) ≡ true
 unfolding pending node_at
-pending_has w n db key x e = numbered_any (is_call x.call) (pending_from 0 w.nodes) ∙ nodes_any 0 n db w.nodes key x e
+pending_has w n db key x e = numbered_any (λ x. x.call) (is_call x.call) (pending_from 0 w.nodes) ∙ nodes_any 0 n db w.nodes key x e

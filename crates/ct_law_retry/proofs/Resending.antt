@@ -1,10 +1,10 @@
 -- Retry of records: each has its Call sent again, and then its Revokes, once.
 use Rattle.std.proofs.Common.{◌≡◌, ◌≢◌, ℕ, zero, suc, ◌+◌, ◌<◌, ◌≤◌, Bool, true, false, cond, ◌&&◌, List, [], ◌∷◌, ◌++◌, append-nil, length, Option, Some, None, refl, sym, ap, ◌∙◌, arith, subst, append_assoc}
-use Rattle.std.specs.Prelude.{slice_get, nat_lt}
+use Rattle.std.specs.Prelude.{slice_get}
 use Rattle.std.specs.Ordering.{is_eq}
 use Rattle.std.specs.List.{filter}
+use Rattle.std.proofs.lemmas.List.Elements.{filter-append}
 use Rattle.std.specs.List.Sorted.{IsStrictlySortedBy}
-use Rattle.std.proofs.lemmas.Bool.{cond_both}
 use Rattle.ct_msg.specs.declared.config.Config.{Config}
 use Rattle.ct_store.specs.Map.{Pairs, Ascends, key_cmp, look}
 use Rattle.ct_store.proofs.Maps.{one_key, equal}
@@ -15,7 +15,7 @@ use Rattle.ct_rules.specs.declared.state.RecState.{RecState}
 use Rattle.ct_rules.specs.declared.state.Wish.{Wish}
 use Rattle.ct_rules_node.specs.Node.{Node, Database, untouched, or_untouched}
 use Rattle.ct_rules_node.specs.Turn.{Turn}
-use Rattle.ct_rules_node.specs.Rounds.{Called, called_of, calls_of, calls_in, ranked, by_number, pending_calls}
+use Rattle.ct_rules_node.specs.Rounds.{Called, called_of, calls_of, calls_in, pending_calls}
 use Rattle.ct_rules_node.specs.Retries.{call_all, revoke_all, revoke_in}
 use Rattle.ct_rules_node.specs.Laws.{AllAscend, is_called_at}
 use Rattle.ct_rules_node.proofs.Keys.{below_unseen}
@@ -31,6 +31,7 @@ use Rattle.ct_rules.specs.declared.event.Act.{Act}
 use Rattle.ct_rules.specs.declared.event.MoveEvent.TheVariants as event
 use Rattle.ct_rules_node.specs.Node.{or_nothing, state_at, db_at}
 use Rattle.ct_rules_node.proofs.Waiting.{calls_each}
+use Rattle.ct_rules_node.proofs.Numbered.{numbered_all}
 use Rattle.ct_cluster.specs.Steps.{frames_of}
 use Rattle.ct_cluster.specs.declared.step.PendingCall.{PendingCall}
 use Rattle.ct_register.specs.Words.{is_in}
@@ -80,14 +81,6 @@ revoke_in_is c n i (d ∷ ds) t = revoke_in_is c n (i + 1) ds _ ∙ ap (at_all c
 abbrev At : ℕ → List ℕ → List Called → List Called
 At db key xs = filter (is_called_at db key) xs
 
-filter_both : (test : Called → Bool) (xs ys : List Called) → filter test (xs ++ ys) ≡ filter test xs ++ filter test ys
-filter_both test [] ys = refl
-filter_both test (x ∷ xs) ys =
-    elim (test x) as (λ b. cond b (x ∷ filter test (xs ++ ys)) (filter test (xs ++ ys)) ≡ cond b (x ∷ filter test xs) (filter test xs) ++ filter test ys) [
-      | true ↦ ap (λ l. x ∷ l) (filter_both test xs ys)
-      | false ↦ filter_both test xs ys
-    ]
-
 -- what is kept is met once, and else nothing is
 unfoldable pub Meets : Option RecState → List Called → Type 0
 Meets None xs = xs ≡ []
@@ -122,7 +115,7 @@ none_before : (j i : ℕ) (key : List ℕ) (dbs : List Database) → j < i → A
 unfolding places_in
 none_before j i key [] l = refl
 none_before j i key (d ∷ ds) l =
-    filter_both (is_called_at j key) (places_of i d.records) (places_in (i + 1) ds)
+    filter-append (is_called_at j key) (places_of i d.records) (places_in (i + 1) ds)
     ∙ (λ q. other_places j i key d.records (λ (e : j ≡ i). omega arith) q ++ none_before j (i + 1) key ds (omega arith) q)
 
 pub all_meets : (i k j : ℕ) (key : List ℕ) (dbs : List Database) → j ≡ i + k → AllAscend dbs → Meets (look key (or_untouched (slice_get dbs k)).records) (At j key (places_in i dbs))
@@ -130,11 +123,11 @@ unfolding places_in AllAscend or_untouched untouched Meets
 all_meets i k j key [] e h = refl
 all_meets i zero j key (d ∷ ds) e h =
     subst (λ (l : List Called). Meets (look key d.records) l)
-    (sym (filter_both (is_called_at j key) (places_of i d.records) (places_in (i + 1) ds) ∙ ap (λ (l : List Called). At j key (places_of i d.records) ++ l) (none_before j (i + 1) key ds (omega arith)) ∙ append-nil (At j key (places_of i d.records))))
+    (sym (filter-append (is_called_at j key) (places_of i d.records) (places_in (i + 1) ds) ∙ ap (λ (l : List Called). At j key (places_of i d.records) ++ l) (none_before j (i + 1) key ds (omega arith)) ∙ append-nil (At j key (places_of i d.records))))
     (subst (λ (q : ℕ). Meets (look key d.records) (At j key (places_of q d.records))) (omega arith) (places_seen j key d.records h.0))
 all_meets i (suc k) j key (d ∷ ds) e h =
     subst (λ (l : List Called). Meets (look key (or_untouched (slice_get ds k)).records) l)
-    (sym (filter_both (is_called_at j key) (places_of i d.records) (places_in (i + 1) ds) ∙ ap (λ (l : List Called). l ++ At j key (places_in (i + 1) ds)) (other_places j i key d.records (λ (q : j ≡ i). omega arith))))
+    (sym (filter-append (is_called_at j key) (places_of i d.records) (places_in (i + 1) ds) ∙ ap (λ (l : List Called). l ++ At j key (places_in (i + 1) ds)) (other_places j i key d.records (λ (q : j ≡ i). omega arith))))
     (all_meets (i + 1) k j key ds (omega arith) h.1)
 
 -- ---- all of them are of databases that are there
@@ -168,19 +161,9 @@ unfolding calls_in
 in_inside c i [] l = tt
 in_inside c i (d ∷ ds) l = both_inside c (calls_of i d.records) (calls_in (i + 1) ds) (calls_inside c i d.records (omega arith)) (in_inside c (i + 1) ds (omega arith))
 
-ranked_inside : (c : Config) (x : Called) (ys : List Called) → x.db < length c.dbs → AllInside c ys → AllInside c (ranked x ys)
-unfolding ranked
-ranked_inside c x [] l h = (l, tt)
-ranked_inside c x (y ∷ ys) l h = cond_both (nat_lt y.call x.call) _ _ (λ k. AllInside c k) (λ _. (h.0, ranked_inside c x ys l h.1)) (λ _. (l, h))
-
-numbered_inside : (c : Config) (xs : List Called) → AllInside c xs → AllInside c (by_number xs)
-unfolding by_number
-numbered_inside c [] h = tt
-numbered_inside c (x ∷ xs) h = ranked_inside c x (by_number xs) h.0 (numbered_inside c xs h.1)
-
 pub pending_inside : (c : Config) (x : Node) → length x.dbs ≡ length c.dbs → AllInside c (pending_calls x)
 unfolding pending_calls
-pending_inside c x e = numbered_inside c (calls_in 0 x.dbs) (in_inside c 0 x.dbs (omega arith))
+pending_inside c x e = numbered_all (λ x. x.call) (λ x. x.db < length c.dbs) (calls_in 0 x.dbs) (in_inside c 0 x.dbs (omega arith))
 
 -- ---- from the node to the world of each record
 

@@ -16,6 +16,7 @@ use Rattle.ct_rules_node.specs.Admission.{record_in}
 use Rattle.ct_rules_node.specs.Node as node
 use Rattle.ct_rules_node.specs.Node.{Node}
 use Rattle.ct_rules_node.specs.Rounds as rounds
+use Rattle.ct_rules_node.specs.Numbered
 use Rattle.ct_cluster.specs.Cluster as cluster
 use Rattle.ct_cluster.specs.Cluster.{Sent}
 use Rattle.ct_register.specs.Register
@@ -223,7 +224,7 @@ births (suc zero) key = birth_of (bytes_eq key a)
 births (suc (suc db)) key = refl
 
 pub is_born : (sent : List Sent) → list_all is_silent sent ≡ true → IsBornWith config 2 both begun_with (Nodes.with_sent sent)
-unfolding cluster.is_up cluster.is_true cluster.node_at cluster.or_absent cluster.absent node.db_at node.or_untouched node.untouched Words.is_in cluster.pending cluster.pending_from cluster.pending_in cluster.wished_in cluster.wished cluster.committing cluster.by_number cluster.ranked node.opening rounds.installed_node rounds.installed_dbs rounds.installed_db rounds.install_rows rounds.install_row rounds.changed rounds.bared rounds.installed_state node.or_nothing
+unfolding cluster.is_up cluster.is_true cluster.node_at cluster.or_absent cluster.absent node.db_at node.or_untouched node.untouched Words.is_in cluster.pending cluster.pending_from cluster.pending_in cluster.wished_in cluster.wished cluster.committing Numbered.by_number Numbered.ranked node.opening rounds.installed_node rounds.installed_dbs rounds.installed_db rounds.install_rows rounds.install_row rounds.changed rounds.bared rounds.installed_state node.or_nothing
 is_born sent all = record {
   real = some_drawn 1;
   size = refl;

@@ -8,4 +8,5 @@ pub mod Growing
 pub mod Quiet
 pub mod Starting
 pub mod Whole
+pub mod Numbered
 pub mod Waiting

@@ -1,27 +1,21 @@
 -- The calls that wait at a node, seen at one record.
 use Rattle.std.proofs.Common.{◌≡◌, ◌≢◌, ℕ, zero, suc, ◌+◌, ◌<◌, Bool, true, false, cond, ◌&&◌, List, [], ◌∷◌, ◌++◌, append-nil, Option, Some, None, refl, sym, ◌∙◌, ap, subst, arith}
-use Rattle.std.specs.Prelude.{slice_get, nat_lt, ⊤}
+use Rattle.std.specs.Prelude.{slice_get}
 use Rattle.std.specs.Ordering.{is_eq, nat_cmp}
 use Rattle.std.specs.List.{filter}
+use Rattle.std.proofs.lemmas.List.Elements.{filter-append}
 use Rattle.std.specs.List.Sorted.{IsStrictlySortedBy}
 use Rattle.ct_store.specs.Map.{Pairs, Ascends, key_cmp, look}
 use Rattle.ct_store.proofs.Maps.{one_key, equal}
 use Rattle.ct_rules.specs.declared.state.RecState.{RecState}
 use Rattle.ct_rules.specs.declared.state.Wish.{Wish}
 use Rattle.ct_rules_node.specs.Node.{Node, Database, untouched, or_untouched, or_nothing, db_at, state_at}
-use Rattle.ct_rules_node.specs.Rounds.{Called, called_of, calls_of, calls_in, ranked, by_number, pending_calls}
+use Rattle.ct_rules_node.specs.Rounds.{Called, called_of, calls_of, calls_in, pending_calls}
 use Rattle.ct_rules_node.specs.Laws.{AllAscend, NodeAscends, is_called_at}
 use Rattle.ct_rules_node.proofs.Keys.{below_unseen}
 use Rattle.ct_rules_node.proofs.Installed.{same_number, own_key}
 use Rattle.ct_rules_node.proofs.Told.{another_db}
-
-filter_both : (test : Called → Bool) (xs ys : List Called) → filter test (xs ++ ys) ≡ filter test xs ++ filter test ys
-filter_both test [] ys = refl
-filter_both test (x ∷ xs) ys =
-    elim (test x) as (λ b. cond b (x ∷ filter test (xs ++ ys)) (filter test (xs ++ ys)) ≡ cond b (x ∷ filter test xs) (filter test xs) ++ filter test ys) [
-      | true ↦ ap (λ l. x ∷ l) (filter_both test xs ys)
-      | false ↦ filter_both test xs ys
-    ]
+use Rattle.ct_rules_node.proofs.Numbered.{Few, numbered_few}
 
 abbrev At : ℕ → List ℕ → List Called → List Called
 At db key xs = filter (is_called_at db key) xs
@@ -44,7 +38,7 @@ other_calls : (db i : ℕ) (key : List ℕ) (m : Pairs RecState) → db ≢ i �
 unfolding calls_of
 other_calls db i key [] n = refl
 other_calls db i key (e ∷ m) n =
-    filter_both (is_called_at db key) (called_of i e.0 e.1.wish) (calls_of i m)
+    filter-append (is_called_at db key) (called_of i e.0 e.1.wish) (calls_of i m)
     ∙ (λ j. one_called db i key e.0 e.1.wish (ap (λ (b : Bool). b && is_eq (key_cmp key e.0)) (another_db db i n)) j ++ other_calls db i key m n j)
 
 calls_case : (db : ℕ) (key k : List ℕ) (s : RecState) (before : Option RecState) (rest : List Called) (t : Bool) → is_eq (key_cmp key k) ≡ t → At db k rest ≡ [] → At db key rest ≡ called_of db key (or_nothing before).wish
@@ -60,7 +54,7 @@ calls_seen : (db : ℕ) (key : List ℕ) (m : Pairs RecState) → Ascends m → 
 unfolding calls_of called_of or_nothing IsStrictlySortedBy
 calls_seen db key [] h = refl
 calls_seen db key (e ∷ m) h =
-    filter_both (is_called_at db key) (called_of db e.0 e.1.wish) (calls_of db m)
+    filter-append (is_called_at db key) (called_of db e.0 e.1.wish) (calls_of db m)
     ∙ calls_case db key e.0 e.1 (look key m) (calls_of db m) (is_eq (key_cmp key e.0)) refl
     (calls_seen db e.0 m h.1 ∙ ap (λ (o : Option RecState). called_of db e.0 (or_nothing o).wish) (below_unseen e.0 m h.0)) (calls_seen db key m h.1)
 
@@ -70,70 +64,23 @@ none_before : (j i : ℕ) (key : List ℕ) (dbs : List Database) → j < i → A
 unfolding calls_in
 none_before j i key [] l = refl
 none_before j i key (d ∷ ds) l =
-    filter_both (is_called_at j key) (calls_of i d.records) (calls_in (i + 1) ds)
+    filter-append (is_called_at j key) (calls_of i d.records) (calls_in (i + 1) ds)
     ∙ (λ q. other_calls j i key d.records (λ (e : j ≡ i). omega arith) q ++ none_before j (i + 1) key ds (omega arith) q)
 
 all_seen : (i k j : ℕ) (key : List ℕ) (dbs : List Database) → j ≡ i + k → AllAscend dbs → At j key (calls_in i dbs) ≡ called_of j key (or_nothing (look key (or_untouched (slice_get dbs k)).records)).wish
 unfolding calls_in AllAscend or_untouched untouched or_nothing called_of
 all_seen i k j key [] e h = refl
 all_seen i zero j key (d ∷ ds) e h =
-    filter_both (is_called_at j key) (calls_of i d.records) (calls_in (i + 1) ds)
+    filter-append (is_called_at j key) (calls_of i d.records) (calls_in (i + 1) ds)
     ∙ ap (λ (l : List Called). At j key (calls_of i d.records) ++ l) (none_before j (i + 1) key ds (omega arith))
     ∙ append-nil (At j key (calls_of i d.records))
     ∙ subst (λ (q : ℕ). At j key (calls_of q d.records) ≡ called_of j key (or_nothing (look key d.records)).wish) (omega arith) (calls_seen j key d.records h.0)
 all_seen i (suc k) j key (d ∷ ds) e h =
-    filter_both (is_called_at j key) (calls_of i d.records) (calls_in (i + 1) ds)
+    filter-append (is_called_at j key) (calls_of i d.records) (calls_in (i + 1) ds)
     ∙ ap (λ (l : List Called). l ++ At j key (calls_in (i + 1) ds)) (other_calls j i key d.records (λ (q : j ≡ i). omega arith))
     ∙ all_seen (i + 1) k j key ds (omega arith) h.1
 
 -- ---- in the order of their numbers
-
-passed_over : (test : Called → Bool) (x : Called) (ys : List Called) → test x ≡ false → filter test (ranked x ys) ≡ filter test ys
-unfolding ranked
-passed_over test x [] e = ap (λ (b : Bool). cond b (x ∷ []) []) e
-passed_over test x (y ∷ ys) e =
-    elim (nat_lt y.call x.call) as (λ b. filter test (cond b (y ∷ ranked x ys) (x ∷ y ∷ ys)) ≡ filter test (y ∷ ys)) [
-      | true ↦ ap (λ (l : List Called). cond (test y) (y ∷ l) l) (passed_over test x ys e)
-      | false ↦ ap (λ (b : Bool). cond b (x ∷ filter test (y ∷ ys)) (filter test (y ∷ ys))) e
-    ]
-
-unmet : (test : Called → Bool) (y : Called) (ys : List Called) (t : Bool) → test y ≡ t → cond t (y ∷ filter test ys) (filter test ys) ≡ [] → (test y ≡ false) × (filter test ys ≡ [])
-unmet test y ys true e n = absurd (cc)
-unmet test y ys false e n = (e, n)
-
-found_alone : (test : Called → Bool) (x : Called) (ys : List Called) → test x ≡ true → filter test ys ≡ [] → filter test (ranked x ys) ≡ x ∷ []
-unfolding ranked
-found_alone test x [] e n = ap (λ (b : Bool). cond b (x ∷ []) []) e
-found_alone test x (y ∷ ys) e n =
-    let u = unmet test y ys (test y) refl n in
-    elim (nat_lt y.call x.call) as (λ b. filter test (cond b (y ∷ ranked x ys) (x ∷ y ∷ ys)) ≡ x ∷ []) [
-      | true ↦ (λ i. cond (u.0 i) (y ∷ filter test (ranked x ys)) (filter test (ranked x ys))) ∙ found_alone test x ys e u.1
-      | false ↦ (λ i. cond (e i) (x ∷ filter test (y ∷ ys)) (filter test (y ∷ ys))) ∙ ap (λ (l : List Called). x ∷ l) n
-    ]
-
--- none of these, or one
-Few : List Called → Type 0
-Few [] = ⊤
-Few (x ∷ []) = ⊤
-Few (x ∷ y ∷ ys) = ⊥
-
-none_more : (x : Called) (ys : List Called) → Few (x ∷ ys) → ys ≡ []
-unfolding Few
-none_more x [] f = refl
-none_more x (y ∷ ys) f = absurd f
-
-numbered_case : (test : Called → Bool) (x : Called) (xs : List Called) (t : Bool) → test x ≡ t → (Few (filter test xs) → filter test (by_number xs) ≡ filter test xs) → Few (cond t (x ∷ filter test xs) (filter test xs))
-    → filter test (ranked x (by_number xs)) ≡ cond t (x ∷ filter test xs) (filter test xs)
-unfolding Few
-numbered_case test x xs true e ih f =
-    let n = none_more x (filter test xs) f in
-    found_alone test x (by_number xs) e (ih (subst Few (sym n) tt) ∙ n) ∙ ap (λ (l : List Called). x ∷ l) (sym n)
-numbered_case test x xs false e ih f = passed_over test x (by_number xs) e ∙ ih f
-
-numbered : (test : Called → Bool) (xs : List Called) → Few (filter test xs) → filter test (by_number xs) ≡ filter test xs
-unfolding by_number
-numbered test [] f = refl
-numbered test (x ∷ xs) f = numbered_case test x xs (test x) refl (numbered test xs) f
 
 few_called : (db : ℕ) (key : List ℕ) (w : Option Wish) → Few (called_of db key w)
 unfolding Few called_of
@@ -144,4 +91,4 @@ pub calls_each : (n : Node) → NodeAscends n → (db : ℕ) (key : List ℕ) �
 unfolding pending_calls state_at db_at
 calls_each n h db key =
     let seen = all_seen 0 db db key n.dbs (omega arith) h in
-    numbered (is_called_at db key) (calls_in 0 n.dbs) (subst Few (sym seen) (few_called db key _)) ∙ seen
+    numbered_few (λ x. x.call) (is_called_at db key) (calls_in 0 n.dbs) (subst Few (sym seen) (few_called db key _)) ∙ seen

@@ -3,6 +3,7 @@ pub mod Turn
 pub mod Records
 pub mod Clients
 pub mod Databases
+pub mod Numbered
 pub mod Rounds
 pub mod Takeovers
 pub mod Retries

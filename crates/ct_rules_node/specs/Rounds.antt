@@ -25,6 +25,7 @@ use Rattle.ct_rules.specs.declared.event.Place.{Place}
 use Rattle.ct_rules.specs.declared.state.Entry.{Entry}
 use Rattle.ct_rules.specs.declared.state.RecState.{RecState}
 use Rattle.ct_rules.specs.declared.state.Wish.{Wish}
+use Rattle.ct_rules_node.specs.Numbered.{by_number}
 use Rattle.ct_rules_node.specs.Node.{Node, Phase, Serving, Installed, Freezing, Database, Committing, Lead, Nothing, Freezes, Pulls, Installs, Completed, Takeover, NoRun, is_frozen_in, is_present_in, is_persistent, is_among, without, master_of, or_nothing, state_at, kind_at, name_of, holder_in, assigned_all}
 use Rattle.ct_rules_node.specs.Turn.{Turn, with_node, with_lead, with_phase, makes, answers, notes, posts, posts_all}
 use Rattle.ct_rules_node.specs.Records.{with_state, at_record}
@@ -315,19 +316,9 @@ unfoldable pub calls_in : ℕ → List Database → List Called
 calls_in i [] = []
 calls_in i (d ∷ ds) = calls_of i d.records ++ calls_in (i + 1) ds
 
--- a call in its place among these, by its number
-unfoldable pub ranked : Called → List Called → List Called
-ranked x [] = x ∷ []
-ranked x (y ∷ ys) = if nat_lt y.call x.call then y ∷ ranked x ys else x ∷ y ∷ ys
-
--- calls in the order of their numbers
-unfoldable pub by_number : List Called → List Called
-by_number [] = []
-by_number (x ∷ xs) = ranked x (by_number xs)
-
 -- the calls that wait for a record at the node, by number
 unfoldable pub pending_calls : Node → List Called
-pending_calls n = by_number (calls_in 0 n.dbs)
+pending_calls n = by_number (λ x. x.call) (calls_in 0 n.dbs)
 
 -- Thaw: the wish is cleared, and its call wants the record anew
 unfoldable pub want_again_of : Place → Rules → Moving → Option Wish → Moving
