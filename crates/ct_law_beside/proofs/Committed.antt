@@ -19,11 +19,12 @@ use Rattle.ct_frame.specs.declared.frame.Msg.{Msg}
 use Rattle.ct_frame.specs.declared.frame.Msg.TheVariants as msg
 use Rattle.ct_call.specs.Rules.{Rules}
 use Rattle.ct_store.specs.Map.{Ascends, look}
+use Rattle.ct_deleg.specs.Tracked.{others}
 use Rattle.ct_persist.specs.Persisted.{updated}
 use Rattle.ct_persist.specs.Commits.{begun, is_last, acknowledged}
 use Rattle.ct_rules.specs.Parts.{want}
 use Rattle.ct_rules_node.specs.Laws.{AllAscend}
-use Rattle.ct_rules_node.specs.Node.{Node, Database, Committing, without, db_at, with_db, state_at, or_nothing, is_present_in}
+use Rattle.ct_rules_node.specs.Node.{Node, Database, Committing, db_at, with_db, state_at, or_nothing, is_present_in}
 use Rattle.ct_rules_node.specs.Node as node
 use Rattle.ct_rules_node.specs.Turn.{Turn, begins, does, with_node, makes, answers, posts, posts_all}
 use Rattle.ct_rules_node.specs.Admission.{record_in}
@@ -231,9 +232,9 @@ commit_beside c era rules who calls n pend call db writes t ok untold own l =
     let seq = (db_at db t.node).store.seq + 1 in
     let u = makes seq t in
     let v = updates db seq writes u in
-    beside_then c era rules who calls n pend t u (awaits_others n call db seq writes (without n t.node.members) v) (makes_beside c era rules who calls n pend seq t)
-    (beside_then c era rules who calls n pend u v (awaits_others n call db seq writes (without n t.node.members) v) (updates_beside c era rules who calls n pend db seq writes u)
-    (awaits_beside c era rules who calls n pend call db seq writes (without n t.node.members) v ok untold own l))
+    beside_then c era rules who calls n pend t u (awaits_others n call db seq writes (others n t.node.members) v) (makes_beside c era rules who calls n pend seq t)
+    (beside_then c era rules who calls n pend u v (awaits_others n call db seq writes (others n t.node.members) v) (updates_beside c era rules who calls n pend db seq writes u)
+    (awaits_beside c era rules who calls n pend call db seq writes (others n t.node.members) v ok untold own l))
 
 -- a read of a pair
 pub read_pair_beside : (c : Config) (era : Era) (rules : Rules) (who : Callers) (calls n : ℕ) (pend : List PendingCall) (call db : ℕ) (key : List ℕ) (t : Turn) → Untold c pend call → Goes_beside c era rules who calls n pend t (read_pair call db key t)

@@ -14,8 +14,9 @@ use Rattle.ct_frame.specs.declared.frame.TableRow.{TableRow}
 use Rattle.ct_frame.specs.declared.round.Pull.{Pull}
 use Rattle.ct_frame.specs.declared.round.PushBody.{PushBody}
 use Rattle.ct_call.specs.Rules.{Rules}
+use Rattle.ct_deleg.specs.Tracked.{others}
 use Rattle.ct_lcp2.specs.Placing.{placed}
-use Rattle.ct_rules_node.specs.Node.{Node, Phase, Idle, Serving, Installed, Freezing, Frozen, Lead, Nothing, Freezes, Pulls, Installs, Completed, Takeover, Run, NoRun, Releasing, Taking, is_present, is_present_in, is_frozen_in, is_among, is_serving, without, assigned_all}
+use Rattle.ct_rules_node.specs.Node.{Node, Phase, Idle, Serving, Installed, Freezing, Frozen, Lead, Nothing, Freezes, Pulls, Installs, Completed, Takeover, Run, NoRun, Releasing, Taking, is_present, is_present_in, is_frozen_in, is_among, is_serving, assigned_all}
 use Rattle.ct_rules_node.specs.Turn.{Turn, with_node, with_lead, makes, posts, posts_all}
 use Rattle.ct_rules_node.specs.Admission.{record_in, is_current, is_sound}
 use Rattle.ct_rules_node.specs.Steps.{arrives, if_sound, if_taken_over}
@@ -98,9 +99,9 @@ pushack_beside c me n k g t (Freezes h members missing) e = beside_none g me t
 pushack_beside c me n k g t (Pulls h members missing x) e = beside_none g me t
 pushack_beside c me n k g t (Completed h members x) e = beside_none g me t
 pushack_beside c me n k g t (Installs h members missing b) e =
-    cond_both (nat_eq h k && is_among n missing) (all_installed c me k members b t (without n missing)) t (λ (u : Turn). Beside g me t u)
+    cond_both (nat_eq h k && is_among n missing) (all_installed c me k members b t (others n missing)) t (λ (u : Turn). Beside g me t u)
     (λ i. (let same : g ≡ k = sym (eqb-true h g e) ∙ eqb-true h k (and_parts (nat_eq h k) (is_among n missing) i).0 in
-    subst (λ (q : ℕ). Beside g me t (all_installed c me q members b t (without n missing))) same (all_installed_beside c me g members b t (without n missing))))
+    subst (λ (q : ℕ). Beside g me t (all_installed c me q members b t (others n missing))) same (all_installed_beside c me g members b t (others n missing))))
     (λ _. beside_none g me t)
 
 -- ---- messages of a run
@@ -133,8 +134,8 @@ unfolding released_by
 released_by_beside me n g members x t NoRun = beside_none g me t
 released_by_beside me n g members x t (Taking placement) = beside_none g me t
 released_by_beside me n g members x t (Releasing placement missing) =
-    cond_both (is_among n missing) (all_released me g members x placement t (without n missing)) t (λ (u : Turn). Beside g me t u)
-    (λ _. all_released_beside me g members x placement t (without n missing))
+    cond_both (is_among n missing) (all_released me g members x placement t (others n missing)) t (λ (u : Turn). Beside g me t u)
+    (λ _. all_released_beside me g members x placement t (others n missing))
     (λ _. beside_none g me t)
 
 -- ReleaseAck: the node strikes its sender off

@@ -18,7 +18,7 @@ use Rattle.ct_rules.specs.declared.event.MoveEvent.TheVariants as event
 use Rattle.ct_rules.specs.declared.event.Place.{Place}
 use Rattle.ct_rules.specs.declared.state.RecState.{RecState}
 use Rattle.ct_rules.specs.declared.state.Wish.{Wish}
-use Rattle.ct_rules_node.specs.Node.{Database, db_at, state_at, or_untouched, untouched, without, is_serving}
+use Rattle.ct_rules_node.specs.Node.{Database, db_at, state_at, or_untouched, untouched, is_serving}
 use Rattle.ct_rules_node.specs.Turn.{Turn, begins}
 use Rattle.ct_rules_node.specs.Records as node
 use Rattle.ct_rules_node.specs.Records.{acted, at_record, place_of}
@@ -86,8 +86,7 @@ not_there : (n : ℕ) (ns : List ℕ) → ¬ (Contains (others n ns) n)
 not_there n ns h = (let p : not (nat_eq n n) ≡ true = All-contains (λ m. not (nat_eq m n) ≡ true) (others n ns) n (filter_passes (λ m. not (nat_eq m n)) ns) h in
     let q = eq-eqb n n refl in absurd (let r = ap not q in let z = sym r ∙ p in cc))
 
-pub others_come : (members : List ℕ) (n : ℕ) → ascends nat_lt members ≡ true → Ascends (without n members) × ¬ (Contains (without n members) n)
-unfolding without
+pub others_come : (members : List ℕ) (n : ℕ) → ascends nat_lt members ≡ true → Ascends (others n members) × ¬ (Contains (others n members) n)
 others_come members n up = (ascends_others n 0 members (ascends_so members up), not_there n members)
 
 -- ---- the calls that wait
@@ -129,11 +128,11 @@ Found n pend db key call asked = Waited db key n pend call asked
 
 -- vacuum of a record
 abbrev pub vacuumed : ℕ → Turn → Place → Moving → Moving
-vacuumed n t at o = vacuum at (without n t.node.members) o
+vacuumed n t at o = vacuum at (others n t.node.members) o
 
 pub vacuums_happen : (c : Config) (era : Era) (rules : Rules) (n db : ℕ) (key : List ℕ) (t : Turn) (w : World) → t.node.members ≡ era.members →
     happens (scene c era rules db key) (amid era.number db key n w t) (Vacuums n) ≡ put (scene c era rules db key) (amid era.number db key n w t) n (waiting_call (state_at db key t.node).wish) (left_by c n db key (vacuumed n t) t)
-unfolding node.view without
+unfolding node.view
 vacuums_happen c era rules n db key t w h =
     ap (λ (v : View). put (scene c era rules db key) (amid era.number db key n w t) n (waiting_call v.state.wish) (vacuum (place (scene c era rules db key) n v) (others n era.members) (starts v))) (self era.number db key n w t)
     ∙ ap (λ (p : Place). put (scene c era rules db key) (amid era.number db key n w t) n (waiting_call (state_at db key t.node).wish) (vacuum p (others n era.members) (starts (view db key t.node)))) (sym (place_is c era rules n db key t.node h))
@@ -144,21 +143,21 @@ pub waited_on : (c : Config) (era : Era) (rules : Rules) (who : Callers) (calls 
     AllWishes (Found n pend) t.node → AllWishes (Found n pend) (at_record c n db key (vacuumed n t) t).node
 unfolding node.view
 waited_on c era rules who calls n db key pend t h there all =
-    wishes_at (Found n pend) c n db key (vacuumed n t) t h.known.order there all (vacuum_wish (Waited db key n pend) (place_of c n db key t.node) (without n t.node.members) (node.view db key t.node) (all db key))
+    wishes_at (Found n pend) c n db key (vacuumed n t) t h.known.order there all (vacuum_wish (Waited db key n pend) (place_of c n db key t.node) (others n t.node.members) (node.view db key t.node) (all db key))
 
 -- a vacuum of one record is an event at it
 pub vacuum_comes : (c : Config) (era : Era) (rules : Rules) (who : Callers) (calls n db : ℕ) (key : List ℕ) (pend : List PendingCall) (w : World) (t : Turn) → IsEra c era → is_db db ≡ true → NodeStays c era rules who calls n t.node → db < length t.node.dbs → AllWishes (Found n pend) t.node →
     Asks (scene c era rules db key) (amid era.number db key n w t) → (at_record c n db key (vacuumed n t) t).spent ≡ false →
-    Comes_to c era rules who calls n db key (event.Vacuum (without n t.node.members)) t pend (waiting_call (state_at db key t.node).wish) w (Vacuums n)
+    Comes_to c era rules who calls n db key (event.Vacuum (others n t.node.members)) t pend (waiting_call (state_at db key t.node).wish) w (Vacuums n)
 unfolding KnownAt state_at node.view
 vacuum_comes c era rules who calls n db key pend w t is small h there all asks spent = record {
   has = small;
   there = there;
-  may = subst (λ (ms : List ℕ). Ascends (without n ms) × ¬ (Contains (without n ms) n)) (sym h.knows) (others_come era.members n is.ascend);
+  may = subst (λ (ms : List ℕ). Ascends (others n ms) × ¬ (Contains (others n ms) n)) (sym h.knows) (others_come era.members n is.ascend);
   from = refl;
   whole = whole_part c n db key (vacuumed n t) t spent;
-  known = vacuum_wish (Known who calls n db key) (place_of c n db key t.node) (without n t.node.members) (node.view db key t.node) ((h.known.dbs db).records key);
-  waits = vacuum_wish (Of_records c db key) (place_of c n db key t.node) (without n t.node.members) (node.view db key t.node) (h.waits db key);
+  known = vacuum_wish (Known who calls n db key) (place_of c n db key t.node) (others n t.node.members) (node.view db key t.node) ((h.known.dbs db).records key);
+  waits = vacuum_wish (Of_records c db key) (place_of c n db key t.node) (others n t.node.members) (node.view db key t.node) (h.waits db key);
   finds = waited_finds db key n pend (state_at db key t.node).wish (all db key);
   lawful = asks;
   is_event = vacuums_happen c era rules n db key t w h.knows;
@@ -168,7 +167,7 @@ vacuum_goes : (c : Config) (era : Era) (rules : Rules) (who : Callers) (calls n 
     NodeStays c era rules who calls n t.node → db < length t.node.dbs → AllWishes (Found n pend) t.node → Asks (scene c era rules db key) (amid era.number db key n (ws db key) t) → (at_record c n db key (vacuumed n t) t).spent ≡ false →
     Goes_on c era rules who calls n pend ws t (at_record c n db key (vacuumed n t) t)
 vacuum_goes c era rules who calls n db key pend ws t real member small h there all asks spent =
-    follows c era rules who calls n db key (event.Vacuum (without n t.node.members)) t pend (waiting_call (state_at db key t.node).wish) ws (Vacuums n) real member h
+    follows c era rules who calls n db key (event.Vacuum (others n t.node.members)) t pend (waiting_call (state_at db key t.node).wish) ws (Vacuums n) real member h
     (vacuum_comes c era rules who calls n db key pend (ws db key) t real small h there all asks spent)
 
 -- ---- at every record of the database

@@ -13,11 +13,12 @@ use Rattle.ct_frame.specs.declared.frame.Msg.{Msg}
 use Rattle.ct_frame.specs.declared.frame.Msg.TheVariants as msg
 use Rattle.ct_call.specs.Rules.{Rules}
 use Rattle.ct_store.specs.Map.{Pairs, look}
+use Rattle.ct_deleg.specs.Tracked.{others}
 use Rattle.ct_rules.specs.Parts.{Moving, want}
 use Rattle.ct_rules.specs.Moves.{call_again, revoke_again}
 use Rattle.ct_rules.specs.declared.event.Place.{Place}
 use Rattle.ct_rules.specs.declared.state.RecState.{RecState}
-use Rattle.ct_rules_node.specs.Node.{Node, Database, Phase, Idle, Serving, Installed, Freezing, Frozen, master_of, state_at, db_at, or_nothing, without, untouched, restarted_db, restarted}
+use Rattle.ct_rules_node.specs.Node.{Node, Database, Phase, Idle, Serving, Installed, Freezing, Frozen, master_of, state_at, db_at, or_nothing, untouched, restarted_db, restarted}
 use Rattle.ct_rules_node.specs.Turn.{Turn, begins}
 use Rattle.ct_rules_node.specs.Records.{view, acted, put_back, at_record, place_of}
 use Rattle.ct_rules_node.specs.Clients.{unlocks, reads, serves, serves_or, client, refusal}
@@ -142,7 +143,7 @@ retry_home c n t s = retry_lead_home n (retry_records c n t) (retry_records c n 
 vacuum_all_home : (c : Config) (n db : ℕ) (m : Pairs RecState) (t : Turn) → AtHome n t → AtHome n (vacuum_all c n db m t)
 unfolding vacuum_all
 vacuum_all_home c n db [] t s = s
-vacuum_all_home c n db (x ∷ m) t s = vacuum_all_home c n db m _ (at_record_home c n db x.0 _ t (vacuum_away (without n t.node.members)) s)
+vacuum_all_home c n db (x ∷ m) t s = vacuum_all_home c n db m _ (at_record_home c n db x.0 _ t (vacuum_away (others n t.node.members)) s)
 
 pub vacuums_home : (c : Config) (n db : ℕ) (t : Turn) → AtHome n t → AtHome n (vacuums c n db t)
 unfolding vacuums

@@ -18,11 +18,12 @@ use Rattle.ct_frame.specs.declared.frame.Msg.{Msg}
 use Rattle.ct_frame.specs.declared.frame.Msg.TheVariants as msg
 use Rattle.ct_call.specs.Rules.{Rules}
 use Rattle.ct_store.specs.Map.{Pairs, Ascends, key_cmp}
+use Rattle.ct_deleg.specs.Tracked.{others}
 use Rattle.ct_rules.specs.Parts.{Moving, want}
 use Rattle.ct_rules.specs.Moves.{vacuum, arrive, call_again, revoke_again}
 use Rattle.ct_rules.specs.declared.event.Place.{Place}
 use Rattle.ct_rules.specs.declared.state.RecState.{RecState}
-use Rattle.ct_rules_node.specs.Node.{Database, Phase, Idle, Serving, Installed, Freezing, Frozen, master_of, state_at, db_at, without, is_serving, has_records, kind_at}
+use Rattle.ct_rules_node.specs.Node.{Database, Phase, Idle, Serving, Installed, Freezing, Frozen, master_of, state_at, db_at, is_serving, has_records, kind_at}
 use Rattle.ct_rules_node.specs.Turn.{Turn}
 use Rattle.ct_rules_node.specs.Records.{view, acted, put_back, at_record, place_of}
 use Rattle.ct_rules_node.specs.Clients.{unlocks, reads, serves, serves_or, client, refusal}
@@ -141,11 +142,11 @@ at_record_removes c n db key part t d k h s may told = not_before (removed_by d 
 
 -- vacuum of a record
 abbrev vacuumed : ℕ → Turn → Place → Moving → Moving
-vacuumed n t at o = vacuum at (without n t.node.members) o
+vacuumed n t at o = vacuum at (others n t.node.members) o
 
 vacuumed_at : (c : Config) (n db : ℕ) (key : List ℕ) (t : Turn) → Finishes (place_of c n db key t.node) (left_by c n db key (vacuumed n t) t)
 unfolding view Unfinished
-vacuumed_at c n db key t = vacuum_finishes (place_of c n db key t.node) (without n t.node.members) (view db key t.node) tt
+vacuumed_at c n db key t = vacuum_finishes (place_of c n db key t.node) (others n t.node.members) (view db key t.node) tt
 
 members_stay : (c : Config) (n db : ℕ) (key : List ℕ) (part : Place → Moving → Moving) (t : Turn) → (at_record c n db key part t).node.members ≡ t.node.members
 unfolding at_record acted put_back

@@ -5,9 +5,10 @@ use Rattle.std.proofs.lemmas.Bool.{cond_both, and_parts}
 use Rattle.ct_msg.specs.declared.config.Config.{Config}
 use Rattle.ct_call.specs.Rules.{Rules}
 use Rattle.ct_store.specs.Map.{Pairs}
+use Rattle.ct_deleg.specs.Tracked.{others}
 use Rattle.ct_rules.specs.declared.event.MoveEvent.TheVariants as event
 use Rattle.ct_rules.specs.declared.state.RecState.{RecState}
-use Rattle.ct_rules_node.specs.Node.{db_at, state_at, has_records, kind_at, is_serving, without}
+use Rattle.ct_rules_node.specs.Node.{db_at, state_at, has_records, kind_at, is_serving}
 use Rattle.ct_rules_node.specs.Turn.{Turn, begins}
 use Rattle.ct_rules_node.specs.Records.{at_record}
 use Rattle.ct_rules_node.specs.Admission.{record_in, is_current}
@@ -63,7 +64,7 @@ all_kept c era rules reg who calls n db (x ∷ m) pend ws t0 t is inside kind as
     let place = has_place c db kind in
     let there : db < length t.node.dbs = subst (λ (l : ℕ). db < l) (sym g.0.size) place in
     let u = at_record c n db x.0 (vacuumed n t) t in
-    let e = event.Vacuum (without n t.node.members) in
+    let e = event.Vacuum (others n t.node.members) in
     let waits = waiting_call (state_at db x.0 t.node).wish in
     let comes = vacuum_comes c era rules who calls n db x.0 pend (ws db x.0) t is.era_is (is.small db place) g.0 there all (asks_amid era.number (scene c era rules db x.0) n (ws db x.0) pend t0 t (asks x.0) (g.1 db x.0)) (whole_before c n db m u spent) in
     let step = follows c era rules who calls n db x.0 e t pend waits ws (Vacuums n) is.era_is inside g.0 comes in

@@ -11,7 +11,7 @@ use Rattle.ct_frame.specs.declared.frame.Frame.{Frame}
 use Rattle.ct_frame.specs.declared.frame.Msg.{Msg}
 use Rattle.ct_frame.specs.declared.frame.Msg.TheVariants as msg
 use Rattle.ct_call.specs.Rules.{Rules}
-use Rattle.ct_deleg.specs.Tracked.{Revocation}
+use Rattle.ct_deleg.specs.Tracked.{Revocation, others}
 use Rattle.ct_store.specs.Map.{Pairs}
 use Rattle.ct_rules.specs.Parts.{Moving, acts, send, send_all, reply, keeps, want}
 use Rattle.ct_rules.specs.Moves.{release, call_again_of, call_again, revoke_again_of, revoke_again}
@@ -22,7 +22,7 @@ use Rattle.ct_rules.specs.declared.event.Place.{Place}
 use Rattle.ct_rules.specs.declared.state.RecState.{RecState}
 use Rattle.ct_rules.specs.declared.state.Wish.{Wish}
 use Rattle.ct_rules.proofs.Growing.{move_grows}
-use Rattle.ct_rules_node.specs.Node.{Database, Phase, Idle, Serving, Installed, Freezing, Frozen, with_db, without}
+use Rattle.ct_rules_node.specs.Node.{Database, Phase, Idle, Serving, Installed, Freezing, Frozen, with_db}
 use Rattle.ct_rules_node.specs.Turn.{Turn}
 use Rattle.ct_rules_node.specs.Records.{out_of, put_back, acted, at_record, place_of, view}
 use Rattle.ct_rules_node.specs.Clients.{unlocks, reads, serves, serves_or, client, refusal}
@@ -220,7 +220,7 @@ retry_grown c me u = steady_grown (retry_lead_steady me (retry_records c me u) (
 vacuum_all_grown : {t : Turn} (c : Config) (me db : ℕ) (rules : Rules) (m : Pairs RecState) (u : Turn) → Grown t u → Grown t (vacuum_all c me db m u)
 unfolding vacuum_all
 vacuum_all_grown c me db rules [] u s = s
-vacuum_all_grown c me db rules (e ∷ m) u s = vacuum_all_grown c me db rules m _ (at_record_grown c me db e.0 _ u (λ at o. move_grows at rules (move_event.Vacuum (without me u.node.members)) o) s)
+vacuum_all_grown c me db rules (e ∷ m) u s = vacuum_all_grown c me db rules m _ (at_record_grown c me db e.0 _ u (λ at o. move_grows at rules (move_event.Vacuum (others me u.node.members)) o) s)
 
 vacuums_grown : (c : Config) (rules : Rules) (me db : ℕ) (u : Turn) → Grown u (vacuums c me db u)
 unfolding vacuums

@@ -4,9 +4,10 @@ use Rattle.ct_msg.specs.declared.client.Answer.TheVariants as answer
 use Rattle.ct_msg.specs.declared.client.Pair.{Pair}
 use Rattle.ct_frame.specs.declared.frame.Msg.TheVariants as msg
 use Rattle.ct_store.specs.Map.{look}
+use Rattle.ct_deleg.specs.Tracked.{others}
 use Rattle.ct_persist.specs.Persisted.{updated}
 use Rattle.ct_persist.specs.Commits.{begun, is_last, acknowledged}
-use Rattle.ct_rules_node.specs.Node.{Committing, db_at, with_db, without}
+use Rattle.ct_rules_node.specs.Node.{Committing, db_at, with_db}
 use Rattle.ct_rules_node.specs.Turn.{Turn, with_node, makes, answers, posts, posts_all}
 
 -- Update: the node's database after these writes under this number
@@ -26,7 +27,7 @@ awaits_others me call db seq writes (n ∷ ns) t =
 
 -- Commit under this number: Update, and then the other members
 unfoldable pub commits_at : ℕ → ℕ → ℕ → ℕ → List Pair → Turn → Turn
-commits_at me call db seq writes t = awaits_others me call db seq writes (without me t.node.members) (updates db seq writes (makes seq t))
+commits_at me call db seq writes t = awaits_others me call db seq writes (others me t.node.members) (updates db seq writes (makes seq t))
 
 -- Commit: under the number after the database's own
 unfoldable pub commit : ℕ → ℕ → ℕ → List Pair → Turn → Turn

@@ -1,6 +1,6 @@
 -- The state of a node.
-use Rattle.std.specs.Prelude.{ℕ, nat_eq, Bool, true, false, not, ◌&&◌, if◌then◌else◌, List, [], ◌∷◌, map, Option, None, Some, slice_get, slice_set}
-use Rattle.std.specs.List.{filter, list_any}
+use Rattle.std.specs.Prelude.{ℕ, nat_eq, Bool, true, false, ◌&&◌, if◌then◌else◌, List, [], ◌∷◌, map, Option, None, Some, slice_get, slice_set}
+use Rattle.std.specs.List.{list_any}
 use Rattle.ct_bytes.specs.declared.address.Address.{Address}
 use Rattle.ct_msg.specs.declared.client.Pair.{Pair}
 use Rattle.ct_msg.specs.declared.config.Config.{Config}
@@ -104,10 +104,6 @@ is_present_in g n = is_present n.phase && nat_eq n.generation g
 -- is the node in the list?
 unfoldable pub is_among : ℕ → List ℕ → Bool
 is_among n ns = list_any (nat_eq n) ns
-
--- all nodes but this one
-unfoldable pub without : ℕ → List ℕ → List ℕ
-without n ns = filter (λ m. not (nat_eq m n)) ns
 
 -- the number, and 0 where there is none
 unfoldable pub or_zero : Option ℕ → ℕ

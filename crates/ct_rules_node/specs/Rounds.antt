@@ -14,7 +14,7 @@ use Rattle.ct_frame.specs.declared.header.RecCopy.{RecCopy}
 use Rattle.ct_frame.specs.declared.round.Pull.{Pull}
 use Rattle.ct_frame.specs.declared.round.PushBody.{PushBody}
 use Rattle.ct_call.specs.Rules.{Rules}
-use Rattle.ct_deleg.specs.Tracked.{untracked}
+use Rattle.ct_deleg.specs.Tracked.{untracked, others}
 use Rattle.ct_merge.specs.Gathered.{Gathered, nothing, gathered, finished}
 use Rattle.ct_merge.specs.declared.merged.MergedAll.{MergedAll}
 use Rattle.ct_persist.specs.Persisted.{Persisted, listed, replaced}
@@ -26,7 +26,7 @@ use Rattle.ct_rules.specs.declared.state.Entry.{Entry}
 use Rattle.ct_rules.specs.declared.state.RecState.{RecState}
 use Rattle.ct_rules.specs.declared.state.Wish.{Wish}
 use Rattle.ct_rules_node.specs.Numbered.{by_number}
-use Rattle.ct_rules_node.specs.Node.{Node, Phase, Serving, Installed, Freezing, Database, Committing, Lead, Nothing, Freezes, Pulls, Installs, Completed, Takeover, NoRun, is_frozen_in, is_present_in, is_persistent, is_among, without, master_of, or_nothing, state_at, kind_at, name_of, holder_in, assigned_all}
+use Rattle.ct_rules_node.specs.Node.{Node, Phase, Serving, Installed, Freezing, Database, Committing, Lead, Nothing, Freezes, Pulls, Installs, Completed, Takeover, NoRun, is_frozen_in, is_present_in, is_persistent, is_among, master_of, or_nothing, state_at, kind_at, name_of, holder_in, assigned_all}
 use Rattle.ct_rules_node.specs.Turn.{Turn, with_node, with_lead, with_phase, makes, answers, notes, posts, posts_all}
 use Rattle.ct_rules_node.specs.Records.{with_state, at_record}
 use Rattle.ct_rules_node.specs.Databases.{with_commit}
@@ -96,7 +96,7 @@ all_frozen me g members t (m ∷ ms) = with_lead (Freezes g members (m ∷ ms)) 
 
 -- FreezeAck: the leader that waits for it strikes its sender off
 unfoldable pub on_freezeack : ℕ → ℕ → ℕ → Turn → Lead → Turn
-on_freezeack me n g t (Freezes h members missing) = if nat_eq h g && is_among n missing then all_frozen me g members t (without n missing) else t
+on_freezeack me n g t (Freezes h members missing) = if nat_eq h g && is_among n missing then all_frozen me g members t (others n missing) else t
 on_freezeack me n g t _ = t
 
 -- ---- Pull
@@ -173,7 +173,7 @@ all_pulled me g members x t (m ∷ ms) = with_lead (Pulls g members (m ∷ ms) x
 -- PullReply: the leader that waits for it gathers it and strikes its sender off
 unfoldable pub on_pullreply : ℕ → ℕ → Pull → Turn → Lead → Turn
 on_pullreply me g pull t (Pulls h members missing x) =
-    if nat_eq h g && is_among pull.node missing then all_pulled me g members (gathered pull x) t (without pull.node missing) else t
+    if nat_eq h g && is_among pull.node missing then all_pulled me g members (gathered pull x) t (others pull.node missing) else t
 on_pullreply me g pull t _ = t
 
 -- ---- Push: the installation
@@ -290,7 +290,7 @@ all_installed c me g members b t (m ∷ ms) = with_lead (Installs g members (m �
 -- PushAck: the leader that waits for it strikes its sender off
 unfoldable pub on_pushack : Config → ℕ → ℕ → ℕ → Turn → Lead → Turn
 on_pushack c me n g t (Installs h members missing b) =
-    if nat_eq h g && is_among n missing then all_installed c me g members b t (without n missing) else t
+    if nat_eq h g && is_among n missing then all_installed c me g members b t (others n missing) else t
 on_pushack c me n g t _ = t
 
 -- ---- Thaw: the node serves again, and every pending call wants its record anew

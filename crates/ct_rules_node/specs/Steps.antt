@@ -8,9 +8,10 @@ use Rattle.ct_frame.specs.declared.frame.Msg.{Msg}
 use Rattle.ct_frame.specs.declared.frame.Msg.TheVariants as msg
 use Rattle.ct_call.specs.Rules.{Rules}
 use Rattle.ct_store.specs.Map.{Pairs}
+use Rattle.ct_deleg.specs.Tracked.{others}
 use Rattle.ct_rules.specs.Moves.{arrive, vacuum}
 use Rattle.ct_rules.specs.declared.state.RecState.{RecState}
-use Rattle.ct_rules_node.specs.Node.{Node, is_serving, has_records, is_persistent, kind_at, db_at, without}
+use Rattle.ct_rules_node.specs.Node.{Node, is_serving, has_records, is_persistent, kind_at, db_at}
 use Rattle.ct_rules_node.specs.Turn.{Turn, begins}
 use Rattle.ct_rules_node.specs.Records.{at_record}
 use Rattle.ct_rules_node.specs.Clients.{client}
@@ -58,7 +59,7 @@ arrives c rules me f t m = on_record_of c rules me f t (record_in m)
 -- Vacuum: each of these keys, in ascending order
 unfoldable pub vacuum_all : Config → ℕ → ℕ → Pairs RecState → Turn → Turn
 vacuum_all c me db [] t = t
-vacuum_all c me db (e ∷ m) t = vacuum_all c me db m (at_record c me db e.0 (λ at o. vacuum at (without me t.node.members) o) t)
+vacuum_all c me db (e ∷ m) t = vacuum_all c me db m (at_record c me db e.0 (λ at o. vacuum at (others me t.node.members) o) t)
 
 -- Vacuum: every key of a database, at a node that serves
 unfoldable pub vacuums : Config → ℕ → ℕ → Turn → Turn

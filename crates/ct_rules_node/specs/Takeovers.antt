@@ -8,8 +8,9 @@ use Rattle.ct_frame.specs.declared.event.Note.TheVariants as note
 use Rattle.ct_frame.specs.declared.frame.Assigned.{Assigned}
 use Rattle.ct_frame.specs.declared.frame.Msg.TheVariants as msg
 use Rattle.ct_frame.specs.Fields.{address_before}
+use Rattle.ct_deleg.specs.Tracked.{others}
 use Rattle.ct_lcp2.specs.Placing.{placed}
-use Rattle.ct_rules_node.specs.Node.{Lead, Completed, Takeover, Run, Releasing, Taking, is_serving, is_among, without, assigned_all}
+use Rattle.ct_rules_node.specs.Node.{Lead, Completed, Takeover, Run, Releasing, Taking, is_serving, is_among, assigned_all}
 use Rattle.ct_rules_node.specs.Turn.{Turn, with_node, with_lead, makes, notes, posts, posts_all}
 use Rattle.ct_rules_node.specs.Rounds.{is_at, releases}
 
@@ -66,7 +67,7 @@ all_released me g members x placement t (m ∷ ms) = with_lead (Completed g memb
 
 -- ReleaseAck: a run that waits for its sender strikes it off
 unfoldable pub released_by : ℕ → ℕ → ℕ → List ℕ → Takeover → Turn → Run → Turn
-released_by me n g members x t (Releasing placement missing) = if is_among n missing then all_released me g members x placement t (without n missing) else t
+released_by me n g members x t (Releasing placement missing) = if is_among n missing then all_released me g members x placement t (others n missing) else t
 released_by me n g members x t _ = t
 
 -- ReleaseAck: only of the last run of the leader of this generation
