@@ -24,7 +24,7 @@ use Rattle.ct_persist.specs.Persisted.{updated}
 use Rattle.ct_persist.specs.Commits.{begun, is_last, acknowledged}
 use Rattle.ct_rules.specs.Parts.{want}
 use Rattle.ct_rules_node.specs.Laws.{AllAscend}
-use Rattle.ct_rules_node.specs.Node.{Node, Database, Committing, db_at, with_db, state_at, or_nothing, is_present_in}
+use Rattle.ct_rules_node.specs.Node.{Node, Database, Committing, db_at, with_db, state_at, or_nothing, is_present_in, is_among}
 use Rattle.ct_rules_node.specs.Node as node
 use Rattle.ct_rules_node.specs.Turn.{Turn, begins, does, with_node, makes, answers, posts, posts_all}
 use Rattle.ct_rules_node.specs.Admission.{record_in}
@@ -40,7 +40,6 @@ use Rattle.ct_cluster.specs.Traces.{answered, sent_label}
 use Rattle.ct_cluster.specs.declared.step.PendingCall.{PendingCall}
 use Rattle.ct_register.specs.Laws.{is_persistent}
 use Rattle.ct_register.specs.Legal.{db_of, kind_at}
-use Rattle.ct_register.specs.Words.{is_in}
 use Rattle.ct_promise.specs.Generation.{speaks_of_records, record_labels}
 use Rattle.ct_law_world.specs.World as law
 use Rattle.ct_law_world.specs.World.{View, Mail, World}
@@ -308,7 +307,7 @@ amid_same g db key n w t u v m = λ i. record { nodes = λ k. cond (nat_eq k n) 
 
 -- Where a turn that has just begun goes on so, the cluster stays so, and the same schedules lead to it; what is told more is
 -- left out.
-pub beside_goes : (c : Config) (era : Era) (rules : Rules) (who : Callers) (w : Cluster) (n : ℕ) (t u : Turn) (pend : List PendingCall) (labels : List Label) (es : ℕ → List ℕ → List law.Event) → is_in n era.members ≡ true → t.outs ≡ [] →
+pub beside_goes : (c : Config) (era : Era) (rules : Rules) (who : Callers) (w : Cluster) (n : ℕ) (t u : Turn) (pend : List PendingCall) (labels : List Label) (es : ℕ → List ℕ → List law.Event) → is_among n era.members ≡ true → t.outs ≡ [] →
     ((db : ℕ) (key : List ℕ) → project era.number db key w ≡ amid era.number db key n (project era.number db key w) t) → NodeStays c era rules who w.calls n t.node → ClusterStays c era rules who w → Schedules c era rules w labels es →
     Goes_beside c era rules who w.calls n pend t u → Cluster_goes c era rules who (put n u [] w).cluster (labels ++ record_labels c (labels_of n pend u.outs))
 unfolding frames_of labels_of

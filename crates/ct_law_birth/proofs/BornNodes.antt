@@ -5,18 +5,17 @@ use Rattle.std.specs.List.{AllByRecursion}
 use Rattle.ct_msg.specs.declared.config.Config.{Config}
 use Rattle.ct_rules.specs.State.{nothing_kept}
 use Rattle.ct_rules_node.specs.Admission.{record_in}
-use Rattle.ct_rules_node.specs.Node.{state_at}
+use Rattle.ct_rules_node.specs.Node.{state_at, is_among}
 use Rattle.ct_cluster.specs.Cluster.{Cluster, Sent, is_up, node_at, sent_at}
-use Rattle.ct_register.specs.Words.{is_in}
 use Rattle.ct_promise.specs.Born.{Rows, IsBornWith}
 use Rattle.ct_law_birth.proofs.BornWorlds.{by_test, state_none}
 
 -- who runs is a member
-pub born_up : (config : Config) (g : ℕ) (members : List ℕ) (row : Rows) (w : Cluster) → IsBornWith config g members row w → (n : ℕ) → is_up n w ≡ true → is_in n members ≡ true
-born_up config g members row w h n up = by_test (is_in n members) (λ t. t) (λ f. absurd (let down = h.down n f in cc))
+pub born_up : (config : Config) (g : ℕ) (members : List ℕ) (row : Rows) (w : Cluster) → IsBornWith config g members row w → (n : ℕ) → is_up n w ≡ true → is_among n members ≡ true
+born_up config g members row w h n up = by_test (is_among n members) (λ t. t) (λ f. absurd (let down = h.down n f in cc))
 
 -- who is no member keeps nothing of any record
-pub born_left : (config : Config) (g : ℕ) (members : List ℕ) (row : Rows) (w : Cluster) → IsBornWith config g members row w → (n : ℕ) → is_in n members ≡ false → (db : ℕ) (key : List ℕ) → state_at db key (node_at n w) ≡ nothing_kept
+pub born_left : (config : Config) (g : ℕ) (members : List ℕ) (row : Rows) (w : Cluster) → IsBornWith config g members row w → (n : ℕ) → is_among n members ≡ false → (db : ℕ) (key : List ℕ) → state_at db key (node_at n w) ≡ nothing_kept
 born_left config g members row w h n f db key = state_none db key (node_at n w) ((h.left n f).records db)
 
 -- what holds of the message of each number holds of all

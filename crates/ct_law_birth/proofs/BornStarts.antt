@@ -12,13 +12,12 @@ use Rattle.ct_call.specs.Rules.{Rules}
 use Rattle.ct_rules.specs.State.{nobody}
 use Rattle.ct_rules.specs.declared.state.RecState.{RecState}
 use Rattle.ct_rules.specs.declared.state.Wish.{Wish}
-use Rattle.ct_rules_node.specs.Node.{Node, db_at, state_at, master_of, or_zero}
+use Rattle.ct_rules_node.specs.Node.{Node, db_at, state_at, master_of, or_zero, is_among}
 use Rattle.ct_rules_node.specs.Rounds.{row_master, or_nobody}
 use Rattle.ct_cluster.specs.Cluster.{Cluster, node_at}
 use Rattle.ct_register.specs.Register.{Register, reading, newborn}
 use Rattle.ct_register.specs.Lines.{Lines}
 use Rattle.ct_register.specs.Legal.{kind_at, is_of_records}
-use Rattle.ct_register.specs.Words.{is_in}
 use Rattle.ct_register.proofs.Small.{none_not_some, some_not_none}
 use Rattle.ct_promise.specs.Promises.{IsConfig}
 use Rattle.ct_promise.specs.Born.{Rows, IsBornWith, BornRegisters, WishIsSound, IsMastered, IsBirthOf}
@@ -34,15 +33,15 @@ or_true : (a b : Bool) → b ≡ true → (a || b) ≡ true
 or_true true b e = refl
 or_true false b e = e
 
-first_in : (m : ℕ) (ms : List ℕ) → is_in m (m ∷ ms) ≡ true
-unfolding is_in
+first_in : (m : ℕ) (ms : List ℕ) → is_among m (m ∷ ms) ≡ true
+unfolding is_among
 first_in m ms = rw (eq-eqb m m refl) refl
 
-later_in : (n m : ℕ) (ms : List ℕ) → is_in n ms ≡ true → is_in n (m ∷ ms) ≡ true
-unfolding is_in
+later_in : (n m : ℕ) (ms : List ℕ) → is_among n ms ≡ true → is_among n (m ∷ ms) ≡ true
+unfolding is_among
 later_in n m ms t = or_true (nat_eq n m) (list_any (nat_eq n) ms) t
 
-each_node : (members : List ℕ) → ((n : ℕ) → is_in n members ≡ true → is_node n ≡ true) → list_all is_node members ≡ true
+each_node : (members : List ℕ) → ((n : ℕ) → is_among n members ≡ true → is_node n ≡ true) → list_all is_node members ≡ true
 each_node [] h = refl
 each_node (m ∷ ms) h = and_from (is_node m) (list_all is_node ms) (h m (first_in m ms)) (each_node ms (λ n t. h n (later_in n m ms t)))
 
@@ -50,29 +49,29 @@ each_node (m ∷ ms) h = and_from (is_node m) (list_all is_node ms) (h m (first_
 pub born_real : (config : Config) (g : ℕ) (members : List ℕ) (row : Rows) (w : Cluster) → IsConfig config → IsBornWith config g members row w → list_all is_node members ≡ true
 born_real config g members row w is h = each_node members (λ n t. (let few = at_most_sixteen_nodes config is in let low = ltb-true n config.nodes (h.there n t) in lt-ltb n 16 (omega arith)))
 
-one_in : (i : ℕ) (ns : List ℕ) → i < length ns → is_in (or_zero (slice_get ns i)) ns ≡ true
+one_in : (i : ℕ) (ns : List ℕ) → i < length ns → is_among (or_zero (slice_get ns i)) ns ≡ true
 unfolding or_zero
 one_in i [] l = absurd (omega arith)
 one_in zero (n ∷ ns) l = first_in n ns
 one_in (suc i) (n ∷ ns) l = later_in (or_zero (slice_get ns i)) n ns (one_in i ns (omega arith))
 
-some_member : (n : ℕ) (ns : List ℕ) → is_in n ns ≡ true → 0 < length ns
-unfolding is_in
+some_member : (n : ℕ) (ns : List ℕ) → is_among n ns ≡ true → 0 < length ns
+unfolding is_among
 some_member n [] e = absurd (cc)
 some_member n (m ∷ ms) e = omega arith
 
 -- where there is a member, each location master is one
-pub master_in : (n : ℕ) (members : List ℕ) (key : List ℕ) → is_in n members ≡ true → is_in (master_of members key) members ≡ true
+pub master_in : (n : ℕ) (members : List ℕ) (key : List ℕ) → is_among n members ≡ true → is_among (master_of members key) members ≡ true
 unfolding master_of
 master_in n members key t = one_in (hash_of key % length members) members (mod-lt (hash_of key) (some_member n members t))
 
 -- a data master that is a member is named
-named_in : (members : List ℕ) (o : Option ℕ) → list_all is_node members ≡ true → is_in (or_nobody o) members ≡ true → (m : ℕ) × (o ≡ Some m) × (is_in m members ≡ true)
+named_in : (members : List ℕ) (o : Option ℕ) → list_all is_node members ≡ true → is_among (or_nobody o) members ≡ true → (m : ℕ) × (o ≡ Some m) × (is_among m members ≡ true)
 unfolding or_nobody
 named_in members None real t = absurd (member_real nobody members t real refl)
 named_in members (Some m) real t = (m, refl, t)
 
-pub row_named : (members : List ℕ) (x : TableRow) → list_all is_node members ≡ true → IsMastered members (Some x) → (m : ℕ) × (x.master ≡ Some m) × (is_in m members ≡ true)
+pub row_named : (members : List ℕ) (x : TableRow) → list_all is_node members ≡ true → IsMastered members (Some x) → (m : ℕ) × (x.master ≡ Some m) × (is_among m members ≡ true)
 unfolding IsMastered row_master
 row_named members x real t = named_in members x.master real t
 
@@ -93,7 +92,7 @@ born_drawn config g members row w h db key = record {
   above = of_all (λ (n : ℕ). (v : Wish) → wishes_in db key w n ≡ Some v → v.request < numbers_in w n) members inside (λ n f v e. absurd (no_wish db key (node_at n w) v ((h.left n f).records db) e));
 }
   where
-    inside : (n : ℕ) → is_in n members ≡ true → (v : Wish) → wishes_in db key w n ≡ Some v → v.request < numbers_in w n
+    inside : (n : ℕ) → is_among n members ≡ true → (v : Wish) → wishes_in db key w n ≡ Some v → v.request < numbers_in w n
     inside n t v e = by_test (is_of_records (kind_at config db))
         (λ of. drawn_wish db key (numbers_in w n) (wishes_in db key w n) v ((h.born n t).wishes db key of) e)
         (λ none. absurd (no_wish db key (node_at n w) v ((h.born n t).others db none) e))
@@ -117,7 +116,7 @@ sees_if false seen count h k = (let e = k refl in omega arith)
 -- no node has seen more than what a member begins with
 pub born_sees : (config : Config) (w : Cluster) (era : Era) (rules : Rules) (row : Rows) (r : Lines) → BornRegisters config w era.number era.members row r → (db : ℕ) (key : List ℕ) →
     SeesAtMost (scene config era rules db key) (r.records era.number db key).seen (length (r.records era.number db key).birth)
-born_sees config w era rules row r b db key n = sees_if (is_in n era.members) _ _ (λ t. b.seen n db key t) (λ f. b.unseen n db key f)
+born_sees config w era rules row r b db key n = sees_if (is_among n era.members) _ _ (λ t. b.seen n db key t) (λ f. b.unseen n db key f)
 
 birth_none : (o : Option TableRow) (vs : List (List ℕ)) → o ≡ None → IsBirthOf o vs → vs ≡ []
 unfolding IsBirthOf
@@ -153,9 +152,9 @@ empty_register config w g members row r b db key no_row = λ i. record { version
 -- with these the law of one record begins where the record has a row
 pub record Row_begins (s : Scene) (x : TableRow) (master : ℕ) (vs : List (List ℕ)) (seen number : ℕ → ℕ) (wish : ℕ → Option Wish) : Type 0 where
   pub real : list_all is_node s.members ≡ true
-  pub lmaster : is_in s.lmaster s.members ≡ true
+  pub lmaster : is_among s.lmaster s.members ≡ true
   pub named : x.master ≡ Some master
-  pub member : is_in master s.members ≡ true
+  pub member : is_among master s.members ≡ true
   pub value : x.value ≡ reading vs
   pub sees : SeesAtMost s seen (length vs)
   pub drawn : AreDrawn number wish
@@ -208,12 +207,12 @@ each_begins P config era rules row w r is h b with_row without db key = by_test 
 -- ---- the lines
 
 -- every member is in the line
-pub born_line : (config : Config) (w : Cluster) (g : ℕ) (members : List ℕ) (row : Rows) (r : Lines) → BornRegisters config w g members row r → (n : ℕ) → is_in n members ≡ true → r.line n ≡ g
+pub born_line : (config : Config) (w : Cluster) (g : ℕ) (members : List ℕ) (row : Rows) (r : Lines) → BornRegisters config w g members row r → (n : ℕ) → is_among n members ≡ true → r.line n ≡ g
 born_line config w g members row r b n t = b.inside n t
 
 -- and has installed it
 pub born_installed : (config : Config) (w : Cluster) (g : ℕ) (members : List ℕ) (row : Rows) (r : Lines) → BornRegisters config w g members row r → AllInstalled g r
-born_installed config w g members row r b n t = b.installed n (subst (λ (ms : List ℕ). is_in n ms ≡ true) b.named t)
+born_installed config w g members row r b n t = b.installed n (subst (λ (ms : List ℕ). is_among n ms ≡ true) b.named t)
 
 pub born_holder : (config : Config) (w : Cluster) (g : ℕ) (members : List ℕ) (row : Rows) (r : Lines) → BornRegisters config w g members row r → r.holder ≡ w.holder
 born_holder config w g members row r b = b.holder

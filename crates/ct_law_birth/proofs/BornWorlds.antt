@@ -11,11 +11,10 @@ use Rattle.ct_rules.specs.State.{nothing_kept}
 use Rattle.ct_rules.specs.declared.state.RecState.{RecState}
 use Rattle.ct_rules.specs.declared.state.Wish.{Wish}
 use Rattle.ct_rules_node.specs.Admission.{record_in}
-use Rattle.ct_rules_node.specs.Node.{Node, db_at, state_at, master_of, or_nothing}
+use Rattle.ct_rules_node.specs.Node.{Node, db_at, state_at, master_of, or_nothing, is_among}
 use Rattle.ct_rules_node.specs.Rounds.{installed_state}
 use Rattle.ct_cluster.specs.Cluster.{Cluster, Sent, node_at, sent_at}
 use Rattle.ct_register.specs.Legal.{kind_at, is_of_records}
-use Rattle.ct_register.specs.Words.{is_in}
 use Rattle.ct_register.proofs.Small.{some_not_none}
 use Rattle.ct_promise.specs.Born as began
 use Rattle.ct_promise.specs.Born.{Rows, IsBornNode, IsBornWith, BornRegisters, MayWait, WishIsSound, IsMastered, IsBirthOf}
@@ -75,11 +74,11 @@ by_test true holds fails = holds refl
 by_test false holds fails = fails refl
 
 -- what holds of a member, and of every other node, holds of all
-pub of_all : (P : ℕ → Type 0) (members : List ℕ) → ((n : ℕ) → is_in n members ≡ true → P n) → ((n : ℕ) → is_in n members ≡ false → P n) → (n : ℕ) → P n
-of_all P members inside outside n = by_test (is_in n members) (inside n) (outside n)
+pub of_all : (P : ℕ → Type 0) (members : List ℕ) → ((n : ℕ) → is_among n members ≡ true → P n) → ((n : ℕ) → is_among n members ≡ false → P n) → (n : ℕ) → P n
+of_all P members inside outside n = by_test (is_among n members) (inside n) (outside n)
 
 -- the view of a record at a member
-pub member_view : (config : Config) (g : ℕ) (members : List ℕ) (row : Rows) (w : Cluster) → IsBornWith config g members row w → (db : ℕ) (key : List ℕ) (n : ℕ) → is_in n members ≡ true →
+pub member_view : (config : Config) (g : ℕ) (members : List ℕ) (row : Rows) (w : Cluster) → IsBornWith config g members row w → (db : ℕ) (key : List ℕ) (n : ℕ) → is_among n members ≡ true →
     is_of_records (kind_at config db) ≡ true →
     view db key (node_at n w) ≡ record { state = began.born_state n (master_of members key) (row db key) (wishes_in db key w n); next = numbers_in w n; floor = 0 }
 member_view config g members row w h db key n t of = (let b = h.born n t in seen_as db key (node_at n w) _ (b.records db key of) (b.floors db))
@@ -88,7 +87,7 @@ member_view config g members row w h db key n t of = (let b = h.born n t in seen
 empty_view : (db : ℕ) (key : List ℕ) (x : Node) → (db_at db x).records ≡ [] → (db_at db x).floor ≡ 0 → view db key x ≡ record { state = record nothing_kept { wish = (state_at db key x).wish }; next = x.next; floor = 0 }
 empty_view db key x e f = seen_as db key x _ (only_wish (state_at db key x) (state_none db key x e)) f
 
-outside_view : (config : Config) (g : ℕ) (members : List ℕ) (row : Rows) (w : Cluster) → IsBornWith config g members row w → (db : ℕ) (key : List ℕ) (n : ℕ) → is_in n members ≡ false →
+outside_view : (config : Config) (g : ℕ) (members : List ℕ) (row : Rows) (w : Cluster) → IsBornWith config g members row w → (db : ℕ) (key : List ℕ) (n : ℕ) → is_among n members ≡ false →
     view db key (node_at n w) ≡ record { state = record nothing_kept { wish = wishes_in db key w n }; next = numbers_in w n; floor = 0 }
 outside_view config g members row w h db key n f = (let b = h.left n f in empty_view db key (node_at n w) (b.records db) (b.floors db))
 
@@ -121,12 +120,12 @@ row_world config era rules row w h db key x of is =
     bared : (n : ℕ) → RecState
     bared n = record nothing_kept { wish = wishes_in db key w n }
 
-    inside : (n : ℕ) → is_in n era.members ≡ true → view db key (node_at n w) ≡ record { state = born_state (scene config era rules db key) x n (wishes_in db key w n); next = numbers_in w n; floor = 0 }
+    inside : (n : ℕ) → is_among n era.members ≡ true → view db key (node_at n w) ≡ record { state = born_state (scene config era rules db key) x n (wishes_in db key w n); next = numbers_in w n; floor = 0 }
     inside n t = subst (λ (b : Bool). view db key (node_at n w) ≡ record { state = cond b (at_row n) (bared n); next = numbers_in w n; floor = 0 }) (sym t)
         (subst (λ (o : Option TableRow). view db key (node_at n w) ≡ record { state = began.born_state n (master_of era.members key) o (wishes_in db key w n); next = numbers_in w n; floor = 0 }) is
         (member_view config era.number era.members row w h db key n t of))
 
-    outside : (n : ℕ) → is_in n era.members ≡ false → view db key (node_at n w) ≡ record { state = born_state (scene config era rules db key) x n (wishes_in db key w n); next = numbers_in w n; floor = 0 }
+    outside : (n : ℕ) → is_among n era.members ≡ false → view db key (node_at n w) ≡ record { state = born_state (scene config era rules db key) x n (wishes_in db key w n); next = numbers_in w n; floor = 0 }
     outside n f = subst (λ (b : Bool). view db key (node_at n w) ≡ record { state = cond b (at_row n) (bared n); next = numbers_in w n; floor = 0 }) (sym f)
         (outside_view config era.number era.members row w h db key n f)
 

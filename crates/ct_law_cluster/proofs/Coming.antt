@@ -4,7 +4,7 @@ use Rattle.std.specs.Prelude.{slice_get}
 use Rattle.ct_msg.specs.declared.config.Config.{Config}
 use Rattle.ct_frame.specs.Fields.{is_db}
 use Rattle.ct_call.specs.Rules.{Rules}
-use Rattle.ct_rules_node.specs.Node.{has_records, kind_at}
+use Rattle.ct_rules_node.specs.Node.{has_records, kind_at, is_among}
 use Rattle.ct_rules_node.specs.Turn.{Turn, begins}
 use Rattle.ct_rules_node.specs.Admission.{record_in, is_current}
 use Rattle.ct_rules_node.specs.Steps.{arrives}
@@ -12,7 +12,6 @@ use Rattle.ct_cluster.specs.Cluster.{Cluster, Sent, Fate, is_up, node_at, pendin
 use Rattle.ct_cluster.specs.Labels.{Label}
 use Rattle.ct_cluster.specs.Steps.{frames_of, put, with_fate}
 use Rattle.ct_cluster.specs.declared.step.PendingCall.{PendingCall}
-use Rattle.ct_register.specs.Words.{is_in}
 use Rattle.ct_law_world.specs.World.{World}
 use Rattle.ct_law_world.specs.World as law
 use Rattle.ct_law_shown.specs.Shown.{Era, project, heard, labels_of, Schedules}
@@ -36,7 +35,7 @@ abbrev pub Cluster_goes : Config → Era → Rules → Callers → Cluster → L
 Cluster_goes c era rules who w labels = ClusterStays c era rules who w × (es : ℕ → List ℕ → List law.Event) × Schedules c era rules w labels es
 
 -- what a node makes of a turn that goes on so, the cluster does
-pub put_goes : (c : Config) (era : Era) (rules : Rules) (who : Callers) (w : Cluster) (n : ℕ) (u : Turn) (labels : List Label) (es : ℕ → List ℕ → List law.Event) → is_in n era.members ≡ true → ClusterStays c era rules who w → Schedules c era rules w labels es →
+pub put_goes : (c : Config) (era : Era) (rules : Rules) (who : Callers) (w : Cluster) (n : ℕ) (u : Turn) (labels : List Label) (es : ℕ → List ℕ → List law.Event) → is_among n era.members ≡ true → ClusterStays c era rules who w → Schedules c era rules w labels es →
     Goes_on c era rules who w.calls n (pending w) (λ db key. project era.number db key w) (begins (node_at n w)) u → Cluster_goes c era rules who (put n u [] w).cluster (labels ++ labels_of n (pending w) u.outs)
 unfolding frames_of
 put_goes c era rules who w n u labels es t h sched g = (

@@ -6,13 +6,12 @@ use Rattle.ct_msg.specs.declared.client.ClientOp.{ClientOp}
 use Rattle.ct_msg.specs.declared.config.Config.{Config}
 use Rattle.ct_call.specs.Rules.{Rules}
 use Rattle.ct_rules.specs.declared.state.Wish.{Wish}
-use Rattle.ct_rules_node.specs.Node.{Node, Committing}
+use Rattle.ct_rules_node.specs.Node.{Node, Committing, is_among}
 use Rattle.ct_rules_node.specs.Turn.{Turn}
 use Rattle.ct_cluster.specs.Cluster.{Cluster, is_up, node_at}
 use Rattle.ct_cluster.specs.Labels.{Label}
 use Rattle.ct_cluster.specs.Steps.{frames_of, put}
 use Rattle.ct_cluster.specs.declared.step.PendingCall.{PendingCall}
-use Rattle.ct_register.specs.Words.{is_in}
 use Rattle.ct_law_world.specs.World as law
 use Rattle.ct_law_shown.specs.Shown.{Era, project, amid, labels_of, Schedules}
 use Rattle.ct_law_shown.proofs.Wishing.{Wishful}
@@ -68,7 +67,7 @@ more_calls c era rules who x w h = record {
 }
 
 -- what a node makes of any turn that has just begun, and goes on so, the cluster does
-pub turn_goes : (c : Config) (era : Era) (rules : Rules) (who : Callers) (w : Cluster) (n : ℕ) (t u : Turn) (pend : List PendingCall) (labels : List Label) (es : ℕ → List ℕ → List law.Event) → is_in n era.members ≡ true → t.outs ≡ [] →
+pub turn_goes : (c : Config) (era : Era) (rules : Rules) (who : Callers) (w : Cluster) (n : ℕ) (t u : Turn) (pend : List PendingCall) (labels : List Label) (es : ℕ → List ℕ → List law.Event) → is_among n era.members ≡ true → t.outs ≡ [] →
     ((db : ℕ) (key : List ℕ) → project era.number db key w ≡ amid era.number db key n (project era.number db key w) t) → ClusterStays c era rules who w → Schedules c era rules w labels es →
     Goes_on c era rules who w.calls n pend (λ db key. project era.number db key w) t u → Cluster_goes c era rules who (put n u [] w).cluster (labels ++ labels_of n pend u.outs)
 unfolding frames_of

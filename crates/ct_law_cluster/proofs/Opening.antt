@@ -9,7 +9,7 @@ use Rattle.ct_store.specs.Map.{look}
 use Rattle.ct_rules.specs.State.{nothing_kept}
 use Rattle.ct_rules.proofs.Events.{in_form_at_start}
 use Rattle.ct_rules_node.specs.Node as node
-use Rattle.ct_rules_node.specs.Node.{Node, Database}
+use Rattle.ct_rules_node.specs.Node.{Node, Database, is_among}
 use Rattle.ct_rules_node.proofs.Starting.{starts_in_order}
 use Rattle.ct_rules_node.specs.Laws.{AllAscend}
 use Rattle.ct_cluster.specs.Cluster as cluster
@@ -18,7 +18,6 @@ use Rattle.ct_law_world.specs.World as law
 use Rattle.ct_law_world.specs.World.{View}
 use Rattle.ct_law_record.proofs.Law.{proved}
 use Rattle.ct_register.proofs.Opened.{untouched_one}
-use Rattle.ct_register.specs.Words.{is_in}
 use Rattle.ct_register.specs.Register.{newborn}
 use Rattle.ct_law_shown.specs.Shown.{Era, scene, view, mails, project}
 use Rattle.ct_law_node.proofs.Pending.{Callers, CommitFits, DatabaseKnown, NodeKnown, none_known}
@@ -32,32 +31,32 @@ use Rattle.ct_law_shown.proofs.Wishing.{Wishful}
 
 -- ---- its members
 
-in_numbers : (i k n : ℕ) → i ≤ n → n < i + k → is_in n (numbers i k) ≡ true
-unfolding is_in numbers
+in_numbers : (i k n : ℕ) → i ≤ n → n < i + k → is_among n (numbers i k) ≡ true
+unfolding is_among numbers
 in_numbers i zero n l u = absurd (omega arith)
 in_numbers i (suc k) n l u = ⊎_elim
-    (λ (is : n ≡ i). ap (λ (b : Bool). b || is_in n (numbers (i + 1) k)) (eq-eqb n i is))
-    (λ (ne : n ≢ i). second (nat_eq n i) (is_in n (numbers (i + 1) k)) (in_numbers (i + 1) k n (omega arith) (omega arith)))
+    (λ (is : n ≡ i). ap (λ (b : Bool). b || is_among n (numbers (i + 1) k)) (eq-eqb n i is))
+    (λ (ne : n ≢ i). second (nat_eq n i) (is_among n (numbers (i + 1) k)) (in_numbers (i + 1) k n (omega arith) (omega arith)))
     (cases_eq n i)
   where
     second : (a b : Bool) → b ≡ true → (a || b) ≡ true
     second true b e = refl
     second false b e = e
 
-pub is_member : (c : Config) (n : ℕ) → nat_lt n c.nodes ≡ true → is_in n (everyone c) ≡ true
+pub is_member : (c : Config) (n : ℕ) → nat_lt n c.nodes ≡ true → is_among n (everyone c) ≡ true
 unfolding everyone
 is_member c n t = in_numbers 0 c.nodes n (omega arith) (let l = ltb-true n c.nodes t in omega arith)
 
-below_numbers : (i k n : ℕ) → is_in n (numbers i k) ≡ true → n < i + k
-unfolding is_in numbers
+below_numbers : (i k n : ℕ) → is_among n (numbers i k) ≡ true → n < i + k
+unfolding is_among numbers
 below_numbers i zero n e = absurd (cc)
 below_numbers i (suc k) n e = either (nat_eq n i) refl (λ u. below_numbers (i + 1) k n u)
   where
-    either : (b : Bool) → nat_eq n i ≡ b → (is_in n (numbers (i + 1) k) ≡ true → n < (i + 1) + k) → n < i + suc k
+    either : (b : Bool) → nat_eq n i ≡ b → (is_among n (numbers (i + 1) k) ≡ true → n < (i + 1) + k) → n < i + suc k
     either true t more = (let is = eqb-true n i t in omega arith)
-    either false f more = (let l = more (subst (λ (b : Bool). (b || is_in n (numbers (i + 1) k)) ≡ true) f e) in omega arith)
+    either false f more = (let l = more (subst (λ (b : Bool). (b || is_among n (numbers (i + 1) k)) ≡ true) f e) in omega arith)
 
-pub below_everyone : (c : Config) (n : ℕ) → is_in n (everyone c) ≡ true → nat_lt n c.nodes ≡ true
+pub below_everyone : (c : Config) (n : ℕ) → is_among n (everyone c) ≡ true → nat_lt n c.nodes ≡ true
 unfolding everyone
 below_everyone c n e = lt-ltb n c.nodes (let l = below_numbers 0 c.nodes n e in omega arith)
 

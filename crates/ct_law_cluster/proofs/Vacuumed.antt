@@ -18,7 +18,7 @@ use Rattle.ct_rules.specs.declared.event.MoveEvent.TheVariants as event
 use Rattle.ct_rules.specs.declared.event.Place.{Place}
 use Rattle.ct_rules.specs.declared.state.RecState.{RecState}
 use Rattle.ct_rules.specs.declared.state.Wish.{Wish}
-use Rattle.ct_rules_node.specs.Node.{Database, db_at, state_at, or_untouched, untouched, is_serving}
+use Rattle.ct_rules_node.specs.Node.{Database, db_at, state_at, or_untouched, untouched, is_serving, is_among}
 use Rattle.ct_rules_node.specs.Turn.{Turn, begins}
 use Rattle.ct_rules_node.specs.Records as node
 use Rattle.ct_rules_node.specs.Records.{acted, at_record, place_of}
@@ -31,7 +31,6 @@ use Rattle.ct_cluster.specs.Steps as steps
 use Rattle.ct_cluster.specs.Traces.{answered}
 use Rattle.ct_cluster.specs.declared.step.PendingCall.{PendingCall}
 use Rattle.ct_register.specs.Legal.{db_of, key_of}
-use Rattle.ct_register.specs.Words.{is_in}
 use Rattle.ct_law_world.specs.World.{Scene, View, World, Vacuums, happens, put, last, trace, place, starts, own_call, waiting_call}
 use Rattle.ct_law_world.specs.World as law
 use Rattle.ct_law_shown.specs.Shown.{Era, scene, view, heard, told_by_all, labels_of, project, amid, Finds, Follows, Schedules}
@@ -163,7 +162,7 @@ vacuum_comes c era rules who calls n db key pend w t is small h there all asks s
   is_event = vacuums_happen c era rules n db key t w h.knows;
 }
 
-vacuum_goes : (c : Config) (era : Era) (rules : Rules) (who : Callers) (calls n db : ℕ) (key : List ℕ) (pend : List PendingCall) (ws : ℕ → List ℕ → World) (t : Turn) → IsEra c era → is_in n era.members ≡ true → is_db db ≡ true →
+vacuum_goes : (c : Config) (era : Era) (rules : Rules) (who : Callers) (calls n db : ℕ) (key : List ℕ) (pend : List PendingCall) (ws : ℕ → List ℕ → World) (t : Turn) → IsEra c era → is_among n era.members ≡ true → is_db db ≡ true →
     NodeStays c era rules who calls n t.node → db < length t.node.dbs → AllWishes (Found n pend) t.node → Asks (scene c era rules db key) (amid era.number db key n (ws db key) t) → (at_record c n db key (vacuumed n t) t).spent ≡ false →
     Goes_on c era rules who calls n pend ws t (at_record c n db key (vacuumed n t) t)
 vacuum_goes c era rules who calls n db key pend ws t real member small h there all asks spent =
@@ -183,7 +182,7 @@ whole_before c n db [] t e = e
 whole_before c n db (x ∷ m) t e = either_whole t.spent (left_by c n db x.0 (vacuumed n t) t).spent (whole_before c n db m (at_record c n db x.0 (vacuumed n t) t) e)
 
 -- from a turn t0 on, from which the step came to t
-all_go : (c : Config) (era : Era) (rules : Rules) (who : Callers) (calls n db : ℕ) (m : Pairs RecState) (pend : List PendingCall) (ws : ℕ → List ℕ → World) (t0 t : Turn) → IsEra c era → is_in n era.members ≡ true → is_db db ≡ true →
+all_go : (c : Config) (era : Era) (rules : Rules) (who : Callers) (calls n db : ℕ) (m : Pairs RecState) (pend : List PendingCall) (ws : ℕ → List ℕ → World) (t0 t : Turn) → IsEra c era → is_among n era.members ≡ true → is_db db ≡ true →
     db < length c.dbs → ((key : List ℕ) → Asks (scene c era rules db key) (amid era.number db key n (ws db key) t0)) → AllWishes (Found n pend) t.node → Goes_on c era rules who calls n pend ws t0 t → (vacuum_all c n db m t).spent ≡ false →
     Goes_on c era rules who calls n pend ws t0 (vacuum_all c n db m t)
 unfolding vacuum_all
@@ -207,7 +206,7 @@ unfolding db_at vacuum_all untouched
 no_records c n db t e = ap (λ (d : Database). vacuum_all c n db d.records t) (past_db t.node.dbs db e)
 
 -- A vacuum of a database: the node stays as it was, and the world of every record follows.
-pub vacuums_follow : (c : Config) (era : Era) (rules : Rules) (who : Callers) (w : Cluster) (n db : ℕ) → IsEra c era → ((d : ℕ) → d < length c.dbs → is_db d ≡ true) → is_in n era.members ≡ true →
+pub vacuums_follow : (c : Config) (era : Era) (rules : Rules) (who : Callers) (w : Cluster) (n db : ℕ) → IsEra c era → ((d : ℕ) → d < length c.dbs → is_db d ≡ true) → is_among n era.members ≡ true →
     NodeStays c era rules who w.calls n (node_at n w) → ((db : ℕ) (key : List ℕ) → Finds db key n (pending w) (waiting_call (state_at db key (node_at n w)).wish)) → ((key : List ℕ) → Asks (scene c era rules db key) (project era.number db key w)) →
     (vacuums c n db (begins (node_at n w))).spent ≡ false →
     Goes_on c era rules who w.calls n (pending w) (λ db key. project era.number db key w) (begins (node_at n w)) (vacuums c n db (begins (node_at n w)))

@@ -9,13 +9,12 @@ use Rattle.ct_store.proofs.Maps.{empty_ascends}
 use Rattle.ct_rules.specs.State.{nothing_kept}
 use Rattle.ct_rules.specs.declared.state.RecState.{RecState}
 use Rattle.ct_rules.specs.declared.state.Wish.{Wish}
-use Rattle.ct_rules_node.specs.Node.{Node, master_of, state_at, db_at, or_nothing}
+use Rattle.ct_rules_node.specs.Node.{Node, master_of, state_at, db_at, or_nothing, is_among}
 use Rattle.ct_rules_node.specs.Rounds.{installed_state}
 use Rattle.ct_cluster.specs.Cluster.{Cluster, node_at}
 use Rattle.ct_cluster.specs.Cluster as cluster
 use Rattle.ct_register.specs.Lines.{Lines}
 use Rattle.ct_register.specs.Legal.{kind_at, is_of_records}
-use Rattle.ct_register.specs.Words.{is_in}
 use Rattle.ct_promise.specs.Born.{Rows, born_state, IsBornNode, HasLeft, IsBornWith}
 use Rattle.ct_law_world.specs.World.{World}
 use Rattle.ct_law_shown.specs.Shown.{Era}
@@ -61,9 +60,9 @@ left_home n x h = empty_home n x (all_ascend x.dbs (λ i. subst Ascends (sym (h.
 -- in a cluster whose generation was born with rows
 pub born_home : (config : Config) (g : ℕ) (members : List ℕ) (row : Rows) (w : Cluster) → IsBornWith config g members row w → AllAtHome w
 born_home config g members row w h n = ⊎_elim
-    (λ (t : is_in n members ≡ true). born_node_home config g members row n (node_at n w) (h.born n t))
-    (λ (f : is_in n members ≡ false). left_home n (node_at n w) (h.left n f))
-    (true_or_false (is_in n members))
+    (λ (t : is_among n members ≡ true). born_node_home config g members row n (node_at n w) (h.born n t))
+    (λ (f : is_among n members ≡ false). left_home n (node_at n w) (h.left n f))
+    (true_or_false (is_among n members))
 
 -- ---- while the generation goes on
 
@@ -71,18 +70,18 @@ no_copy : (s : RecState) (d : RecCopy) → s ≡ nothing_kept → s.copy ≡ Som
 no_copy s d e is = absurd (let k : None ≡ Some d = sym (ap (λ (x : RecState). x.copy) e) ∙ is in cc)
 
 -- the line of the members is that of every node with a copy, and of entries each is at its location master
-pub lined : (c : Config) (era : Era) (rules : Rules) (who : Callers) (w : Cluster) (r : Lines) → 1 ≤ era.number → ClusterStays c era rules who w → ((n : ℕ) → is_in n era.members ≡ true → r.line n ≡ era.number) → AllAtHome w → Lined era w r
+pub lined : (c : Config) (era : Era) (rules : Rules) (who : Callers) (w : Cluster) (r : Lines) → 1 ≤ era.number → ClusterStays c era rules who w → ((n : ℕ) → is_among n era.members ≡ true → r.line n ≡ era.number) → AllAtHome w → Lined era w r
 lined c era rules who w r real stays inside home = record {
   real = real;
   line = record {
     up = λ n up. inside n (stays.up n up);
     has = λ n db key d has. ⊎_elim
-        (λ (t : is_in n era.members ≡ true). inside n t)
-        (λ (f : is_in n era.members ≡ false). absurd (no_copy (state_at db key (node_at n w)) d (stays.left n f db key) has))
-        (true_or_false (is_in n era.members));
+        (λ (t : is_among n era.members ≡ true). inside n t)
+        (λ (f : is_among n era.members ≡ false). absurd (no_copy (state_at db key (node_at n w)) d (stays.left n f db key) has))
+        (true_or_false (is_among n era.members));
   };
   entry = λ n db key ne. ⊎_elim
-      (λ (t : is_in n era.members ≡ true). (home n).entry db key (λ is. ne (is ∙ ap (λ (ms : List ℕ). master_of ms key) (stays.nodes n t).knows)))
-      (λ (f : is_in n era.members ≡ false). ap (λ (s : RecState). s.entry) (stays.left n f db key))
-      (true_or_false (is_in n era.members));
+      (λ (t : is_among n era.members ≡ true). (home n).entry db key (λ is. ne (is ∙ ap (λ (ms : List ℕ). master_of ms key) (stays.nodes n t).knows)))
+      (λ (f : is_among n era.members ≡ false). ap (λ (s : RecState). s.entry) (stays.left n f db key))
+      (true_or_false (is_among n era.members));
 }

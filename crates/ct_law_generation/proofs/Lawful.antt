@@ -3,12 +3,11 @@ use Rattle.std.proofs.Common.{◌≡◌, ℕ, true, cond, List, [], None, refl, 
 use Rattle.ct_msg.specs.declared.client.ClientOp.TheVariants as op
 use Rattle.ct_msg.specs.declared.config.Config.{Config}
 use Rattle.ct_call.specs.Rules.{Rules}
-use Rattle.ct_rules_node.specs.Node.{master_of}
+use Rattle.ct_rules_node.specs.Node.{master_of, is_among}
 use Rattle.ct_rules_node.specs.Rounds.{row_master, or_nobody}
 use Rattle.ct_cluster.specs.Cluster.{Cluster, everyone, opening}
 use Rattle.ct_register.specs.Register.{newborn}
 use Rattle.ct_register.specs.Lines
-use Rattle.ct_register.specs.Words.{is_in}
 use Rattle.ct_promise.specs.Promises.{IsConfig}
 use Rattle.ct_promise.specs.Born.{Rows, IsBornWith, BornRegisters, PromiseFromRows}
 use Rattle.ct_promise.specs.Marked.{LineMarks}
@@ -76,7 +75,7 @@ born_ghosts : (config : Config) (g : ℕ) (members : List ℕ) (rules : Rules) (
     (ghost : Ghost) × WorldInv (scene config (era_from g members w) rules db key) (project g db key w) (r.records g db key) ghost
 unfolding row_master or_nobody
 born_ghosts config g members rules row w r is h b = each_begins (λ s x q. (ghost : Ghost) × WorldInv s x q ghost) config (era_from g members w) rules row w r is h b
-    (λ s x master vs seen number wish k. (born_ghost x (row_master x) vs seen, born_holds s x (λ _. true) vs seen number wish k.real k.lmaster (subst (λ m. is_in m s.members ≡ true) (sym (ap or_nobody k.named)) k.member) k.value k.sees k.drawn))
+    (λ s x master vs seen number wish k. (born_ghost x (row_master x) vs seen, born_holds s x (λ _. true) vs seen number wish k.real k.lmaster (subst (λ m. is_among m s.members ≡ true) (sym (ap or_nobody k.named)) k.member) k.value k.sees k.drawn))
     (λ s number wish real drawn. (bare_ghost s.lmaster, bare_holds s (λ _. true) number wish drawn))
 
 born_lives : (config : Config) (g : ℕ) (members : List ℕ) (rules : Rules) (row : Rows) (w : Cluster) (r : Lines.Lines) (is : IsConfig config) (h : IsBornWith config g members row w) (b : BornRegisters config w g members row r) →

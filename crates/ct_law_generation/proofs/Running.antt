@@ -8,7 +8,7 @@ use Rattle.ct_frame.specs.Fields.{is_node, is_db, ascends}
 use Rattle.ct_frame.specs.declared.event.Event.{Event}
 use Rattle.ct_frame.specs.declared.event.Event.TheVariants as event
 use Rattle.ct_call.specs.Rules.{Rules}
-use Rattle.ct_rules_node.specs.Node.{Node}
+use Rattle.ct_rules_node.specs.Node.{Node, is_among}
 use Rattle.ct_cluster.specs.Cluster.{Cluster, Sent, Fate, Delivered, Dropped, is_up, node_at, sent_at, able_from}
 use Rattle.ct_cluster.specs.Faults.{fault_of, is_allowed}
 use Rattle.ct_cluster.specs.Steps.{Stepped, with_node, put, fed, done, with_fate, deliver, drop, repeat, steps, steps_or, applied}
@@ -22,7 +22,6 @@ use Rattle.ct_register.specs.Register.{Register}
 use Rattle.ct_register.specs.Lines.{Lines}
 use Rattle.ct_register.specs.Legal.{AcceptsLabels}
 use Rattle.ct_register.specs.Marks.{Mark, Marks, GoOn, AreFrom, MarksStep}
-use Rattle.ct_register.specs.Words.{is_in}
 use Rattle.ct_promise.specs.Generation.{is_of_one_generation, speaks_of_records, record_labels}
 use Rattle.ct_promise.specs.Marked.{MarksGoOnIn, is_removal}
 use Rattle.ct_promise.specs.Kept.{RecordsHold, RecordsRun, RunsFrom}
@@ -127,7 +126,7 @@ pub record IsGeneration (c : Config) (era : Era) : Type 0 where
 -- the members are in the line of the generation, which they all have installed where not all serve yet; the recovery lock is
 -- where the cluster has it
 pub record InLine (era : Era) (w : Cluster) (r : Lines) : Type 0 where
-  pub inside : (n : ℕ) → is_in n era.members ≡ true → r.line n ≡ era.number
+  pub inside : (n : ℕ) → is_among n era.members ≡ true → r.line n ≡ era.number
   pub ready : era.thawed ≡ false → AllInstalled era.number r
   pub holder : r.holder ≡ w.holder
 
@@ -204,7 +203,7 @@ pub record After (c : Config) (era : Era) (rules : Rules) (r : Lines) (ghosts : 
 still_in_line : (era : Era) (w v : Cluster) (r t : Lines) → t ≡ record r { records = t.records } → v.holder ≡ w.holder → InLine era w r → InLine era v t
 still_in_line era w v r t rest held h = record {
   inside = λ n among. ap (λ (l : Lines). l.line n) rest ∙ h.inside n among;
-  ready = λ cold m among. ap (λ (l : Lines). l.installed era.number m) rest ∙ h.ready cold m (ap (λ (l : Lines). is_in m (l.members era.number)) (sym rest) ∙ among);
+  ready = λ cold m among. ap (λ (l : Lines). l.installed era.number m) rest ∙ h.ready cold m (ap (λ (l : Lines). is_among m (l.members era.number)) (sym rest) ∙ among);
   holder = ap (λ (l : Lines). l.holder) rest ∙ h.holder ∙ sym held;
 }
 

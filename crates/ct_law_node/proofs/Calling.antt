@@ -13,7 +13,7 @@ use Rattle.ct_rules.specs.Moves.{move, store, unlock}
 use Rattle.ct_rules.specs.Parts.{want}
 use Rattle.ct_rules.specs.declared.event.MoveEvent.{MoveEvent}
 use Rattle.ct_rules.specs.declared.event.MoveEvent.TheVariants as event
-use Rattle.ct_rules_node.specs.Node.{state_at, has_records, kind_at}
+use Rattle.ct_rules_node.specs.Node.{state_at, has_records, kind_at, is_among}
 use Rattle.ct_rules_node.specs.Turn.{Turn, begins, makes}
 use Rattle.ct_rules_node.specs.Records as node
 use Rattle.ct_rules_node.specs.Records.{at_record, place_of}
@@ -23,7 +23,6 @@ use Rattle.ct_cluster.specs.Labels.{Answered}
 use Rattle.ct_cluster.specs.Traces.{answered}
 use Rattle.ct_cluster.specs.declared.step.PendingCall.{PendingCall}
 use Rattle.ct_register.specs.Legal.{db_of, key_of}
-use Rattle.ct_register.specs.Words.{is_in}
 use Rattle.ct_law_world.specs.World.{World, Event, Wants, Stores, Unlocks, happens, put, place, own_call, may_want}
 use Rattle.ct_law_shown.specs.Shown.{Era, scene, view, project, amid, Finds}
 use Rattle.ct_law_shown.proofs.Wishing.{Wishful, want_wish, store_wish, unlock_wish}
@@ -54,7 +53,7 @@ finds_own n db call key asked calls d k = record {
 pub record Calls_at (c : Config) (era : Era) (rules : Rules) (who : Callers) (calls n db call : ℕ) (key : List ℕ) (asked : ClientOp) (w : Cluster) : Type 0 where
   pub real : IsEra c era
   pub small : is_db db ≡ true
-  pub member : is_in n era.members ≡ true
+  pub member : is_among n era.members ≡ true
   pub stays : NodeStays c era rules who calls n (node_at n w)
   pub kind : has_records (kind_at c db) ≡ true
   pub own : who call ≡ (n, asked)

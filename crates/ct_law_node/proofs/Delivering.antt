@@ -21,7 +21,6 @@ use Rattle.ct_rules_node.specs.Steps.{arrives}
 use Rattle.ct_rules_node.specs.Laws.{left_by}
 use Rattle.ct_cluster.specs.Cluster.{Cluster, Sent, node_at, pending}
 use Rattle.ct_cluster.specs.Steps.{frames_of}
-use Rattle.ct_register.specs.Words.{is_in}
 use Rattle.ct_law_world.specs.World.{View, Mail, Comes, waiting_call, World, Event}
 use Rattle.ct_law_shown.specs.Shown.{Era, scene, view, mail_of, mails, project, amid}
 use Rattle.ct_law_shown.proofs.Weave.{it_is_itself}
@@ -129,7 +128,7 @@ delivery_comes c era rules who w k s db key small h all at r plain now kind asks
 -- A message of a record that was sent comes to its receiver, which follows it: the receiver stays as it was, and the world of
 -- every record follows.
 pub delivers : (c : Config) (era : Era) (rules : Rules) (who : Callers) (w : Cluster) (k : ℕ) (s : Sent) (db0 : ℕ) (key0 : List ℕ) → IsEra c era → ((db : ℕ) → db < length c.dbs → is_db db ≡ true) →
-    is_in s.frame.receiver era.members ≡ true → NodeStays c era rules who w.calls s.frame.receiver (node_at s.frame.receiver w) → ((m : ℕ) → NodeKnown who w.calls m (node_at m w)) →
+    is_among s.frame.receiver era.members ≡ true → NodeStays c era rules who w.calls s.frame.receiver (node_at s.frame.receiver w) → ((m : ℕ) → NodeKnown who w.calls m (node_at m w)) →
     slice_get w.sent k ≡ Some s → record_in s.frame.msg ≡ Some (db0, key0) → IsPlain era.number s.frame →
     (is_current s.frame (node_at s.frame.receiver w) && has_records (kind_at c db0)) ≡ true → Asks (scene c era rules db0 key0) (project era.number db0 key0 w) →
     (arrives c rules s.frame.receiver s.frame (begins (node_at s.frame.receiver w)) s.frame.msg).spent ≡ false →

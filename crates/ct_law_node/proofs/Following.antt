@@ -15,7 +15,7 @@ use Rattle.ct_rules.specs.declared.event.MoveEvent.{MoveEvent}
 use Rattle.ct_rules.specs.declared.event.Place.{Place}
 use Rattle.ct_rules.specs.declared.state.Wish.{Wish}
 use Rattle.ct_rules.proofs.Growing.{move_grows}
-use Rattle.ct_rules_node.specs.Node.{state_at}
+use Rattle.ct_rules_node.specs.Node.{state_at, is_among}
 use Rattle.ct_rules_node.specs.Turn.{Turn}
 use Rattle.ct_rules_node.specs.Records as node
 use Rattle.ct_rules_node.specs.Records.{out_of, acted, at_record, place_of}
@@ -25,7 +25,6 @@ use Rattle.ct_cluster.specs.Cluster.{Cluster, Sent, node_at, pending}
 use Rattle.ct_cluster.specs.Labels.{Label, Answered}
 use Rattle.ct_cluster.specs.declared.step.PendingCall.{PendingCall}
 use Rattle.ct_register.specs.Legal.{db_of, key_of}
-use Rattle.ct_register.specs.Words.{is_in}
 use Rattle.ct_register.specs.Register.{Register}
 use Rattle.ct_law_world.specs.Labels as law
 use Rattle.ct_law_world.specs.World.{Scene, World, Event, LeadsTo, last, trace, happens, put, place, starts, view_of, told, sent, waiting_call, own_call, Stepped}
@@ -116,7 +115,7 @@ sure c era rules who calls n db key e t pend asks w ev h k = record {
   waits = k.waits;
 }
 
-pub fair : (c : Config) (era : Era) (rules : Rules) (who : Callers) (calls n db : ℕ) (key : List ℕ) (e : MoveEvent) (t : Turn) (pend : List PendingCall) (asks : ℕ → Option ClientOp) (w : World) (ev : Event) → is_in n era.members ≡ true →
+pub fair : (c : Config) (era : Era) (rules : Rules) (who : Callers) (calls n db : ℕ) (key : List ℕ) (e : MoveEvent) (t : Turn) (pend : List PendingCall) (asks : ℕ → Option ClientOp) (w : World) (ev : Event) → is_among n era.members ≡ true →
     NodeStays c era rules who calls n t.node → Comes_to c era rules who calls n db key e t pend asks w ev → Fair c era n db key (λ at o. move at rules e o) t pend asks
 unfolding Told node.view
 fair c era rules who calls n db key e t pend asks w ev member h k =
@@ -149,8 +148,8 @@ all_plain c era n db key part t is told sound before =
     subst (λ (l : List Sent). AllPlain era.number l) (sym (frames_more t.outs (map (out_of t.node.generation n db key) (left_by c n db key part t).acts)))
     (plain_more era.number (frames_of t.outs) _ before (plain_sends era.number (place_of c n db key t.node) t.node.generation n (left_by c n db key part t).acts (omega arith) told sound))
 
-pub node_of : (n : ℕ) (ns : List ℕ) → list_all is_node ns ≡ true → is_in n ns ≡ true → is_node n ≡ true
-unfolding is_in
+pub node_of : (n : ℕ) (ns : List ℕ) → list_all is_node ns ≡ true → is_among n ns ≡ true → is_node n ≡ true
+unfolding is_among
 node_of n [] all e = absurd (cc)
 node_of n (m ∷ ms) all e = ⊎_elim
     (λ (is : n ≡ m). subst (λ (x : ℕ). is_node x ≡ true) (sym is) (and_parts _ _ all).0)
@@ -168,7 +167,7 @@ Goes_on c era rules who calls n pend ws t u =
     NodeStays c era rules who calls n u.node × ((db : ℕ) (key : List ℕ) → Follows era.number (scene c era rules db key) n (ws db key) pend t u) × (AllPlain era.number (frames_of t.outs) → AllPlain era.number (frames_of u.outs))
 
 -- so it is of an event at a record of the node
-pub follows : (c : Config) (era : Era) (rules : Rules) (who : Callers) (calls n db0 : ℕ) (key0 : List ℕ) (e : MoveEvent) (t : Turn) (pend : List PendingCall) (asks : ℕ → Option ClientOp) (ws : ℕ → List ℕ → World) (ev : Event) → IsEra c era → is_in n era.members ≡ true →
+pub follows : (c : Config) (era : Era) (rules : Rules) (who : Callers) (calls n db0 : ℕ) (key0 : List ℕ) (e : MoveEvent) (t : Turn) (pend : List PendingCall) (asks : ℕ → Option ClientOp) (ws : ℕ → List ℕ → World) (ev : Event) → IsEra c era → is_among n era.members ≡ true →
     NodeStays c era rules who calls n t.node → Comes_to c era rules who calls n db0 key0 e t pend asks (ws db0 key0) ev →
     Goes_on c era rules who calls n pend ws t (at_record c n db0 key0 (λ at o. move at rules e o) t)
 follows c era rules who calls n db0 key0 e t pend asks ws ev real member h k =

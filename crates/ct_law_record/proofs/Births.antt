@@ -14,10 +14,10 @@ use Rattle.ct_law_fact.proofs.Nodes.{past_top, past_none}
 use Rattle.ct_law_record.proofs.Worlds.{WorldInv, member_real}
 use Rattle.ct_law_record.proofs.Law.{leads, drawn_low}
 use Rattle.ct_rules_node.specs.Rounds.{installed_state, copy_from, row_master, or_nobody, entry_from}
+use Rattle.ct_rules_node.specs.Node.{is_among}
 use Rattle.ct_frame.specs.declared.frame.TableRow.{TableRow}
 use Rattle.std.proofs.lemmas.Bool.{and_parts, cond_both, ne_eqb, le-leb, lt-leb, eqb-false}
 use Rattle.std.proofs.lemmas.List.{take_all}
-use Rattle.ct_register.specs.Words.{is_in}
 use Rattle.ct_rules.specs.declared.state.RecState.{RecState}
 
 -- the places: the whole list from the row's RSN on, and nothing below it
@@ -150,7 +150,7 @@ facts_born inside joined row master versions seen n number c w is some low b = r
 }
 
 pub born_holds : (s : Scene) (row : TableRow) (joined : ℕ → Bool) (versions : List (List ℕ)) (seen : ℕ → ℕ) (number : ℕ → ℕ) (wish : ℕ → Option Wish) →
-    list_all is_node s.members ≡ true → is_in s.lmaster s.members ≡ true → is_in (row_master row) s.members ≡ true → row.value ≡ reading versions → SeesAtMost s seen (length versions) → AreDrawn number wish →
+    list_all is_node s.members ≡ true → is_among s.lmaster s.members ≡ true → is_among (row_master row) s.members ≡ true → row.value ≡ reading versions → SeesAtMost s seen (length versions) → AreDrawn number wish →
     WorldInv s (born s row joined number wish) (record (newborn versions) { seen = seen }) (born_ghost row (row_master row) versions seen)
 unfolding born_state installed_state copy_from entry_from frames_of Emptied Sent copy_of
 born_holds s row joined versions seen number wish real lmaster member is sees drawn = record {
@@ -196,15 +196,15 @@ born_holds s row joined versions seen number wish real lmaster member is sees dr
       none = λ l. absurd (omega arith);
     }
 
-    nodes : (n : ℕ) → NodeInv g n (record (node_of n s.readonly (cond (is_in n s.members) (inside n) (beside n)) (number n) 0) { fresh = is_in n s.members && not (joined n) })
-    nodes n = cond_both (is_in n s.members) (inside n) (beside n) (λ (x : RecState). NodeInv g n (record (node_of n s.readonly x (number n) 0) { fresh = is_in n s.members && not (joined n) }))
+    nodes : (n : ℕ) → NodeInv g n (record (node_of n s.readonly (cond (is_among n s.members) (inside n) (beside n)) (number n) 0) { fresh = is_among n s.members && not (joined n) })
+    nodes n = cond_both (is_among n s.members) (inside n) (beside n) (λ (x : RecState). NodeInv g n (record (node_of n s.readonly x (number n) 0) { fresh = is_among n s.members && not (joined n) }))
         (λ t. subst (λ (b : Bool). NodeInv g n (record (node_of n s.readonly (inside n) (number n) 0) { fresh = b && not (joined n) })) (sym t) (facts_born true (joined n) row (row_master row) versions seen n (number n) _ _ is (drawn.some n) (λ v e. drawn_low s.readonly number wish n drawn v e)
         (born_member row.rsn (row_master row) (seen n) n versions row.value (member_real (row_master row) s.members member real) is (subst (λ (b : Bool). seen n ≤ cond b (length versions) 0) t (sees n)))))
         (λ f. subst (λ (b : Bool). NodeInv g n (record (node_of n s.readonly (beside n) (number n) 0) { fresh = b && not (joined n) })) (sym f) (facts_born false (joined n) row (row_master row) versions seen n (number n) _ _ is (drawn.some n) (λ v e. drawn_low s.readonly number wish n drawn v e)
-        (born_outside row.rsn (row_master row) n versions (seen n) (λ e. (let z : is_in n s.members ≡ true = subst (λ x. is_in x s.members ≡ true) (sym e) member in cc)) (subst (λ (b : Bool). seen n ≤ cond b (length versions) 0) f (sees n)))))
+        (born_outside row.rsn (row_master row) n versions (seen n) (λ e. (let z : is_among n s.members ≡ true = subst (λ x. is_among x s.members ≡ true) (sym e) member in cc)) (subst (λ (b : Bool). seen n ≤ cond b (length versions) 0) f (sees n)))))
 
 pub proved_born : IsBornAsOneRegister
 unfolding row_master or_nobody
 proved_born s row master versions seen joined number wish events real lmaster named member is sees drawn =
     let e : row_master row ≡ master = ap or_nobody named in
-    leads s (born s row joined number wish) _ (born_ghost row (row_master row) versions seen) events real (born_holds s row joined versions seen number wish real lmaster (subst (λ x. is_in x s.members ≡ true) (sym e) member) is sees drawn)
+    leads s (born s row joined number wish) _ (born_ghost row (row_master row) versions seen) events real (born_holds s row joined versions seen number wish real lmaster (subst (λ x. is_among x s.members ≡ true) (sym e) member) is sees drawn)

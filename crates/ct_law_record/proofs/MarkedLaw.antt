@@ -5,8 +5,8 @@ use Rattle.std.specs.List.{list_all}
 use Rattle.ct_frame.specs.Fields.{is_node}
 use Rattle.ct_frame.specs.declared.frame.TableRow.{TableRow}
 use Rattle.ct_rules_node.specs.Rounds.{row_master, or_nobody}
+use Rattle.ct_rules_node.specs.Node.{is_among}
 use Rattle.ct_register.specs.Register.{Register, newborn}
-use Rattle.ct_register.specs.Words.{is_in}
 use Rattle.ct_law_world.specs.Marked.{Holds, Runs, RunsFrom, OpensWithMarks, BeginsWithMarks, IsBornWithMarks}
 use Rattle.ct_law_world.specs.World.{Scene, World, Event, happens}
 use Rattle.ct_law_fact.proofs.Invariant.{Ghost}
@@ -38,7 +38,7 @@ pub is_born : IsBornWithMarks
 unfolding row_master or_nobody
 is_born s row master versions seen joined number wish events real lmaster named member is sees drawn =
     let e : row_master row ≡ master = ap or_nobody named in
-    runs_from s events _ _ (born_ghost row (row_master row) versions seen) real (born_holds s row joined versions seen number wish real lmaster (subst (λ x. is_in x s.members ≡ true) (sym e) member) is sees drawn)
+    runs_from s events _ _ (born_ghost row (row_master row) versions seen) real (born_holds s row joined versions seen number wish real lmaster (subst (λ x. is_among x s.members ≡ true) (sym e) member) is sees drawn)
 
 -- the marks of the beginnings: none, and those of the row's RSN and of the next one
 pub bare_marks : (m : ℕ) → marks_of (bare_ghost m) ≡ record { marks = []; low = 0 }

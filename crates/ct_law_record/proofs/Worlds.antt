@@ -20,6 +20,7 @@ use Rattle.ct_rules.specs.Frames
 use Rattle.ct_deleg.specs.Tracked.{others}
 use Rattle.ct_rules.specs.Moves
 use Rattle.ct_rules_node.specs.Rounds
+use Rattle.ct_rules_node.specs.Node.{is_among}
 use Rattle.ct_register.specs.Register.{Register, joined_by}
 use Rattle.ct_law_fact.proofs.Nodes.{seeing, NodeInv-seeing}
 use Rattle.ct_law_change.proofs.Small.{changed_other}
@@ -29,12 +30,12 @@ use Rattle.ct_law_world.specs.Marked.{is_removed}
 use Rattle.ct_law_change.proofs.Markings.{RunsOn, goes_stays, goes_joined, runs_then, runs_none}
 use Rattle.std.specs.List.{list_all}
 use Rattle.ct_frame.specs.Fields.{is_node}
-use Rattle.ct_register.specs.Words.{is_in, at as changed_seen}
+use Rattle.ct_register.specs.Words.{at as changed_seen}
 use Rattle.ct_law_record.proofs.Events.{arrive_holds, wants_holds, stores_holds, unlocks_holds, releases_holds, vacuums_holds, resends_holds, thaws_holds, rises_holds, none_none, none_unlocked, own_is, waiting_is, may_parts}
 
 -- the nodes, as the law sees them
 abbrev pub node_at : Scene → ℕ → Bool → View → Node
-node_at s n joined v = record (node_of n s.readonly v.state v.next v.floor) { fresh = is_in n s.members && not joined }
+node_at s n joined v = record (node_of n s.readonly v.state v.next v.floor) { fresh = is_among n s.members && not joined }
 
 abbrev pub nodes_at : Scene → World → ℕ → Node
 nodes_at s w n = node_at s n (w.joined n) (w.nodes n)
@@ -45,20 +46,20 @@ pub record WorldInv (s : Scene) (w : World) (r : Register) (g : Ghost) : Type 0 
   pub all : GlobalInv (peers s s.lmaster) s.lmaster g
   pub nodes : (n : ℕ) → NodeInv g n (nodes_at s w n)
   pub master : MasterInv s.lmaster g (nodes_at s w s.lmaster)
-  pub outside : (n : ℕ) → is_in n s.members ≡ false → (w.nodes n).state.copy ≡ None
-  pub senders : (f : Frame) → Sent f (frames_of w.mail) → is_in f.from s.members ≡ true
+  pub outside : (n : ℕ) → is_among n s.members ≡ false → (w.nodes n).state.copy ≡ None
+  pub senders : (f : Frame) → Sent f (frames_of w.mail) → is_among f.from s.members ≡ true
 
 accepts_append : (rules : Rules) (r s t : Register) (ls ks : List Label) → AcceptsAll rules r ls s → AcceptsAll rules s ks t → AcceptsAll rules r (ls ++ ks) t
 accepts_append rules r s t [] ks h k = subst (λ x. AcceptsAll rules x ks t) h k
 accepts_append rules r s t (l ∷ ls) ks h k = (h.0, h.1, accepts_append rules h.0 s t ls ks h.2 k)
 
 -- who is a member is a node
-member_node : (n : ℕ) (ms : List ℕ) → is_in n ms ≡ true → list_all is_node ms ≡ true → is_node n ≡ true
-unfolding is_in
+member_node : (n : ℕ) (ms : List ℕ) → is_among n ms ≡ true → list_all is_node ms ≡ true → is_node n ≡ true
+unfolding is_among
 member_node n [] i a = absurd (cc)
 member_node n (m ∷ ms) i a = grind (arith, eqb-true, member_node n ms)
 
-pub member_real : (n : ℕ) (ms : List ℕ) → is_in n ms ≡ true → list_all is_node ms ≡ true → n ≢ nobody
+pub member_real : (n : ℕ) (ms : List ℕ) → is_among n ms ≡ true → list_all is_node ms ≡ true → n ≢ nobody
 member_real n ms i a e = (let k : is_node nobody ≡ true = subst (λ x. is_node x ≡ true) e (member_node n ms i a) in absurd (cc))
 
 peers_not : (m : ℕ) (ns : List ℕ) → Rule.has_node m (others m ns) ≡ false
@@ -66,8 +67,8 @@ unfolding Rule.has_node
 peers_not m [] = refl
 peers_not m (n ∷ ns) = grind (arith, peers_not m ns)
 
-peers_in : (n m : ℕ) (ns : List ℕ) → n ≢ m → Rule.has_node n (others m ns) ≡ false → is_in n ns ≡ false
-unfolding Rule.has_node is_in
+peers_in : (n m : ℕ) (ns : List ℕ) → n ≢ m → Rule.has_node n (others m ns) ≡ false → is_among n ns ≡ false
+unfolding Rule.has_node is_among
 peers_in n m [] ne e = refl
 peers_in n m (k ∷ ns) ne e = grind (arith, eq-eqb, ne_eqb, peers_in n m ns)
 
@@ -119,7 +120,7 @@ begin_holds s w r n asks g joined h = record {
   good = record {
     all = h.all;
     joined = refl;
-    mine = subst (λ (b : Bool). NodeInv g n (record (nodes_at s w n) { fresh = b })) (not_fresh (is_in n s.members) (w.joined n) joined) (h.nodes n);
+    mine = subst (λ (b : Bool). NodeInv g n (record (nodes_at s w n) { fresh = b })) (not_fresh (is_among n s.members) (w.joined n) joined) (h.nodes n);
     others = λ k _. h.nodes k;
     master = λ e. subst (λ x. MasterInv s.lmaster g (nodes_at s w x)) (sym e) h.master;
     master_other = λ _. h.master;
@@ -132,9 +133,9 @@ unfolding told is_removed
 unremoved s w n asks = refl
 
 steps_holds : (s : Scene) (w : World) (r : Register) (n : ℕ) (may : Bool) (labels : List Label) (v : View) (more : List Mail) (g : Ghost) → WorldInv s w r g → ((f : Frame) → Sent f (frames_of more) → f.from ≡ n) →
-    (is_in n s.members ≡ true → w.joined n ≡ true → may ≡ true → Kept s.rules (peers s s.lmaster) s.lmaster n (nodes_at s w) (frames_of w.mail) (started r g) (record { node = node_of n s.readonly v.state v.next v.floor; frames = frames_of more; labels = labels })) → Leads s r g (steps s w n may labels v more)
-steps_holds s w r n may labels v more g₀ before named k = cond_both (is_in n s.members && w.joined n && may) _ _ (Leads s r g₀)
-    (λ t. (let p = and_parts (is_in n s.members && w.joined n) may t in let q = and_parts (is_in n s.members) (w.joined n) p.0 in let member = q.0 in let g = (k member q.1 p.1).0 in let h = (k member q.1 p.1).1 in (
+    (is_among n s.members ≡ true → w.joined n ≡ true → may ≡ true → Kept s.rules (peers s s.lmaster) s.lmaster n (nodes_at s w) (frames_of w.mail) (started r g) (record { node = node_of n s.readonly v.state v.next v.floor; frames = frames_of more; labels = labels })) → Leads s r g (steps s w n may labels v more)
+steps_holds s w r n may labels v more g₀ before named k = cond_both (is_among n s.members && w.joined n && may) _ _ (Leads s r g₀)
+    (λ t. (let p = and_parts (is_among n s.members && w.joined n) may t in let q = and_parts (is_among n s.members) (w.joined n) p.0 in let member = q.0 in let g = (k member q.1 p.1).0 in let h = (k member q.1 p.1).1 in (
       g.register,
       g,
       h.told,
@@ -143,24 +144,24 @@ steps_holds s w r n may labels v more g₀ before named k = cond_both (is_in n s
         register = refl;
         all = h.good.all;
         nodes = λ j. cond_both (nat_eq j n) v (w.nodes j) (λ (x : View). NodeInv g j (node_at s j (w.joined j) x))
-            (λ t'. subst (λ x. NodeInv g x (node_at s x (w.joined x) v)) (sym (eqb-true j n t')) (subst (λ (b : Bool). NodeInv g n (record (node_at s n (w.joined n) v) { fresh = b })) (sym (not_fresh (is_in n s.members) (w.joined n) q.1)) h.good.mine))
+            (λ t'. subst (λ x. NodeInv g x (node_at s x (w.joined x) v)) (sym (eqb-true j n t')) (subst (λ (b : Bool). NodeInv g n (record (node_at s n (w.joined n) v) { fresh = b })) (sym (not_fresh (is_among n s.members) (w.joined n) q.1)) h.good.mine))
             (λ f. h.good.others j (eqb-false j n f));
         master = cond_both (nat_eq s.lmaster n) v (w.nodes s.lmaster) (λ (x : View). MasterInv s.lmaster g (node_at s s.lmaster (w.joined s.lmaster) x))
             (λ t'. (let e = eqb-true s.lmaster n t' in subst (λ x. MasterInv s.lmaster g (node_at s x (w.joined x) v)) (sym e) (h.good.master (sym e))))
             (λ f. h.good.master_other (λ e. eqb-false s.lmaster n f (sym e)));
         outside = λ j e. cond_both (nat_eq j n) v (w.nodes j) (λ (x : View). x.state.copy ≡ None)
-            (λ t'. absurd (let z : is_in n s.members ≡ false = subst (λ x. is_in x s.members ≡ false) (eqb-true j n t') e in cc))
+            (λ t'. absurd (let z : is_among n s.members ≡ false = subst (λ x. is_among x s.members ≡ false) (eqb-true j n t') e in cc))
             (λ f. before.outside j e);
         senders = λ f h'. ⊎_elim
             (λ (x : Sent f (frames_of w.mail)). before.senders f x)
-            (λ (x : Sent f (frames_of more)). subst (λ y. is_in y s.members ≡ true) (sym (named f x)) member)
+            (λ (x : Sent f (frames_of more)). subst (λ y. is_among y s.members ≡ true) (sym (named f x)) member)
             (sent_split f (frames_of w.mail) (frames_of more) (subst (λ l. Sent f l) (frames_append w.mail more) h'));
       },
       h.went,
     )))
     (λ _. (r, g₀, refl, before, goes_stays (span_of g₀)))
 
-put_holds : (s : Scene) (w : World) (r : Register) (n : ℕ) (asks : ℕ → Option ClientOp) (g : Ghost) (o : Moving) → WorldInv s w r g → (is_in n s.members ≡ true → w.joined n ≡ true → Ended s w r n asks g o) → Leads s r g (put s w n asks o)
+put_holds : (s : Scene) (w : World) (r : Register) (n : ℕ) (asks : ℕ → Option ClientOp) (g : Ghost) (o : Moving) → WorldInv s w r g → (is_among n s.members ≡ true → w.joined n ≡ true → Ended s w r n asks g o) → Leads s r g (put s w n asks o)
 put_holds s w r n asks g o before k = steps_holds s w r n (not o.spent) (told n asks o.acts) (view_of o) (sent n o.acts) g before (λ f x. sent_from n f o.acts x) (λ member joined _. k member joined)
 
 no_mail : (n : ℕ) (f : Frame) → Sent f (frames_of []) → f.from ≡ n
@@ -191,7 +192,7 @@ says_seen : (g : Ghost) (seen : ℕ → ℕ) (n : ℕ) (node : Node) → node.fr
 says_seen g seen n node fresh is h = joined_of (seeing seen g) n node (NodeInv-seeing g n node seen (let k = (h.unjoined fresh).0 in omega arith) h)
 
 joins_holds : (s : Scene) (w : World) (r : Register) (n : ℕ) (g : Ghost) → WorldInv s w r g → Leads s r g (joins s w n)
-joins_holds s w r n g h = cond_both (is_in n s.members && not (w.joined n)) _ _ (Leads s r g)
+joins_holds s w r n g h = cond_both (is_among n s.members && not (w.joined n)) _ _ (Leads s r g)
     (λ t. (
       (seeing seen g).register,
       seeing seen g,
@@ -214,8 +215,8 @@ joins_holds s w r n g h = cond_both (is_in n s.members && not (w.joined n)) _ _ 
     seen : ℕ → ℕ
     seen = changed_seen n (length g.register.birth) g.register.seen
 
-    joins_now : (is_in n s.members && not (w.joined n)) ≡ true → NodeInv (seeing seen g) n (node_at s n true (w.nodes n))
-    joins_now t = subst (λ (b : Bool). NodeInv (seeing seen g) n (record (nodes_at s w n) { fresh = b })) (sym (not_fresh (is_in n s.members) true refl)) (says_seen g seen n (nodes_at s w n) t (changed_same n (length g.register.birth) g.register.seen) (h.nodes n))
+    joins_now : (is_among n s.members && not (w.joined n)) ≡ true → NodeInv (seeing seen g) n (node_at s n true (w.nodes n))
+    joins_now t = subst (λ (b : Bool). NodeInv (seeing seen g) n (record (nodes_at s w n) { fresh = b })) (sym (not_fresh (is_among n s.members) true refl)) (says_seen g seen n (nodes_at s w n) t (changed_same n (length g.register.birth) g.register.seen) (h.nodes n))
 
 comes_holds : (s : Scene) (w : World) (r : Register) (g : Ghost) (found : Option Mail) → list_all is_node s.members ≡ true → ((m : Mail) → found ≡ Some m → Sent (frame_of m) (frames_of w.mail)) → WorldInv s w r g → Leads s r g (comes s w found)
 comes_holds s w r g None real there h = (r, g, refl, h, goes_stays (span_of g))

@@ -13,7 +13,7 @@ use Rattle.ct_rules.specs.Parts.{Moving}
 use Rattle.ct_rules.specs.declared.event.Place.{Place}
 use Rattle.ct_rules.specs.declared.state.RecState.{RecState}
 use Rattle.ct_rules.specs.declared.state.Wish.{Wish}
-use Rattle.ct_rules_node.specs.Node.{Node, Database, untouched, or_untouched}
+use Rattle.ct_rules_node.specs.Node.{Node, Database, untouched, or_untouched, is_among}
 use Rattle.ct_rules_node.specs.Turn.{Turn}
 use Rattle.ct_rules_node.specs.Rounds.{Called, called_of, calls_of, calls_in, pending_calls}
 use Rattle.ct_rules_node.specs.Retries.{call_all, revoke_all, revoke_in}
@@ -34,7 +34,6 @@ use Rattle.ct_rules_node.proofs.Waiting.{calls_each}
 use Rattle.ct_rules_node.proofs.Numbered.{numbered_all}
 use Rattle.ct_cluster.specs.Steps.{frames_of}
 use Rattle.ct_cluster.specs.declared.step.PendingCall.{PendingCall}
-use Rattle.ct_register.specs.Words.{is_in}
 use Rattle.ct_law_world.specs.Labels as law
 use Rattle.ct_law_world.specs.World.{View, World, Resends, place, starts, sent, told, answers, call_of, waiting_call, Stepped, put, happens}
 use Rattle.ct_law_shown.specs.Shown.{Era, scene, view, mails, told_by_all, heard, labels_of, amid, Comes_by}
@@ -229,7 +228,7 @@ resends_happen c era rules n db key w t =
     ap (λ (v : View). put s (amid era.number db key n w t) n (waiting_call v.state.wish) (move (place s n v) rules event.Resend (starts v))) (self era.number db key n w t)
     ∙ ap (λ (o : Moving). put s (amid era.number db key n w t) n (waiting_call (state_at db key t.node).wish) o) (resend_is (place s n (view db key t.node)) (starts (view db key t.node)))
 
-pub resends_follow : (c : Config) (era : Era) (rules : Rules) (who : Callers) (calls n : ℕ) (pend : List PendingCall) (db : ℕ) (key : List ℕ) (w : World) (t : Turn) → is_in n era.members ≡ true → Retries_at c n → NodeStays c era rules who calls n t.node →
+pub resends_follow : (c : Config) (era : Era) (rules : Rules) (who : Callers) (calls n : ℕ) (pend : List PendingCall) (db : ℕ) (key : List ℕ) (w : World) (t : Turn) → is_among n era.members ≡ true → Retries_at c n → NodeStays c era rules who calls n t.node →
     Comes_by era.number (scene c era rules db key) n w pend t (resends_of c n t) (Resends n ∷ [])
 unfolding heard
 resends_follow c era rules who calls n pend db key w t member r h =
@@ -255,7 +254,7 @@ resends_follow c era rules who calls n pend db key w t member r h =
     }
 
 -- so the node goes on, after Calls and Revokes
-pub resends_go : (c : Config) (era : Era) (rules : Rules) (who : Callers) (calls n : ℕ) (pend : List PendingCall) (ws : ℕ → List ℕ → World) (t : Turn) → is_in n era.members ≡ true → Retries_at c n → NodeStays c era rules who calls n t.node →
+pub resends_go : (c : Config) (era : Era) (rules : Rules) (who : Callers) (calls n : ℕ) (pend : List PendingCall) (ws : ℕ → List ℕ → World) (t : Turn) → is_among n era.members ≡ true → Retries_at c n → NodeStays c era rules who calls n t.node →
     Goes_on c era rules who calls n pend ws t (resends_of c n t)
 resends_go c era rules who calls n pend ws t member r h =
     let k = resends_passes c era rules who calls n pend t r h in (k.stays, (λ db key. (Resends n ∷ [], resends_follow c era rules who calls n pend db key (ws db key) t member r h)), k.plain)

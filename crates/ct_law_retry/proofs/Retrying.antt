@@ -11,7 +11,7 @@ use Rattle.ct_frame.specs.declared.frame.Msg.{Msg}
 use Rattle.ct_frame.specs.declared.frame.Msg.TheVariants as msg
 use Rattle.ct_frame.specs.declared.frame.Assigned.{Assigned}
 use Rattle.ct_call.specs.Rules.{Rules}
-use Rattle.ct_rules_node.specs.Node.{Node, Database, Committing, Lead, Nothing, Freezes, Pulls, Installs, Completed, Takeover, Run, NoRun, Releasing, Taking, is_present, is_present_in}
+use Rattle.ct_rules_node.specs.Node.{Node, Database, Committing, Lead, Nothing, Freezes, Pulls, Installs, Completed, Takeover, Run, NoRun, Releasing, Taking, is_present, is_present_in, is_among}
 use Rattle.ct_rules_node.specs.Turn.{Turn, begins, does, posts, posts_all}
 use Rattle.ct_rules_node.specs.Admission.{record_in}
 use Rattle.ct_rules_node.specs.Rounds.{push_of}
@@ -21,7 +21,6 @@ use Rattle.ct_cluster.specs.Cluster.{Cluster, Sent, is_up, node_at, pending}
 use Rattle.ct_cluster.specs.Labels.{Label}
 use Rattle.ct_cluster.specs.Steps.{frames_of, put}
 use Rattle.ct_cluster.specs.declared.step.PendingCall.{PendingCall}
-use Rattle.ct_register.specs.Words.{is_in}
 use Rattle.ct_promise.specs.Born.{has_pushed}
 use Rattle.ct_law_world.specs.Labels as law
 use Rattle.ct_law_world.specs.World.{Scene, World, Event}
@@ -130,7 +129,7 @@ adds_follow s g n w pend t u v a f =
     λ i. record { nodes = λ k. cond (nat_eq k n) (view s.db s.key (node i)) (w.nodes k); joined = λ _. true; mail = w.mail ++ mail i }) in
     (f.0, record { world = f.1.world ∙ same; labels = a.untold s.db s.key ∙ f.1.labels })
 
-pub retry_goes : (c : Config) (era : Era) (rules : Rules) (who : Callers) (calls n : ℕ) (pend : List PendingCall) (ws : ℕ → List ℕ → World) (t : Turn) → is_in n era.members ≡ true → Retries_at c n → NodeStays c era rules who calls n t.node →
+pub retry_goes : (c : Config) (era : Era) (rules : Rules) (who : Callers) (calls n : ℕ) (pend : List PendingCall) (ws : ℕ → List ℕ → World) (t : Turn) → is_among n era.members ≡ true → Retries_at c n → NodeStays c era rules who calls n t.node →
     Goes_on c era rules who calls n pend ws t (retry c n t)
 retry_goes c era rules who calls n pend ws t member r h =
     let u = resends_of c n t in

@@ -15,7 +15,7 @@ use Rattle.ct_rules.specs.Parts.{Moving, keeps}
 use Rattle.ct_rules.specs.declared.event.MoveEvent.TheVariants as event
 use Rattle.ct_rules.specs.declared.event.Place.{Place}
 use Rattle.ct_rules.specs.declared.state.Wish.{Wish}
-use Rattle.ct_rules_node.specs.Node.{Node, Serving, db_at, state_at, is_present_in, is_present}
+use Rattle.ct_rules_node.specs.Node.{Node, Serving, db_at, state_at, is_present_in, is_present, is_among}
 use Rattle.ct_rules_node.specs.Turn.{Turn, does, notes, with_phase}
 use Rattle.ct_rules_node.specs.Records as node
 use Rattle.ct_rules_node.specs.Records.{put_back, acted, at_record, place_of}
@@ -26,7 +26,6 @@ use Rattle.ct_cluster.specs.Cluster.{Sent}
 use Rattle.ct_cluster.specs.Labels.{Label}
 use Rattle.ct_cluster.specs.Steps.{frames_of}
 use Rattle.ct_cluster.specs.declared.step.PendingCall.{PendingCall}
-use Rattle.ct_register.specs.Words.{is_in}
 use Rattle.ct_law_world.specs.World.{Scene, View, World, Thaws, happens, place, starts, view_of, sent, waiting_call, Stepped}
 use Rattle.ct_law_world.specs.World as law
 use Rattle.ct_law_shown.specs.Shown.{Era, scene, view, mails, told_by, told_by_all, heard, AllAsked, labels_of, Finds, amid}
@@ -156,7 +155,7 @@ thaws_happen c era rules n db key t w h =
 -- what is known when the calls begin to want their records anew
 pub record Thaws_from (c : Config) (era : Era) (rules : Rules) (n : ℕ) (ws : ℕ → List ℕ → World) (t : Turn) : Type 0 where
   pub real : IsEra c era
-  pub member : is_in n era.members ≡ true
+  pub member : is_among n era.members ≡ true
   pub small : (db : ℕ) → db < length c.dbs → is_db db ≡ true
   pub reached : (db : ℕ) (key : List ℕ) → Asks (scene c era rules db key) (amid era.number db key n (ws db key) t)
 
@@ -185,7 +184,7 @@ again_sure c era rules who calls n db key pend w t h k = record {
   waits = again_wish (Of_records c db key) (place_of c n db key t.node) rules (node.view db key t.node) (h.waits db key);
 }
 
-pub again_fair : (c : Config) (era : Era) (rules : Rules) (who : Callers) (calls n db : ℕ) (key : List ℕ) (pend : List PendingCall) (w : World) (t : Turn) → IsEra c era → is_in n era.members ≡ true → NodeStays c era rules who calls n t.node → Thaws_at c era rules n db key pend w t →
+pub again_fair : (c : Config) (era : Era) (rules : Rules) (who : Callers) (calls n db : ℕ) (key : List ℕ) (pend : List PendingCall) (w : World) (t : Turn) → IsEra c era → is_among n era.members ≡ true → NodeStays c era rules who calls n t.node → Thaws_at c era rules n db key pend w t →
     Fair c era n db key (want_again rules) t pend (waiting_call (state_at db key t.node).wish)
 unfolding Told node.view
 again_fair c era rules who calls n db key pend w t real member h k =
@@ -212,7 +211,7 @@ sends_again c era rules who calls n db key pend w t node h k =
     (again_sound (scene c era rules db key) n (view db key t.node) k.has node (h.formed db key) (ap (λ (o : Moving). o.spent) (sym is) ∙ k.whole))
 
 -- the call that waits at a record wants it anew, if one does: the node stays as it was, and the world of every record follows
-pub again_goes : (c : Config) (era : Era) (rules : Rules) (who : Callers) (calls n db : ℕ) (key : List ℕ) (pend : List PendingCall) (ws : ℕ → List ℕ → World) (t : Turn) → IsEra c era → is_in n era.members ≡ true → NodeStays c era rules who calls n t.node →
+pub again_goes : (c : Config) (era : Era) (rules : Rules) (who : Callers) (calls n db : ℕ) (key : List ℕ) (pend : List PendingCall) (ws : ℕ → List ℕ → World) (t : Turn) → IsEra c era → is_among n era.members ≡ true → NodeStays c era rules who calls n t.node →
     Thaws_at c era rules n db key pend (ws db key) t → Goes_on c era rules who calls n pend ws t (at_record c n db key (want_again rules) t)
 again_goes c era rules who calls n db key pend ws t real member h k =
     let f = again_fair c era rules who calls n db key pend (ws db key) t real member h k in (

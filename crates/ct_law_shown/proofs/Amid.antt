@@ -12,7 +12,7 @@ use Rattle.ct_rules.specs.Laws.{Grows}
 use Rattle.ct_rules.specs.Moves.{begins}
 use Rattle.ct_rules.specs.Parts.{Moving}
 use Rattle.ct_rules.specs.declared.event.Place.{Place}
-use Rattle.ct_rules_node.specs.Node.{Node, Database, db_at, with_db, state_at, or_nothing, master_of}
+use Rattle.ct_rules_node.specs.Node.{Node, Database, db_at, with_db, state_at, or_nothing, master_of, is_among}
 use Rattle.ct_rules_node.specs.Turn.{Turn}
 use Rattle.ct_rules_node.specs.Records as node
 use Rattle.ct_rules_node.specs.Records.{out_of, put_back, acted, at_record, place_of}
@@ -20,7 +20,6 @@ use Rattle.ct_rules_node.specs.Laws.{unless_blank, NodeAscends, left_by}
 use Rattle.ct_rules_node.proofs.AtRecord.{moves_at, at_set}
 use Rattle.ct_cluster.specs.Steps.{frames_of}
 use Rattle.ct_cluster.specs.declared.step.PendingCall.{PendingCall}
-use Rattle.ct_register.specs.Words.{is_in}
 use Rattle.ct_law_world.specs.Labels as law
 use Rattle.ct_law_world.specs.World.{Scene, View, Mail, World, Event, Rises, place, view_of, told, sent, Stepped, put, happens, waiting_call}
 use Rattle.ct_law_shown.specs.Shown.{Era, scene, view, is_it, mails, told_by_all, heard, AllAsked, labels_of, Finds, amid, Comes_by}
@@ -61,9 +60,9 @@ goes true true true a e b = absurd (cc)
 goes true false b a e c = absurd (cc)
 goes false j b a e c = absurd (cc)
 
-pub put_world : (s : Scene) (w : World) (n : ℕ) (asks : ℕ → Option ClientOp) (o : Moving) → is_in n s.members ≡ true → w.joined n ≡ true → o.spent ≡ false →
+pub put_world : (s : Scene) (w : World) (n : ℕ) (asks : ℕ → Option ClientOp) (o : Moving) → is_among n s.members ≡ true → w.joined n ≡ true → o.spent ≡ false →
     put s w n asks o ≡ record { world = record { nodes = λ k. cond (nat_eq k n) (view_of o) (w.nodes k); joined = w.joined; mail = w.mail ++ sent n o.acts }; labels = told n asks o.acts }
-put_world s w n asks o a here e = (let g : (is_in n s.members && w.joined n && not o.spent) ≡ true = goes (is_in n s.members) (w.joined n) o.spent a here e in
+put_world s w n asks o a here e = (let g : (is_among n s.members && w.joined n && not o.spent) ≡ true = goes (is_among n s.members) (w.joined n) o.spent a here e in
     λ i. cond (g i) (record { world = record { nodes = λ k. cond (nat_eq k n) (view_of o) (w.nodes k); joined = w.joined; mail = w.mail ++ sent n o.acts }; labels = told n asks o.acts }) (record { world = w; labels = [] }))
 
 -- the mail after the step, where what was sent adds this
@@ -89,7 +88,7 @@ labels_after db key n calls outs more xs e =
 pub record Fair (c : Config) (era : Era) (n db : ℕ) (key : List ℕ) (part : Place → Moving → Moving) (t : Turn) (calls : List PendingCall) (asks : ℕ → Option ClientOp) : Type 0 where
   pub generation : t.node.generation ≡ era.number
   pub members : t.node.members ≡ era.members
-  pub member : is_in n era.members ≡ true
+  pub member : is_among n era.members ≡ true
   pub order : NodeAscends t.node
   pub has : db < length t.node.dbs
   pub whole : (left_by c n db key part t).spent ≡ false

@@ -13,11 +13,11 @@ use Rattle.ct_msg.specs.declared.config.Config.{Config}
 use Rattle.ct_frame.specs.declared.event.Note.TheVariants as note
 use Rattle.ct_call.specs.Rules.{Rules}
 use Rattle.ct_cluster.specs.Labels.{Label, Answered, Noted}
+use Rattle.ct_rules_node.specs.Node.{is_among}
 use Rattle.ct_register.specs.Register
 use Rattle.ct_register.specs.Register.{Register, AcceptsVacuum}
 use Rattle.ct_register.specs.Lines.{Lines, with_record}
 use Rattle.ct_register.specs.Legal.{db_of, key_of, is_of_records, kind_at, AtRecord, AcceptsAnswer, AcceptsThawed, AcceptsLabel, AcceptsLabels}
-use Rattle.ct_register.specs.Words.{is_in}
 use Rattle.ct_register.proofs.Places.{at_same, at_other, at_key_same, at_key_other}
 use Rattle.ct_law_world.specs.Labels.{AcceptsAll}
 use Rattle.ct_law_world.specs.Labels as law
@@ -170,7 +170,7 @@ thaw_accepted : (g h n : ℕ) (r : Lines) → 1 ≤ g → (h ≡ g) × (r.line n
 thaw_accepted g h n r real own = (
   (λ zero. absurd (let e = own.1 in omega arith)),
   own.1 ∙ sym own.0,
-  (λ m among. ap (λ (l : ℕ). r.installed l m) own.0 ∙ own.2 m (ap (λ (l : ℕ). is_in m (r.members l)) (sym own.0) ∙ among)),
+  (λ m among. ap (λ (l : ℕ). r.installed l m) own.0 ∙ own.2 m (ap (λ (l : ℕ). is_among m (r.members l)) (sym own.0) ∙ among)),
   refl,
 )
 

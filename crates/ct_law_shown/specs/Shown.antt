@@ -10,7 +10,7 @@ use Rattle.ct_frame.specs.declared.event.Out.TheVariants as out
 use Rattle.ct_frame.specs.declared.event.Note.TheVariants as note
 use Rattle.ct_frame.specs.declared.frame.Frame.{Frame}
 use Rattle.ct_call.specs.Rules.{Rules}
-use Rattle.ct_rules_node.specs.Node.{Node, db_at, state_at, master_of, kind_at, is_readonly}
+use Rattle.ct_rules_node.specs.Node.{Node, db_at, state_at, master_of, kind_at, is_readonly, is_among}
 use Rattle.ct_rules_node.specs.Admission.{record_in}
 use Rattle.ct_cluster.specs.Cluster.{Cluster, Sent, node_at}
 use Rattle.ct_cluster.specs.Labels.{Label, Answered, Noted}
@@ -19,7 +19,6 @@ use Rattle.ct_cluster.specs.declared.step.PendingCall.{PendingCall}
 use Rattle.ct_register.specs.Legal.{db_of, key_of}
 use Rattle.ct_register.specs.Legal as legal
 use Rattle.ct_register.specs.Lines.{Lines}
-use Rattle.ct_register.specs.Words.{is_in}
 use Rattle.ct_law_world.specs.Labels as law
 use Rattle.ct_rules_node.specs.Turn.{Turn}
 use Rattle.ct_cluster.specs.Steps.{frames_of}
@@ -84,7 +83,7 @@ told_by_all db key (x ∷ xs) = told_by db key x ++ told_by_all db key xs
 
 -- every member has installed line g
 abbrev pub AllInstalled : ℕ → Lines → Type 0
-AllInstalled g r = (m : ℕ) → is_in m (r.members g) ≡ true → r.installed g m ≡ true
+AllInstalled g r = (m : ℕ) → is_among m (r.members g) ≡ true → r.installed g m ≡ true
 
 -- The label is of records of nodes in line g: it is an answer or ends a vacuum. An answer that tells nothing may be of any
 -- database. Or a node serves in the line, which all have installed.

@@ -6,7 +6,7 @@ use Rattle.ct_msg.specs.declared.client.ClientOp.{ClientOp}
 use Rattle.ct_msg.specs.declared.client.ClientOp.TheVariants as op
 use Rattle.ct_msg.specs.declared.config.Config.{Config}
 use Rattle.ct_call.specs.Rules.{Rules}
-use Rattle.ct_rules_node.specs.Node.{is_persistent, kind_at}
+use Rattle.ct_rules_node.specs.Node.{is_persistent, kind_at, is_among}
 use Rattle.ct_cluster.specs.Cluster.{Cluster, Sent, Dropped, is_up, pending, node_at, sent_at}
 use Rattle.ct_cluster.specs.Labels.{Label}
 use Rattle.ct_rules_node.specs.Retries.{retry}
@@ -23,7 +23,6 @@ use Rattle.ct_cluster.specs.declared.step.Step.{Step}
 use Rattle.ct_cluster.specs.declared.step.Step.TheVariants as step
 use Rattle.ct_cluster.specs.declared.step.StepFault.{StepFault}
 use Rattle.ct_register.specs.Lines.{Lines}
-use Rattle.ct_register.specs.Words.{is_in}
 use Rattle.ct_promise.specs.Generation.{speaks_of_records, record_labels}
 use Rattle.ct_law_shown.specs.Shown.{Era, IsOfLine, told_by_all, labels_of, Schedules, AllInstalled}
 use Rattle.ct_law_node.proofs.Pending.{Callers}
@@ -63,7 +62,7 @@ pub record Run_goes (c : Config) (era : Era) (rules : Rules) (reg : Lines) (labe
 -- members serve in the generation, they all have installed it
 pub record Starts (c : Config) (era : Era) (rules : Rules) (reg : Lines) : Type 0 where
   pub era_is : IsEra c era
-  pub line : (n : ℕ) → is_in n era.members ≡ true → reg.line n ≡ era.number
+  pub line : (n : ℕ) → is_among n era.members ≡ true → reg.line n ≡ era.number
   pub ready : era.thawed ≡ false → AllInstalled era.number reg
   pub small : (db : ℕ) → db < length c.dbs → is_db db ≡ true
 

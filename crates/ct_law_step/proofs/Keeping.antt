@@ -8,7 +8,7 @@ use Rattle.ct_store.specs.Map.{Pairs}
 use Rattle.ct_deleg.specs.Tracked.{others}
 use Rattle.ct_rules.specs.declared.event.MoveEvent.TheVariants as event
 use Rattle.ct_rules.specs.declared.state.RecState.{RecState}
-use Rattle.ct_rules_node.specs.Node.{db_at, state_at, has_records, kind_at, is_serving}
+use Rattle.ct_rules_node.specs.Node.{db_at, state_at, has_records, kind_at, is_serving, is_among}
 use Rattle.ct_rules_node.specs.Turn.{Turn, begins}
 use Rattle.ct_rules_node.specs.Records.{at_record}
 use Rattle.ct_rules_node.specs.Admission.{record_in, is_current}
@@ -30,7 +30,6 @@ use Rattle.ct_law_step.proofs.Assembled.{Starts, Run_goes, Tells}
 use Rattle.ct_law_step.proofs.Kept.{event_kept}
 use Rattle.ct_law_node.proofs.Plain.{plain_at}
 use Rattle.ct_register.specs.Lines.{Lines}
-use Rattle.ct_register.specs.Words.{is_in}
 use Rattle.ct_law_cluster.proofs.Coming.{goes_nowhere}
 
 -- ---- a message of a record
@@ -56,7 +55,7 @@ message_kept c era rules reg w ls k m r is h at up record_is spent =
 -- ---- a vacuum
 
 -- at every record of the database: from a turn t0 on, from which the step came to t
-all_kept : (c : Config) (era : Era) (rules : Rules) (reg : Lines) (who : Callers) (calls n db : ℕ) (m : Pairs RecState) (pend : List PendingCall) (ws : ℕ → List ℕ → World) (t0 t : Turn) → Starts c era rules reg → is_in n era.members ≡ true → has_records (kind_at c db) ≡ true →
+all_kept : (c : Config) (era : Era) (rules : Rules) (reg : Lines) (who : Callers) (calls n db : ℕ) (m : Pairs RecState) (pend : List PendingCall) (ws : ℕ → List ℕ → World) (t0 t : Turn) → Starts c era rules reg → is_among n era.members ≡ true → has_records (kind_at c db) ≡ true →
     ((key : List ℕ) → Asks (scene c era rules db key) (amid era.number db key n (ws db key) t0)) → AllWishes (Found n pend) t.node → Goes_on c era rules who calls n pend ws t0 t → Tells c era reg n pend t → (vacuum_all c n db m t).spent ≡ false → Tells c era reg n pend (vacuum_all c n db m t)
 unfolding vacuum_all
 all_kept c era rules reg who calls n db [] pend ws t0 t is inside kind asks all g before spent = before

@@ -12,7 +12,7 @@ use Rattle.ct_rules.specs.Moves.{move}
 use Rattle.ct_rules.specs.Parts.{want}
 use Rattle.ct_rules.specs.declared.event.MoveEvent.{MoveEvent}
 use Rattle.ct_rules.specs.declared.event.MoveEvent.TheVariants as event
-use Rattle.ct_rules_node.specs.Node.{state_at, has_records, is_persistent, kind_at}
+use Rattle.ct_rules_node.specs.Node.{state_at, has_records, is_persistent, kind_at, is_among}
 use Rattle.ct_rules_node.specs.Turn.{Turn, begins, makes}
 use Rattle.ct_rules_node.specs.Records.{out_of, acted, at_record, place_of}
 use Rattle.ct_rules_node.specs.Clients as clients
@@ -43,7 +43,6 @@ use Rattle.ct_law_cluster.proofs.Fed.{fed_is}
 use Rattle.ct_law_step.proofs.Assembled.{Starts, Run_goes, Tells, client_turn}
 use Rattle.ct_law_cluster.proofs.Faulting.{runs}
 use Rattle.ct_register.specs.Lines.{Lines}
-use Rattle.ct_register.specs.Words.{is_in}
 use Rattle.ct_lcp2.proofs.Choices.{all_append}
 
 -- ---- a step at one record
@@ -53,7 +52,7 @@ pub tells_more : (c : Config) (era : Era) (reg : Lines) (n : ℕ) (pend : List P
 tells_more c era reg n pend xs ys h k = subst (λ (l : List Label). AllByRecursion (Is_fit c era.number reg) l) (sym (labels_more n pend xs ys)) (all_append (Is_fit c era.number reg) (labels_of n pend xs) (labels_of n pend ys) h k)
 
 -- what the node tells stays of records of the line over an event at a record
-pub event_kept : (c : Config) (era : Era) (rules : Rules) (reg : Lines) (who : Callers) (calls n db : ℕ) (key : List ℕ) (e : MoveEvent) (t : Turn) (pend : List PendingCall) (asks : ℕ → Option ClientOp) (w : World) (ev : Event) → Starts c era rules reg → is_in n era.members ≡ true → has_records (kind_at c db) ≡ true →
+pub event_kept : (c : Config) (era : Era) (rules : Rules) (reg : Lines) (who : Callers) (calls n db : ℕ) (key : List ℕ) (e : MoveEvent) (t : Turn) (pend : List PendingCall) (asks : ℕ → Option ClientOp) (w : World) (ev : Event) → Starts c era rules reg → is_among n era.members ≡ true → has_records (kind_at c db) ≡ true →
     NodeStays c era rules who calls n t.node → Comes_to c era rules who calls n db key e t pend asks w ev → Tells c era reg n pend t → Tells c era reg n pend (at_record c n db key (λ at o. move at rules e o) t)
 unfolding at_record acted place_of
 event_kept c era rules reg who calls n db key e t pend asks w ev is inside kind h k before =

@@ -7,7 +7,7 @@ use Rattle.ct_frame.specs.declared.event.Out.TheVariants as out
 use Rattle.ct_call.specs.Rules.{Rules}
 use Rattle.ct_rules.specs.Parts.{Moving}
 use Rattle.ct_rules.specs.declared.state.Wish.{Wish}
-use Rattle.ct_rules_node.specs.Node.{Installed, state_at, db_at, Node, Serving}
+use Rattle.ct_rules_node.specs.Node.{Installed, state_at, db_at, Node, Serving, is_among}
 use Rattle.ct_rules_node.specs.Turn.{Turn, notes, does, with_phase, begins}
 use Rattle.ct_rules_node.specs.Records as node
 use Rattle.ct_rules_node.specs.Records.{out_of, acted, at_record, place_of}
@@ -16,7 +16,6 @@ use Rattle.ct_rules_node.specs.Laws.{left_by}
 use Rattle.ct_cluster.specs.Labels.{Noted, Label}
 use Rattle.ct_cluster.specs.declared.step.PendingCall.{PendingCall}
 use Rattle.ct_register.specs.Lines.{Lines}
-use Rattle.ct_register.specs.Words.{is_in}
 use Rattle.ct_law_world.specs.World.{World, waiting_call}
 use Rattle.ct_law_shown.specs.Shown.{Era, labels_of, IsOfLine, AllInstalled, Finds, project, scene}
 use Rattle.ct_law_node.proofs.Pending.{Callers}
@@ -49,7 +48,7 @@ use Rattle.ct_law_beside.proofs.Rounding.{arrives_thaw}
 -- ---- at one record
 
 -- what the call tells that wants its record anew, where one waits
-again_kept : (c : Config) (era : Era) (rules : Rules) (reg : Lines) (who : Callers) (calls n db : ℕ) (key : List ℕ) (pend : List PendingCall) (w : World) (t : Turn) → Starts c era rules reg → is_in n era.members ≡ true → NodeStays c era rules who calls n t.node → Thaws_at c era rules n db key pend w t →
+again_kept : (c : Config) (era : Era) (rules : Rules) (reg : Lines) (who : Callers) (calls n db : ℕ) (key : List ℕ) (pend : List PendingCall) (w : World) (t : Turn) → Starts c era rules reg → is_among n era.members ≡ true → NodeStays c era rules who calls n t.node → Thaws_at c era rules n db key pend w t →
     AllByRecursion (Is_fit c era.number reg) (labels_of n pend (map (out_of t.node.generation n db key) (left_by c n db key (want_again rules) t).acts))
 unfolding want_again want_again_of node.view place_of labels_of
 again_kept c era rules reg who calls n db key pend w t is inside h k = either (state_at db key t.node).wish refl
@@ -63,7 +62,7 @@ again_kept c era rules reg who calls n db key pend w t is inside h k = either (s
         kept_fit c era.number reg _ (labels_kept c era.number reg (place_of c n db key t.node) t.node.generation n pend (waiting_call (state_at db key t.node).wish) (left_by c n db key (want_again rules) t).acts
         (is.line n inside) (of_records c db (known_wish (Of_records c db key) (state_at db key t.node).wish x e (h.waits db key))) f.sends f.finds f.asked)
 
-again_tells : (c : Config) (era : Era) (rules : Rules) (reg : Lines) (who : Callers) (calls n db : ℕ) (key : List ℕ) (pend : List PendingCall) (w : World) (t : Turn) → Starts c era rules reg → is_in n era.members ≡ true → NodeStays c era rules who calls n t.node → Thaws_at c era rules n db key pend w t →
+again_tells : (c : Config) (era : Era) (rules : Rules) (reg : Lines) (who : Callers) (calls n db : ℕ) (key : List ℕ) (pend : List PendingCall) (w : World) (t : Turn) → Starts c era rules reg → is_among n era.members ≡ true → NodeStays c era rules who calls n t.node → Thaws_at c era rules n db key pend w t →
     Tells c era reg n pend t → Tells c era reg n pend (at_record c n db key (want_again rules) t)
 unfolding at_record acted
 again_tells c era rules reg who calls n db key pend w t is inside h k before =
@@ -85,7 +84,7 @@ wants_tell c era rules reg who calls n (x ∷ xs) pend ws t0 t is from inside al
 -- ---- the whole Thaw
 
 -- its note is of the line
-note_fits : (c : Config) (era : Era) (rules : Rules) (reg : Lines) (n : ℕ) → Starts c era rules reg → is_in n era.members ≡ true → AllInstalled era.number reg → Is_fit c era.number reg (Noted n (note.Thawed era.number))
+note_fits : (c : Config) (era : Era) (rules : Rules) (reg : Lines) (n : ℕ) → Starts c era rules reg → is_among n era.members ≡ true → AllInstalled era.number reg → Is_fit c era.number reg (Noted n (note.Thawed era.number))
 unfolding Is_fit IsOfLine speaks_of_records is_note_of_records
 note_fits c era rules reg n is inside installed = inl (record { own = (refl, is.line n inside, installed); speaks = refl })
 

@@ -6,9 +6,9 @@ use Rattle.ct_frame.specs.declared.frame.TableRow.{TableRow}
 use Rattle.ct_frame.specs.declared.header.RecCopy.{RecCopy}
 use Rattle.ct_rules.specs.declared.state.Entry.{Entry}
 use Rattle.ct_rules.specs.declared.state.Wish.{Wish}
+use Rattle.ct_rules_node.specs.Node.{is_among}
 use Rattle.ct_register.specs.Register.{Register, reading, newborn}
 use Rattle.ct_register.specs.Marks.{Marks, AreMarks, IsCopyAt, IsEntryAt, MarksStep}
-use Rattle.ct_register.specs.Words.{is_in}
 use Rattle.ct_law_world.specs.Labels.{Label, Vacuumed, AcceptsAll}
 use Rattle.ct_law_world.specs.World.{Scene, World, Event, happens, HasCopy, Stands, NothingIsLost, Parent, opening, bare, AreDrawn, born, SeesAtMost}
 
@@ -58,6 +58,6 @@ BeginsWithMarks = (s : Scene) (joined : ℕ → Bool) (number : ℕ → ℕ) (wi
 -- and of every schedule of a generation that begins with a row
 abbrev pub IsBornWithMarks : Type 0
 IsBornWithMarks = (s : Scene) (row : TableRow) (master : ℕ) (versions : List (List ℕ)) (seen : ℕ → ℕ) (joined : ℕ → Bool) (number : ℕ → ℕ) (wish : ℕ → Option Wish) (events : List Event) →
-    list_all is_node s.members ≡ true → is_in s.lmaster s.members ≡ true → row.master ≡ Some master → is_in master s.members ≡ true → row.value ≡ reading versions →
+    list_all is_node s.members ≡ true → is_among s.lmaster s.members ≡ true → row.master ≡ Some master → is_among master s.members ≡ true → row.value ≡ reading versions →
     SeesAtMost s seen (length versions) → AreDrawn number wish →
     RunsFrom s (born s row joined number wish) (record (newborn versions) { seen = seen }) events

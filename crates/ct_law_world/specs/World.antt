@@ -21,8 +21,8 @@ use Rattle.ct_rules.specs.declared.state.RecState.{RecState}
 use Rattle.ct_rules.specs.declared.state.Wish.{Wish}
 use Rattle.ct_frame.specs.declared.frame.TableRow.{TableRow}
 use Rattle.ct_rules_node.specs.Rounds.{want_again, installed_state}
+use Rattle.ct_rules_node.specs.Node.{is_among}
 use Rattle.ct_register.specs.Register.{Register, reading, newborn}
-use Rattle.ct_register.specs.Words.{is_in}
 use Rattle.ct_law_world.specs.Labels.{Label, Told, Unasked, Vacuumed, Ended, Left, Joined, AcceptsAll}
 
 -- a record in a generation: its database and key, its location master, whether its database hands out copies for reading,
@@ -139,7 +139,7 @@ view_of o = record { state = o.state; next = o.next; floor = o.floor }
 
 -- a node comes to this view, tells this and sends this; who is no member, or has not joined, does nothing
 abbrev pub steps : Scene → World → ℕ → Bool → List Label → View → List Mail → Stepped
-steps s w n may labels v more = if is_in n s.members && w.joined n && may then record {
+steps s w n may labels v more = if is_among n s.members && w.joined n && may then record {
   world = record { nodes = λ k. if nat_eq k n then v else w.nodes k; joined = w.joined; mail = w.mail ++ more };
   labels = labels;
 } else stays w
@@ -150,7 +150,7 @@ put s w n asks o = steps s w n (not o.spent) (told n asks o.acts) (view_of o) (s
 
 -- a member that has not joined joins
 abbrev pub joins : Scene → World → ℕ → Stepped
-joins s w n = if is_in n s.members && not (w.joined n) then record {
+joins s w n = if is_among n s.members && not (w.joined n) then record {
   world = record { nodes = w.nodes; joined = λ k. if nat_eq k n then true else w.joined k; mail = w.mail };
   labels = Joined n ∷ [];
 } else stays w
@@ -250,14 +250,14 @@ pub record AreDrawn (number : ℕ → ℕ) (wish : ℕ → Option Wish) : Type 0
 -- what a node has of the record in a generation that began with this row for it: each member what the installation makes of
 -- the call that waits, and nobody else anything but this call
 unfoldable pub born_state : Scene → TableRow → ℕ → Option Wish → RecState
-born_state s row n wish = if is_in n s.members then installed_state n s.lmaster row (record nothing_kept { wish = wish }) else record nothing_kept { wish = wish }
+born_state s row n wish = if is_among n s.members then installed_state n s.lmaster row (record nothing_kept { wish = wish }) else record nothing_kept { wish = wish }
 
 abbrev pub born : Scene → TableRow → (ℕ → Bool) → (ℕ → ℕ) → (ℕ → Option Wish) → World
 born s row joined number wish = record { nodes = λ n. record { state = born_state s row n (wish n); next = number n; floor = 0 }; joined = joined; mail = [] }
 
 -- no node has seen more than what a member begins with
 abbrev pub SeesAtMost : Scene → (ℕ → ℕ) → ℕ → Type 0
-SeesAtMost s seen count = (n : ℕ) → seen n ≤ (if is_in n s.members then count else 0)
+SeesAtMost s seen count = (n : ℕ) → seen n ≤ (if is_among n s.members then count else 0)
 
 -- every schedule from the opening is one register's
 abbrev pub OpensAsOneRegister : Type 0
@@ -273,6 +273,6 @@ BeginsAsOneRegister = (s : Scene) (joined : ℕ → Bool) (number : ℕ → ℕ)
 -- seen of them
 abbrev pub IsBornAsOneRegister : Type 0
 IsBornAsOneRegister = (s : Scene) (row : TableRow) (master : ℕ) (versions : List (List ℕ)) (seen : ℕ → ℕ) (joined : ℕ → Bool) (number : ℕ → ℕ) (wish : ℕ → Option Wish) (events : List Event) →
-    list_all is_node s.members ≡ true → is_in s.lmaster s.members ≡ true → row.master ≡ Some master → is_in master s.members ≡ true → row.value ≡ reading versions →
+    list_all is_node s.members ≡ true → is_among s.lmaster s.members ≡ true → row.master ≡ Some master → is_among master s.members ≡ true → row.value ≡ reading versions →
     SeesAtMost s seen (length versions) → AreDrawn number wish →
     LeadsTo s (born s row joined number wish) (record (newborn versions) { seen = seen }) events

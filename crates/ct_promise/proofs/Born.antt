@@ -14,14 +14,13 @@ use Rattle.ct_rules.specs.Form
 use Rattle.ct_rules.specs.declared.state.RecState.{RecState}
 use Rattle.ct_rules_node.specs.Admission.{record_in}
 use Rattle.ct_rules_node.specs.Node as node
-use Rattle.ct_rules_node.specs.Node.{Node}
+use Rattle.ct_rules_node.specs.Node.{Node, is_among}
 use Rattle.ct_rules_node.specs.Rounds as rounds
 use Rattle.ct_rules_node.specs.Numbered
 use Rattle.ct_cluster.specs.Cluster as cluster
 use Rattle.ct_cluster.specs.Cluster.{Sent}
 use Rattle.ct_register.specs.Register
 use Rattle.ct_register.specs.Words
-use Rattle.ct_register.specs.Words.{is_in}
 use Rattle.ct_register.specs.Legal
 use Rattle.ct_register.proofs.Places.{of_two}
 use Rattle.ct_register.proofs.Small.{none_not_some}
@@ -152,14 +151,14 @@ unfolding IsStrictlySortedBy
 is_config = (record { name = 116 ∷ []; kind = Volatile } ∷ [], [], (refl, refl, refl, IsPermutation-refl [], tt))
 
 -- a number that is none of both is 2 or more
-far_off : (P : ℕ → Type 0) → ((n : ℕ) → P (suc (suc n))) → (n : ℕ) → is_in n both ≡ false → P n
-unfolding Words.is_in
+far_off : (P : ℕ → Type 0) → ((n : ℕ) → P (suc (suc n))) → (n : ℕ) → is_among n both ≡ false → P n
+unfolding is_among
 far_off P far zero e = absurd (cc)
 far_off P far (suc zero) e = absurd (cc)
 far_off P far (suc (suc n)) e = far n
 
 of_test : (b : Bool) → Born.IsMastered both (if b then Some the_row else None)
-unfolding Born.IsMastered rounds.row_master rounds.or_nobody Words.is_in
+unfolding Born.IsMastered rounds.row_master rounds.or_nobody is_among
 of_test true = refl
 of_test false = tt
 
@@ -224,7 +223,7 @@ births (suc zero) key = birth_of (bytes_eq key a)
 births (suc (suc db)) key = refl
 
 pub is_born : (sent : List Sent) → list_all is_silent sent ≡ true → IsBornWith config 2 both begun_with (Nodes.with_sent sent)
-unfolding cluster.is_up cluster.is_true cluster.node_at cluster.or_absent cluster.absent node.db_at node.or_untouched node.untouched Words.is_in cluster.pending cluster.pending_from cluster.pending_in cluster.wished_in cluster.wished cluster.committing Numbered.by_number Numbered.ranked node.opening rounds.installed_node rounds.installed_dbs rounds.installed_db rounds.install_rows rounds.install_row rounds.changed rounds.bared rounds.installed_state node.or_nothing
+unfolding cluster.is_up cluster.is_true cluster.node_at cluster.or_absent cluster.absent node.db_at node.or_untouched node.untouched is_among cluster.pending cluster.pending_from cluster.pending_in cluster.wished_in cluster.wished cluster.committing Numbered.by_number Numbered.ranked node.opening rounds.installed_node rounds.installed_dbs rounds.installed_db rounds.install_rows rounds.install_row rounds.changed rounds.bared rounds.installed_state node.or_nothing
 is_born sent all = record {
   real = some_drawn 1;
   size = refl;
@@ -243,7 +242,7 @@ is_born sent all = record {
 }
 
 pub have_registers : (sent : List Sent) → BornRegisters config (Nodes.with_sent sent) 2 both begun_with registers
-unfolding Words.at Words.is_in Small.begun_with Small.versions_of
+unfolding Words.at is_among Small.begun_with Small.versions_of
 have_registers sent = record {
   born = refl;
   named = refl;

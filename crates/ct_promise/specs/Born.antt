@@ -11,12 +11,11 @@ use Rattle.ct_rules.specs.Form.{is_wanting}
 use Rattle.ct_rules.specs.declared.state.RecState.{RecState}
 use Rattle.ct_rules.specs.declared.state.Wish.{Wish}
 use Rattle.ct_rules_node.specs.Admission.{record_in}
-use Rattle.ct_rules_node.specs.Node.{Node, Lead, Nothing, Freezes, Pulls, Installs, Completed, is_present_in, master_of, db_at, state_at}
+use Rattle.ct_rules_node.specs.Node.{Node, Lead, Nothing, Freezes, Pulls, Installs, Completed, is_present_in, master_of, db_at, state_at, is_among}
 use Rattle.ct_rules_node.specs.Rounds.{row_master, installed_state}
 use Rattle.ct_cluster.specs.Cluster.{Cluster, Sent, is_up, node_at, sent_at, pending}
 use Rattle.ct_cluster.specs.Traces.{ran}
 use Rattle.ct_cluster.specs.declared.step.Step.{Step}
-use Rattle.ct_register.specs.Words.{is_in}
 use Rattle.ct_register.specs.Register.{reading}
 use Rattle.ct_register.specs.Lines.{Lines}
 use Rattle.ct_register.specs.Legal.{kind_at, is_of_records, db_of, key_of}
@@ -49,7 +48,7 @@ born_state me l (Some row) wish = installed_state me l row (record nothing_kept 
 -- the row, if there is one, has a member as its data master
 unfoldable pub IsMastered : List ℕ → Option TableRow → Type 0
 IsMastered members None = Unit {0}
-IsMastered members (Some row) = is_in (row_master row) members ≡ true
+IsMastered members (Some row) = is_among (row_master row) members ≡ true
 
 -- the RSNs that an installation makes of a row, where there is one, are below 2^62
 unfoldable pub IsLow : Option TableRow → Type 0
@@ -99,15 +98,15 @@ pub record IsBornWith (config : Config) (g : ℕ) (members : List ℕ) (row : Ro
   pub size : length w.nodes ≡ config.nodes
   -- members ascend and are nodes of the configuration; they run
   pub ascend : ascends nat_lt members ≡ true
-  pub there : (n : ℕ) → is_in n members ≡ true → nat_lt n config.nodes ≡ true
-  pub up : (n : ℕ) → is_in n members ≡ true → is_up n w ≡ true
-  pub born : (n : ℕ) → is_in n members ≡ true → IsBornNode config g members row n (node_at n w)
+  pub there : (n : ℕ) → is_among n members ≡ true → nat_lt n config.nodes ≡ true
+  pub up : (n : ℕ) → is_among n members ≡ true → is_up n w ≡ true
+  pub born : (n : ℕ) → is_among n members ≡ true → IsBornNode config g members row n (node_at n w)
   -- a data master is one of them
   pub mastered : (db : ℕ) (key : List ℕ) → IsMastered members (row db key)
   pub low : (db : ℕ) (key : List ℕ) → IsLow (row db key)
   -- every other node is down, and has left as a stop lets it: it keeps nothing of any record, and none of its commits waits
-  pub down : (n : ℕ) → is_in n members ≡ false → is_up n w ≡ false
-  pub left : (n : ℕ) → is_in n members ≡ false → HasLeft (node_at n w)
+  pub down : (n : ℕ) → is_among n members ≡ false → is_up n w ≡ false
+  pub left : (n : ℕ) → is_among n members ≡ false → HasLeft (node_at n w)
   -- calls that wait have different numbers, none of them above the last one that was given
   pub numbered : ascends nat_lt (map (λ x. x.call) (pending w)) ≡ true
   pub given : list_all (λ x. not (nat_lt w.calls x.call)) (pending w) ≡ true
@@ -126,17 +125,17 @@ IsBirthOf (Some row) vs = reading vs ≡ row.value
 pub record BornRegisters (config : Config) (w : Cluster) (g : ℕ) (members : List ℕ) (row : Rows) (r : Lines) : Type 0 where
   pub born : r.born g ≡ true
   pub named : r.members g ≡ members
-  pub inside : (n : ℕ) → is_in n members ≡ true → r.line n ≡ g
-  pub outside : (n : ℕ) → is_in n members ≡ false → r.line n ≡ 0
-  pub installed : (n : ℕ) → is_in n members ≡ true → r.installed g n ≡ true
+  pub inside : (n : ℕ) → is_among n members ≡ true → r.line n ≡ g
+  pub outside : (n : ℕ) → is_among n members ≡ false → r.line n ≡ 0
+  pub installed : (n : ℕ) → is_among n members ≡ true → r.installed g n ≡ true
   -- the recovery lock is where the cluster has it
   pub holder : r.holder ≡ w.holder
   pub births : (db : ℕ) (key : List ℕ) → is_of_records (kind_at config db) ≡ true → IsBirthOf (row db key) (r.records g db key).birth
   pub none : (db : ℕ) (key : List ℕ) → is_of_records (kind_at config db) ≡ false → (r.records g db key).birth ≡ []
   pub newborn : (db : ℕ) (key : List ℕ) → (r.records g db key).versions ≡ (r.records g db key).birth
   pub unowned : (db : ℕ) (key : List ℕ) → (r.records g db key).owner ≡ None
-  pub seen : (n db : ℕ) (key : List ℕ) → is_in n members ≡ true → (r.records g db key).seen n ≡ length (r.records g db key).birth
-  pub unseen : (n db : ℕ) (key : List ℕ) → is_in n members ≡ false → (r.records g db key).seen n ≡ 0
+  pub seen : (n db : ℕ) (key : List ℕ) → is_among n members ≡ true → (r.records g db key).seen n ≡ length (r.records g db key).birth
+  pub unseen : (n db : ℕ) (key : List ℕ) → is_among n members ≡ false → (r.records g db key).seen n ≡ 0
 
 -- from every such cluster and registers on, records are kept through every list of steps of one generation
 abbrev pub PromiseFromRows : Type 0

@@ -9,7 +9,8 @@ use Rattle.ct_cluster.specs.Cluster.{Cluster, opening}
 use Rattle.ct_cluster.specs.Traces.{ran}
 use Rattle.ct_cluster.specs.declared.step.Step.{Step}
 use Rattle.ct_cluster.specs.declared.step.Step.TheVariants as step
-use Rattle.ct_register.specs.Words.{at, is_in}
+use Rattle.ct_rules_node.specs.Node.{is_among}
+use Rattle.ct_register.specs.Words.{at}
 use Rattle.ct_register.specs.Register
 use Rattle.ct_register.specs.Register.{Register}
 use Rattle.ct_register.specs.Lines
@@ -72,7 +73,7 @@ versions_of (Some row) = row.value ∷ []
 
 -- a record with these versions, which both nodes have seen
 abbrev pub seen_by_both : List (List ℕ) → Register
-seen_by_both vs = record (Register.newborn vs) { seen = λ n. if is_in n both then length vs else 0 }
+seen_by_both vs = record (Register.newborn vs) { seen = λ n. if is_among n both then length vs else 0 }
 
 abbrev pub registers : Lines
 registers = record (Lines.opening config) {
@@ -81,9 +82,9 @@ registers = record (Lines.opening config) {
   last = 2;
   members = at 2 both (Lines.opening config).members;
   holder = Some 0;
-  line = λ n. if is_in n both then 2 else 0;
-  pline = λ n. if is_in n both then 2 else 0;
-  installed = at 2 (λ n. is_in n both) (Lines.opening config).installed;
+  line = λ n. if is_among n both then 2 else 0;
+  pline = λ n. if is_among n both then 2 else 0;
+  installed = at 2 (λ n. is_among n both) (Lines.opening config).installed;
 }
 
 -- so there are clusters and registers of which the promise from rows speaks

@@ -9,13 +9,8 @@ use Rattle.ct_msg.specs.declared.config.DbKind.{DbKind}
 use Rattle.ct_msg.specs.declared.config.DbKind.TheVariants.{Volatile, ReadOnly, Persistent}
 use Rattle.ct_frame.specs.declared.frame.Assigned.{Assigned}
 use Rattle.ct_rules_node.specs.Node as node
-use Rattle.ct_register.specs.Words.{is_in}
 use Rattle.ct_register.specs.Legal
 use Rattle.ct_register.specs.Placing
-
-pub same_members : (n : ℕ) (ns : List ℕ) → is_in n ns ≡ node.is_among n ns
-unfolding is_in node.is_among
-same_members n ns = refl
 
 kind_of_decl : (d : Option DbDecl) → option_map (λ x. x.kind) d ≡ node.kind_in d
 unfolding node.kind_in

@@ -15,11 +15,12 @@ use Rattle.ct_frame.specs.declared.event.Note.{Note}
 use Rattle.ct_frame.specs.declared.event.Note.TheVariants as note
 use Rattle.ct_call.specs.Rules.{Rules}
 use Rattle.ct_cluster.specs.Labels.{Label, Answered, Begun, Noted, Ticket, Yielded, Stopped, Started, Pushed, Takeover, Taken}
+use Rattle.ct_rules_node.specs.Node.{is_among}
 use Rattle.ct_register.specs.Legal
 use Rattle.ct_register.specs.Legal.{AtRecord, AtDatabase, AtPlacing}
 use Rattle.ct_register.specs.Placing
 use Rattle.ct_store.specs.Map.{Pairs}
-use Rattle.ct_register.specs.Words.{at, at_key, is_in}
+use Rattle.ct_register.specs.Words.{at, at_key}
 use Rattle.ct_register.specs.Register
 use Rattle.ct_register.specs.Register.{Register}
 use Rattle.ct_register.specs.Database
@@ -191,7 +192,7 @@ begun_counted n writes owner d e p f = subst IsCounted (sym p.2) (let more : len
 
 all_seen_counted : (all : ℕ) (members missing : List ℕ) (seen : ℕ → ℕ) → ((m : ℕ) → seen m ≤ all) → (m : ℕ) → Database.all_seen all members missing seen m ≤ all
 unfolding Database.all_seen
-all_seen_counted all members missing seen within m = cond_both (is_in m members && not (is_in m missing)) all (seen m) (λ c. c ≤ all) (λ _. same all) (λ _. within m)
+all_seen_counted all members missing seen within m = cond_both (is_among m members && not (is_among m missing)) all (seen m) (λ c. c ≤ all) (λ _. same all) (λ _. within m)
 
 below_one_more : (n : ℕ) → n ≤ n + 1
 below_one_more n = omega arith

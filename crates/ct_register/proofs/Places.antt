@@ -5,8 +5,9 @@ use Rattle.std.proofs.lemmas.Bool.{cases_eq, cond_both, eq-eqb, ne_eqb}
 use Rattle.std.proofs.lemmas.Slice.Eq.{bytes_eq-Decides}
 use Rattle.ct_bytes.specs.declared.address.Address.{Address}
 use Rattle.ct_msg.specs.Config.{same_address}
+use Rattle.ct_rules_node.specs.Node.{is_among}
 use Rattle.ct_register.specs.Register.{Register}
-use Rattle.ct_register.specs.Words.{at, at_key, at_address, is_in}
+use Rattle.ct_register.specs.Words.{at, at_key, at_address}
 
 pub at_same : {X : Type 0} (n m : ℕ) (x : X) (f : ℕ → X) → m ≡ n → at n x f m ≡ x
 unfolding at
@@ -38,13 +39,13 @@ unfolding at_address
 at_address_all P a x f new old b = cond_both (same_address b a) x (f b) P (λ _. new) (λ _. old b)
 
 -- what holds of 0 and 1 holds of both
-pub of_two : (P : ℕ → Type 0) → P 0 → P 1 → (m : ℕ) → is_in m (0 ∷ 1 ∷ []) ≡ true → P m
-unfolding is_in
+pub of_two : (P : ℕ → Type 0) → P 0 → P 1 → (m : ℕ) → is_among m (0 ∷ 1 ∷ []) ≡ true → P m
+unfolding is_among
 of_two P zeroth first m among =
     ⊎_elim (λ (is : m ≡ 0). subst P (sym is) zeroth) (λ (no : m ≢ 0). ⊎_elim (λ (is : m ≡ 1). subst P (sym is) first) (λ (na : m ≢ 1). absurd (let a = ne_eqb m 0 no in let b = ne_eqb m 1 na in grind arith)) (cases_eq m 1)) (cases_eq m 0)
 
-pub of_one : (P : ℕ → Type 0) (n : ℕ) → P n → (m : ℕ) → is_in m (n ∷ []) ≡ true → P m
-unfolding is_in
+pub of_one : (P : ℕ → Type 0) (n : ℕ) → P n → (m : ℕ) → is_among m (n ∷ []) ≡ true → P m
+unfolding is_among
 of_one P n this m among =
     ⊎_elim (λ (is : m ≡ n). subst P (sym is) this) (λ (no : m ≢ n). absurd (let a = ne_eqb m n no in grind arith)) (cases_eq m n)
 

@@ -15,6 +15,7 @@ use Rattle.ct_frame.specs.declared.event.Note.TheVariants as note
 use Rattle.ct_frame.specs.declared.frame.Assigned.{Assigned}
 use Rattle.ct_call.specs.Rules.{Rules}
 use Rattle.ct_cluster.specs.Labels.{Label, Answered, Begun, Noted, Ticket, Yielded, Stopped, Started, Pushed, Takeover, Taken}
+use Rattle.ct_rules_node.specs.Node.{is_among}
 use Rattle.ct_register.specs.Words
 use Rattle.ct_register.specs.Register
 use Rattle.ct_register.specs.Register.{Register}
@@ -54,7 +55,7 @@ or_none (Some given) = given
 abbrev pub takeover_after : List ℕ → List ℕ → Placing → Placing
 takeover_after members able x = record x {
   begun = x.begun + 1;
-  runs = Words.at (x.begun + 1) (Some (record { able = filter (λ n. Words.is_in n members) able; given = or_none (Placing.given_placement x.pushed x.last) })) x.runs;
+  runs = Words.at (x.begun + 1) (Some (record { able = filter (λ n. is_among n members) able; given = or_none (Placing.given_placement x.pushed x.last) })) x.runs;
 }
 
 abbrev pub take_after : ℕ → List Assigned → Placing → Placing
@@ -131,7 +132,7 @@ takeover_one : (members able : List ℕ) (x y : Placing) → Placing.AcceptsTake
 takeover_one members able x y p = p.2 ∙
     ap (λ (given : List Assigned). record x {
       begun = x.begun + 1;
-      runs = Words.at (x.begun + 1) (Some (record { able = filter (λ n. Words.is_in n members) able; given = given })) x.runs;
+      runs = Words.at (x.begun + 1) (Some (record { able = filter (λ n. is_among n members) able; given = given })) x.runs;
     }) (sym (ap or_none p.1))
 
 not_persistent : (config : Config) (db : ℕ) → is_persistent (Legal.kind_at config db) ≡ false → Legal.kind_at config db ≡ Some Persistent → ⊥

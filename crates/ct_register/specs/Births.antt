@@ -1,6 +1,7 @@
 -- The birth of a line: what it takes over from its parents.
 use Rattle.std.specs.Prelude.{◌≡◌, ◌≢◌, ℕ, ◌+◌, ◌<◌, ◌≤◌, nat_eq, true, false, if◌then◌else◌, List, [], ◌∷◌, length, take, Some}
-use Rattle.ct_register.specs.Words.{at, is_in}
+use Rattle.ct_rules_node.specs.Node.{is_among}
+use Rattle.ct_register.specs.Words.{at}
 use Rattle.ct_register.specs.Register
 use Rattle.ct_register.specs.Register.{Register, reading}
 use Rattle.ct_register.specs.Database
@@ -28,21 +29,21 @@ pub record Birth (r : Lines) (g h : ℕ) (ms : List ℕ) (p : ℕ) (counts : ℕ
   pub named : r.members g ≡ ms
   pub unborn : r.born g ≡ false
   pub older : p < g
-  pub greatest : (m : ℕ) → is_in m ms ≡ true → r.line m < g → r.line m ≤ p
-  pub had : (m : ℕ) × (is_in m ms ≡ true) × (r.had g m p ≡ true)
+  pub greatest : (m : ℕ) → is_among m ms ≡ true → r.line m < g → r.line m ≤ p
+  pub had : (m : ℕ) × (is_among m ms ≡ true) × (r.had g m p ≡ true)
   pub within : (db : ℕ) (key : List ℕ) → p ≢ 0 → counts db key ≤ length (r.records p db key).versions
-  pub seen : (db m : ℕ) (key : List ℕ) → p ≢ 0 → is_in m ms ≡ true → r.line m ≡ p → (r.records p db key).seen m ≤ counts db key
+  pub seen : (db m : ℕ) (key : List ℕ) → p ≢ 0 → is_among m ms ≡ true → r.line m ≡ p → (r.records p db key).seen m ≤ counts db key
 
 -- And q may be the parent of its persistent databases. That is older, at least as new as the persistent line of each
 -- member whose persistent line is older than g, and was that of some member since the ticket. Of each database some first
 -- commits are taken over: all that are acknowledged, and all that each member has seen whose persistent line the parent is.
 pub record PersistentBirth (r : Lines) (g : ℕ) (ms : List ℕ) (q : ℕ) (counts : ℕ → ℕ) : Type 0 where
   pub older : q < g
-  pub greatest : (m : ℕ) → is_in m ms ≡ true → r.pline m < g → r.pline m ≤ q
-  pub had : (m : ℕ) × (is_in m ms ≡ true) × (r.phad g m q ≡ true)
+  pub greatest : (m : ℕ) → is_among m ms ≡ true → r.pline m < g → r.pline m ≤ q
+  pub had : (m : ℕ) × (is_among m ms ≡ true) × (r.phad g m q ≡ true)
   pub within : (db : ℕ) → counts db ≤ length (r.databases q db).commits
   pub acked : (db : ℕ) → (r.databases q db).acked ≤ counts db
-  pub seen : (db m : ℕ) → is_in m ms ≡ true → r.pline m ≡ q → (r.databases q db).seen m ≤ counts db
+  pub seen : (db m : ℕ) → is_among m ms ≡ true → r.pline m ≡ q → (r.databases q db).seen m ≤ counts db
 
 -- a database begins with what it takes over: the first j commits
 abbrev pub base_of : ℕ → Database → Database

@@ -5,7 +5,8 @@ use Rattle.ct_msg.specs.declared.client.Answer.TheVariants as answer
 use Rattle.ct_msg.specs.declared.client.Pair.{Pair}
 use Rattle.ct_store.specs.Map.{Pairs, look}
 use Rattle.ct_persist.specs.Updates.{contents}
-use Rattle.ct_register.specs.Words.{at, is_in}
+use Rattle.ct_rules_node.specs.Node.{is_among}
+use Rattle.ct_register.specs.Words.{at}
 
 -- one persistent database in one line
 pub record Database : Type 0 where
@@ -53,7 +54,7 @@ pub record IsOpen (n : ℕ) (writes : List Pair) (number : ℕ) (d : Database) :
 
 -- these nodes, but those that are missing, have seen all commits
 unfoldable pub all_seen : ℕ → List ℕ → List ℕ → (ℕ → ℕ) → ℕ → ℕ
-all_seen all members missing seen m = if is_in m members && not (is_in m missing) then all else seen m
+all_seen all members missing seen m = if is_among m members && not (is_among m missing) then all else seen m
 
 -- a commit begins at a node that owns the database's lock, once all before it are acknowledged: the node has seen it
 abbrev pub AcceptsBegin : ℕ → List Pair → Option ℕ → Database → Database → Type 0

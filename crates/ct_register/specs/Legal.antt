@@ -15,7 +15,7 @@ use Rattle.ct_frame.specs.declared.event.Note.{Note}
 use Rattle.ct_frame.specs.declared.event.Note.TheVariants as note
 use Rattle.ct_call.specs.Rules.{Rules}
 use Rattle.ct_cluster.specs.Labels.{Label, Answered, Begun, Noted, Ticket, Yielded, Stopped, Started, Pushed, Takeover, Taken}
-use Rattle.ct_register.specs.Words.{is_in}
+use Rattle.ct_rules_node.specs.Node.{is_among}
 use Rattle.ct_register.specs.Register
 use Rattle.ct_register.specs.Register.{Register, OwnedByNoOther, AcceptsEnd, AcceptsVacuum}
 use Rattle.ct_register.specs.Database
@@ -112,12 +112,12 @@ AcceptsRound h g members p q r s =
 -- a member installs a line that was born, newer than all that it had, and owns nothing
 abbrev pub AcceptsInstalled : ℕ → ℕ → Lines → Lines → Type 0
 AcceptsInstalled g n r s =
-    (r.born g ≡ true) × (is_in n (r.members g) ≡ true) × (r.pline n < g) ×
+    (r.born g ≡ true) × (is_among n (r.members g) ≡ true) × (r.pline n < g) ×
     ((l db : ℕ) (key : List ℕ) → (r.records l db key).owner ≢ Some n) × (s ≡ joined g n r)
 
 -- a node serves in its line, which every member has installed
 abbrev pub AcceptsThawed : ℕ → ℕ → Lines → Lines → Type 0
-AcceptsThawed g n r s = (r.line n ≢ 0) × (r.line n ≡ g) × ((m : ℕ) → is_in m (r.members g) ≡ true → r.installed g m ≡ true) × (s ≡ r)
+AcceptsThawed g n r s = (r.line n ≢ 0) × (r.line n ≡ g) × ((m : ℕ) → is_among m (r.members g) ≡ true → r.installed g m ≡ true) × (s ≡ r)
 
 -- ---- addresses
 

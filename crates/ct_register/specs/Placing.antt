@@ -5,7 +5,8 @@ use Rattle.ct_bytes.specs.declared.address.Address.{Address}
 use Rattle.ct_msg.specs.Config.{same_address}
 use Rattle.ct_frame.specs.declared.frame.Assigned.{Assigned}
 use Rattle.ct_lcp2.specs.Placing.{placed}
-use Rattle.ct_register.specs.Words.{at, is_in}
+use Rattle.ct_rules_node.specs.Node.{is_among}
+use Rattle.ct_register.specs.Words.{at}
 
 -- a takeover run: the members that are able, and the placement that it begins with
 pub record Run : Type 0 where
@@ -63,7 +64,7 @@ AcceptsTakeover members able p q =
     (given : List Assigned) × (given_placement p.pushed p.last ≡ Some given) ×
     (q ≡ record p {
       begun = p.begun + 1;
-      runs = at (p.begun + 1) (Some (record { able = filter (λ n. is_in n members) able; given = given })) p.runs;
+      runs = at (p.begun + 1) (Some (record { able = filter (λ n. is_among n members) able; given = given })) p.runs;
     })
 
 -- a take of a run is sent: the run began, and the take assigns what the run does

@@ -1,6 +1,5 @@
--- Small words of the other files: functions changed at one place, and tests of lists.
-use Rattle.std.specs.Prelude.{ℕ, nat_eq, Bool, bytes_eq, if◌then◌else◌, List}
-use Rattle.std.specs.List.{list_any}
+-- Small words of the other files: functions changed at one place.
+use Rattle.std.specs.Prelude.{ℕ, nat_eq, bytes_eq, if◌then◌else◌, List}
 use Rattle.ct_bytes.specs.declared.address.Address.{Address}
 use Rattle.ct_msg.specs.Config.{same_address}
 
@@ -15,7 +14,3 @@ at_key key x f k = if bytes_eq k key then x else f k
 -- the function, changed at one address
 unfoldable pub at_address : {X : Type 0} → Address → X → (Address → X) → Address → X
 at_address a x f b = if same_address b a then x else f b
-
--- is the number one of these?
-unfoldable pub is_in : ℕ → List ℕ → Bool
-is_in n ns = list_any (nat_eq n) ns

@@ -5,6 +5,7 @@ use Rattle.std.proofs.lemmas.Bool.{cond_both}
 use Rattle.ct_msg.specs.declared.client.Answer.TheVariants as answer
 use Rattle.ct_persist.specs.Updates
 use Rattle.ct_persist.specs.Persisted
+use Rattle.ct_rules_node.specs.Node.{is_among}
 use Rattle.ct_register.specs.Words
 use Rattle.ct_register.specs.Register
 use Rattle.ct_register.specs.Register.{Register}
@@ -31,7 +32,7 @@ Within d = (d.acked ≤ length d.commits) × ((m : ℕ) → d.seen m ≤ length 
 
 within_all : (all : ℕ) (members missing : List ℕ) (seen : ℕ → ℕ) → ((m : ℕ) → seen m ≤ all) → (m : ℕ) → Database.all_seen all members missing seen m ≤ all
 unfolding Database.all_seen
-within_all all members missing seen within m = cond_both (Words.is_in m members && not (Words.is_in m missing)) all (seen m) (λ c. c ≤ all) (λ _. same all) (λ _. within m)
+within_all all members missing seen within m = cond_both (is_among m members && not (is_among m missing)) all (seen m) (λ c. c ≤ all) (λ _. same all) (λ _. within m)
 
 -- ---- a commit that is unsure
 
@@ -74,11 +75,11 @@ all_commits : Lines → ℕ → ℕ
 all_commits r db = length (r.databases 1 db).commits
 
 kept_births : Births.Birth kept_front 2 1 both 1 (λ _ _. 0)
-unfolding kept_front locked_line locked Words.at Words.at_key Words.is_in
+unfolding kept_front locked_line locked Words.at Words.at_key is_among
 kept_births = births kept_front 1 both (λ _ _. 0) 0 refl refl refl refl refl (λ db key. nought _) (λ db k key _. ended_seen db key k)
 
 kept_persistent : Births.PersistentBirth kept_front 2 both 1 (all_commits kept_front)
-unfolding kept_front all_commits unsure begun_line Words.at Words.is_in
+unfolding kept_front all_commits unsure begun_line Words.at is_among
 kept_persistent = persistent_births kept_front both (all_commits kept_front) 0 refl refl (λ db. same _) (λ db. (unsure_within db).0) (λ db k is. (unsure_within db).1 k)
 
 -- who had locked it does so no more
@@ -102,7 +103,7 @@ unfolding kept_born kept_front ended_records locked_line locked Words.at Words.a
 kept_unowned = unowned_at 2 (λ db key. kept_born.records 2 db key) ended_records (λ db key. refl) ended_records_unowned
 
 pub unsure_may_be_kept : UnsureMayBeKept
-unfolding kept_born kept_front all_commits Words.at Words.at_key Words.is_in Database.newest Database.all_seen Lines.also_had Register.reading Legal.kind_at Legal.name_of Legal.name_at Legal.is_of_records Updates.contents Persisted.written
+unfolding kept_born kept_front all_commits Words.at Words.at_key is_among Database.newest Database.all_seen Lines.also_had Register.reading Legal.kind_at Legal.name_of Legal.name_at Legal.is_of_records Updates.contents Persisted.written
 unsure_may_be_kept =
     (_, (_, (one_not_zero, refl, _, (refl, refl, refl), refl), (_, (one_not_zero, refl, _, (refl, refl, refl), refl), (_, (one_not_zero, refl, _, (record { begun = refl; newest = refl; unacknowledged = below_next 0; numbered = refl }, (λ e. cc), refl), refl), (_, (one_not_zero, refl, _, (refl, refl), refl), (_, (refl, tt, refl), (kept_born, ((λ _ _. 0), all_commits kept_front, kept_births, kept_persistent, refl), (Lines.joined 2 1 kept_born, (refl, refl, below_next 1, unowned_by 1 kept_born.records kept_unowned, refl), refl))))))), ((refl, refl, refl, refl), refl, refl))
 
@@ -115,15 +116,15 @@ stopped_seen : Everywhere SeenNone (λ db key. Register.left_by 0 (Words.at 0 (W
 stopped_seen db key = at_all (λ (c : ℕ). c ≤ 0) 0 0 (Words.at 0 (Words.at_key (112 ∷ []) (Register.released locked) (locked_line 0)) locked_line db key).seen (nought 0) (ended_seen db key)
 
 lost_births : Births.Birth lost_front 2 1 (1 ∷ []) 1 (λ _ _. 0)
-unfolding lost_front locked_line locked Words.at Words.at_key Words.is_in
+unfolding lost_front locked_line locked Words.at Words.at_key is_among
 lost_births = births lost_front 1 (1 ∷ []) (λ _ _. 0) 1 refl refl refl refl refl (λ db key. nought _) (λ db k key _. stopped_seen db key k)
 
 lost_seen : (db : ℕ) → (Words.at 2 unsure begun_line db).seen 1 ≤ 0
-unfolding unsure begun_line Words.at Database.all_seen Words.is_in
+unfolding unsure begun_line Words.at Database.all_seen is_among
 lost_seen = at_all (λ (d : Database). d.seen 1 ≤ 0) 2 unsure begun_line (nought 0) (at_all (λ (d : Database). d.seen 1 ≤ 0) 2 (begun_after 0 one_write (Database.newborn 0 [])) (λ _. Database.newborn 0 []) (nought 0) (λ _. nought 0))
 
 lost_persistent : Births.PersistentBirth lost_front 2 (1 ∷ []) 1 (λ _. 0)
-unfolding lost_front unsure begun_line Words.at Words.is_in
+unfolding lost_front unsure begun_line Words.at is_among
 lost_persistent = persistent_births lost_front (1 ∷ []) (λ _. 0) 1 refl refl (λ db. nought _) (at_all (λ (d : Database). d.acked ≤ 0) 2 unsure begun_line (nought 0) (at_all (λ (d : Database). d.acked ≤ 0) 2 (begun_after 0 one_write (Database.newborn 0 [])) (λ _. Database.newborn 0 []) (nought 0) (λ _. nought 0)))
     (λ db k among. of_one (λ k. (lost_front.databases 1 db).seen k ≤ 0) 1 (lost_seen db) k among)
 
@@ -139,6 +140,6 @@ unfolding lost_born lost_front ended_records locked_line locked Words.at Words.a
 lost_unowned = unowned_at 2 (λ db key. lost_born.records 2 db key) _ (λ db key. refl) (unowned_at 1 _ ended_records stopped_unowned ended_records_unowned)
 
 pub unsure_may_be_lost : UnsureMayBeLost
-unfolding lost_born lost_front Words.at Words.at_key Words.is_in Database.newest Database.all_seen Lines.also_had Lines.holder_without Register.reading Legal.kind_at Legal.name_of Legal.name_at Legal.is_of_records Updates.contents Persisted.written
+unfolding lost_born lost_front Words.at Words.at_key is_among Database.newest Database.all_seen Lines.also_had Lines.holder_without Register.reading Legal.kind_at Legal.name_of Legal.name_at Legal.is_of_records Updates.contents Persisted.written
 unsure_may_be_lost =
     (_, (_, (one_not_zero, refl, _, (refl, refl, refl), refl), (_, (one_not_zero, refl, _, (refl, refl, refl), refl), (_, (one_not_zero, refl, _, (record { begun = refl; newest = refl; unacknowledged = below_next 0; numbered = refl }, (λ e. cc), refl), refl), (_, (one_not_zero, refl, _, (refl, refl), refl), (_, refl, (_, (refl, tt, refl), (lost_born, ((λ _ _. 0), (λ _. 0), lost_births, lost_persistent, refl), (Lines.joined 2 1 lost_born, (refl, refl, below_next 1, unowned_by 1 lost_born.records lost_unowned, refl), refl)))))))), ((refl, refl, refl, refl), refl, refl))

@@ -9,6 +9,7 @@ use Rattle.ct_store.specs.Map.{Pairs, look}
 use Rattle.ct_persist.specs.Updates
 use Rattle.ct_persist.specs.Persisted
 use Rattle.ct_cluster.specs.Labels.{Label, Noted, Ticket, Stopped}
+use Rattle.ct_rules_node.specs.Node.{is_among}
 use Rattle.ct_register.specs.Words
 use Rattle.ct_register.specs.Register
 use Rattle.ct_register.specs.Database
@@ -57,7 +58,7 @@ pub not_one : 1 ≤ 0 → ⊥
 not_one h = absurd (omega arith)
 
 pub round_from_nothing : RoundFromNothing
-unfolding Words.at Words.is_in
+unfolding Words.at is_among
 round_from_nothing s = through_round (Ticket 2 0 both ∷ Stopped 1 ∷ []) 0 both 0 1 [] [] s refl refl (λ counts kept b d h. not_one (b.greatest 0 refl (below_next 1)))
 
 pub second_round : SecondRound
@@ -73,7 +74,7 @@ unfolding Words.at Words.at_key
 installed_under_lock s = through_round (Ticket 2 0 both ∷ []) 0 both 1 1 (locks 1 [] ∷ []) (installs 1 ∷ []) s refl refl (λ counts kept b d h. h.1.3 1 1 a refl)
 
 pub thawed_too_early : ThawedTooEarly
-unfolding Words.at Words.is_in
+unfolding Words.at is_among
 thawed_too_early s = through_round (Ticket 2 0 both ∷ []) 0 both 1 1 (installs 0 ∷ []) (thaws 0 ∷ []) s refl refl (λ counts kept b d h. (let e : false ≡ true = h.1.2 1 refl in absurd (cc)))
 
 -- ---- what is not forgotten
@@ -99,7 +100,7 @@ read_of_database n v r s h = ⊎_elim (λ (p : Legal.AtRecord config n 2 a (Regi
     (λ (p : Legal.AtDatabase config n 2 (Database.AcceptsRead n a v) r s). p) h
 
 pub round_forgets : RoundForgets
-unfolding Words.at Words.at_key Words.is_in Births.birth_list Legal.kind_at
+unfolding Words.at Words.at_key is_among Births.birth_list Legal.kind_at
 round_forgets s = through_round (writes 0 x ∷ reads 1 x ∷ Stopped 0 ∷ Ticket 2 1 (1 ∷ []) ∷ []) 1 (1 ∷ []) 1 1 (installs 1 ∷ thaws 1 ∷ []) (reads 1 [] ∷ []) s refl refl (λ counts kept b d h.
     (let lost : [] ≡ Register.reading (Births.taken_over (counts 1 a) (x ∷ [])) = reads_reading 1 [] (born_after (writes 0 x ∷ reads 1 x ∷ Stopped 0 ∷ Ticket 2 1 (1 ∷ []) ∷ []) 1 1 (installs 1 ∷ thaws 1 ∷ []) counts kept) h.0 h.1 in
     let count : counts 1 a ≡ 1 = one (counts 1 a) (b.seen 1 1 a one_not_zero refl refl) (b.within 1 a one_not_zero) in
@@ -141,7 +142,7 @@ abbrev pub forgetting : List Label
 forgetting = locks_database 0 ∷ begins 0 ∷ commits 0 1 ∷ Stopped 0 ∷ Ticket 2 1 (1 ∷ []) ∷ []
 
 pub round_forgets_commit : RoundForgetsCommit
-unfolding Words.at Words.is_in
+unfolding Words.at is_among
 round_forgets_commit s = through_round forgetting 1 (1 ∷ []) 1 1 (installs 1 ∷ []) (reads_database 1 [] ∷ []) s refl refl (λ counts kept b d h.
     (let k = reads_value 1 [] (born_after forgetting 1 1 (installs 1 ∷ []) counts kept) h.0 h.1 in
     let based : [] ≡ Database.value_or_empty (look a (Updates.contents (take (kept 2) (one_write ∷ [])) [])) = subst (λ v. [] ≡ v) (base_of_none k.0 _ (none k.0 k.3)) k.4 in

@@ -4,6 +4,7 @@ use Rattle.std.specs.Prelude.{Some}
 use Rattle.ct_bytes.specs.declared.address.Address.TheVariants.{V4}
 use Rattle.ct_frame.specs.declared.frame.Assigned.{Assigned}
 use Rattle.ct_cluster.specs.Labels.{Ticket, Pushed, Takeover, Taken}
+use Rattle.ct_rules_node.specs.Node.{is_among}
 use Rattle.ct_register.specs.Words
 use Rattle.ct_register.specs.Placing
 use Rattle.ct_register.specs.Placing.{Run}
@@ -37,7 +38,7 @@ fewer : first_at_zero ≡ one_each → ⊥
 fewer e = absurd (cc)
 
 pub wrong_take : WrongTake
-unfolding Words.at Words.is_in Placing.given_placement
+unfolding Words.at is_among Placing.given_placement
 wrong_take s = through_round (Ticket 2 0 both ∷ []) 0 both 1 1 (Pushed 2 first_at_zero ∷ installs 0 ∷ Takeover 0 both ∷ []) (Taken 0 2 1 first_at_zero ∷ []) s refl refl
     (λ counts kept b d h. fewer (assigns_each first_at_zero h.1.1.2.0 h.1.1.2.1 h.1.1.2.2))
 

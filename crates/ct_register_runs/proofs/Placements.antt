@@ -7,6 +7,7 @@ use Rattle.ct_lcp2.specs.Best
 use Rattle.ct_lcp2.specs.Distance
 use Rattle.ct_lcp2.specs.Placing as lcp2
 use Rattle.ct_cluster.specs.Labels.{Ticket}
+use Rattle.ct_rules_node.specs.Node.{is_among}
 use Rattle.ct_register.specs.Words
 use Rattle.ct_register.specs.Register
 use Rattle.ct_register.specs.Placing
@@ -35,11 +36,11 @@ front : Lines
 front = labels_after (Ticket 2 0 both ∷ []) (Lines.opening config)
 
 front_births : Births.Birth front 2 0 both 1 (λ _ _. 0)
-unfolding front Words.at Words.is_in
+unfolding front Words.at is_among
 front_births = births front 0 both (λ _ _. 0) 0 refl refl refl refl refl (λ db key. nought _) (λ db k key _. nought 0)
 
 front_persistent : Births.PersistentBirth front 2 both 1 (λ _. 0)
-unfolding front Words.at Words.is_in
+unfolding front Words.at is_among
 front_persistent = persistent_births front both (λ _. 0) 0 refl refl (λ db. nought _) (λ db. nought 0) (λ db k _. nought 0)
 
 born : Lines
@@ -58,6 +59,6 @@ unfolding Words.at_address
 free_of_second = at_all (λ (f : Address → Bool). f (V4 2) ≡ false) 0 (Words.at_address (V4 1) true (λ _. false)) (λ _ _. false) refl (λ _. refl)
 
 pub addresses_are_placed : AddressesArePlaced
-unfolding born front Words.at Words.at_address Words.is_in Lines.also_had Placing.given_placement Placing.assigns Placing.is_node
+unfolding born front Words.at Words.at_address is_among Lines.also_had Placing.given_placement Placing.assigns Placing.is_node
 addresses_are_placed =
     (_, (_, (refl, tt, refl), (born, ((λ _ _. 0), (λ _. 0), front_births, front_persistent, refl), (_, (refl, _, (tt, refl), refl), (_, (refl, refl, below_next 1, unowned_by 0 born.records born_unowned, refl), (_, (refl, refl, below_next 1, unowned_by 1 (Lines.joined 2 0 born).records one_unowned, refl), (_, (two_not_zero, _, (first_at_zero, refl, refl), refl), (_, (refl, (two_not_zero, _, (record { able = both; given = first_at_zero }, refl, sym placed_once, refl), refl)), (_, (two_not_zero, (λ m ne is. refl), (1, one_each, refl, refl), refl), (_, (two_not_zero, (λ m ne is. free_of_second m), (1, one_each, refl, refl), refl), refl))))))))), (refl, refl, refl, refl))

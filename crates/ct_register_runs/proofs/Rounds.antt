@@ -1,6 +1,7 @@
 -- What the runs through a round have in common.
 use Rattle.std.proofs.Common.{◌≡◌, ◌≢◌, ℕ, ◌≤◌, List, length, refl}
 use Rattle.std.specs.Prelude.{None, Some, true, false}
+use Rattle.ct_rules_node.specs.Node.{is_among}
 use Rattle.ct_register.specs.Words
 use Rattle.ct_register.specs.Register
 use Rattle.ct_register.specs.Register.{Register}
@@ -32,8 +33,8 @@ abbrev pub SeenWithin : Register → Type 0
 SeenWithin x = (m : ℕ) → x.seen m ≤ length x.versions
 
 -- a round from line 1, of a state in which no commit was made
-pub births : (r : Lines) (h : ℕ) (ms : List ℕ) (counts : ℕ → List ℕ → ℕ) (m : ℕ) → r.leader 2 ≡ Some h → r.members 2 ≡ ms → r.born 2 ≡ false → Words.is_in m ms ≡ true → r.had 2 m 1 ≡ true →
-    ((db : ℕ) (key : List ℕ) → counts db key ≤ length (r.records 1 db key).versions) → ((db k : ℕ) (key : List ℕ) → Words.is_in k ms ≡ true → (r.records 1 db key).seen k ≤ counts db key) →
+pub births : (r : Lines) (h : ℕ) (ms : List ℕ) (counts : ℕ → List ℕ → ℕ) (m : ℕ) → r.leader 2 ≡ Some h → r.members 2 ≡ ms → r.born 2 ≡ false → is_among m ms ≡ true → r.had 2 m 1 ≡ true →
+    ((db : ℕ) (key : List ℕ) → counts db key ≤ length (r.records 1 db key).versions) → ((db k : ℕ) (key : List ℕ) → is_among k ms ≡ true → (r.records 1 db key).seen k ≤ counts db key) →
     Births.Birth r 2 h ms 1 counts
 births r h ms counts m given named unborn among had within seen = record {
   given = given;
@@ -46,8 +47,8 @@ births r h ms counts m given named unborn among had within seen = record {
   seen = λ db k key _ is _. seen db k key is;
 }
 
-pub persistent_births : (r : Lines) (ms : List ℕ) (kept : ℕ → ℕ) (m : ℕ) → Words.is_in m ms ≡ true → r.phad 2 m 1 ≡ true → ((db : ℕ) → kept db ≤ length (r.databases 1 db).commits) →
-    ((db : ℕ) → (r.databases 1 db).acked ≤ kept db) → ((db k : ℕ) → Words.is_in k ms ≡ true → (r.databases 1 db).seen k ≤ kept db) → Births.PersistentBirth r 2 ms 1 kept
+pub persistent_births : (r : Lines) (ms : List ℕ) (kept : ℕ → ℕ) (m : ℕ) → is_among m ms ≡ true → r.phad 2 m 1 ≡ true → ((db : ℕ) → kept db ≤ length (r.databases 1 db).commits) →
+    ((db : ℕ) → (r.databases 1 db).acked ≤ kept db) → ((db k : ℕ) → is_among k ms ≡ true → (r.databases 1 db).seen k ≤ kept db) → Births.PersistentBirth r 2 ms 1 kept
 persistent_births r ms kept m among had within acked seen = record {
   older = below_next 1;
   greatest = λ k is low. up_to _ _ low;
