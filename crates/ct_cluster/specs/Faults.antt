@@ -4,26 +4,16 @@ use Rattle.ct_msg.specs.declared.config.Config.{Config}
 use Rattle.ct_frame.specs.Fields.{ascends}
 use Rattle.ct_rules_node.specs.Given.{is_allowed_op}
 use Rattle.ct_rules_node.specs.Node.{Lead, Completed, is_serving, is_persistent, is_among, kind_at}
+use Rattle.ct_rules_node.specs.Refusals.{refused_if, first_of}
 use Rattle.ct_cluster.specs.Cluster.{Cluster, is_up, node_at, sent_at, is_waiting, is_delivered}
 use Rattle.ct_cluster.specs.declared.step.Step.{Step}
 use Rattle.ct_cluster.specs.declared.step.Step.TheVariants as step
 use Rattle.ct_cluster.specs.declared.step.StepFault.{StepFault}
 use Rattle.ct_cluster.specs.declared.step.StepFault.TheVariants as fault
 
--- a refusal, where its condition holds
-unfoldable pub faulty_if : Bool → StepFault → Option StepFault
-faulty_if true f = Some f
-faulty_if false f = None
-
--- the first of these that is there
-unfoldable pub first_of : List (Option StepFault) → Option StepFault
-first_of [] = None
-first_of (None ∷ fs) = first_of fs
-first_of (Some f ∷ fs) = Some f
-
 -- Refusals of a step: there is no node of this number
 unfoldable pub no_such_node : Config → ℕ → Option StepFault
-no_such_node c n = faulty_if (not (nat_lt n c.nodes)) (fault.NoSuchNode n)
+no_such_node c n = refused_if (not (nat_lt n c.nodes)) (fault.NoSuchNode n)
 
 -- Refusals of a step: the first of these numbers that is no node's
 unfoldable pub no_such_nodes : Config → List ℕ → Option StepFault
@@ -32,23 +22,23 @@ no_such_nodes c (n ∷ ns) = if nat_lt n c.nodes then no_such_nodes c ns else So
 
 -- Refusals of a step: the node does not run
 unfoldable pub node_down : Cluster → ℕ → Option StepFault
-node_down w n = faulty_if (not (is_up n w)) (fault.NodeDown n)
+node_down w n = refused_if (not (is_up n w)) (fault.NodeDown n)
 
 -- Refusals of a step: the node runs
 unfoldable pub node_up : Cluster → ℕ → Option StepFault
-node_up w n = faulty_if (is_up n w) (fault.NodeUp n)
+node_up w n = refused_if (is_up n w) (fault.NodeUp n)
 
 -- Refusals of a step: no database has this number
 unfoldable pub no_such_db : Config → ℕ → Option StepFault
-no_such_db c db = faulty_if (is_none (kind_at c db)) (fault.NoSuchDb db)
+no_such_db c db = refused_if (is_none (kind_at c db)) (fault.NoSuchDb db)
 
 -- Refusals of a step: a persistent database is not vacuumed
 unfoldable pub wrong_kind : Config → ℕ → Option StepFault
-wrong_kind c db = faulty_if (is_persistent (kind_at c db)) (fault.WrongKind db)
+wrong_kind c db = refused_if (is_persistent (kind_at c db)) (fault.WrongKind db)
 
 -- Refusals of a step: the node's phase is not Serving
 unfoldable pub not_serving : Cluster → ℕ → Option StepFault
-not_serving w n = faulty_if (not (is_serving (node_at n w).phase)) (fault.NotServing n)
+not_serving w n = refused_if (not (is_serving (node_at n w).phase)) (fault.NotServing n)
 
 -- does the node lead this generation, with the round completed?
 unfoldable pub leads : ℕ → Lead → Bool
@@ -57,16 +47,16 @@ leads g _ = false
 
 -- Refusals of a step: the node does not lead its generation with the round completed
 unfoldable pub not_leader : Cluster → ℕ → Option StepFault
-not_leader w n = faulty_if (not (leads (node_at n w).generation (node_at n w).lead)) (fault.NotLeader n)
+not_leader w n = refused_if (not (leads (node_at n w).generation (node_at n w).lead)) (fault.NotLeader n)
 
 -- Refusals of a step: the node is not among the members
 unfoldable pub not_member : ℕ → List ℕ → Option StepFault
-not_member n members = faulty_if (not (is_among n members)) (fault.NotMember n)
+not_member n members = refused_if (not (is_among n members)) (fault.NotMember n)
 
 -- Refusals of a step: another node holds the recovery lock
 unfoldable pub lock_held : ℕ → Option ℕ → Option StepFault
 lock_held n None = None
-lock_held n (Some h) = faulty_if (not (nat_eq h n)) (fault.LockHeld h)
+lock_held n (Some h) = refused_if (not (nat_eq h n)) (fault.LockHeld h)
 
 -- does this node hold the recovery lock?
 unfoldable pub is_holder : ℕ → Option ℕ → Bool
@@ -75,15 +65,15 @@ is_holder n (Some h) = nat_eq h n
 
 -- Refusals of a step: the node does not hold the recovery lock
 unfoldable pub not_holder : Cluster → ℕ → Option StepFault
-not_holder w n = faulty_if (not (is_holder n w.holder)) (fault.NotHolder w.holder)
+not_holder w n = refused_if (not (is_holder n w.holder)) (fault.NotHolder w.holder)
 
 -- Refusals of a step: no message of this number waits
 unfoldable pub not_waiting : Cluster → ℕ → Option StepFault
-not_waiting w k = faulty_if (not (is_waiting (sent_at k w))) (fault.NoSuchFrame k)
+not_waiting w k = refused_if (not (is_waiting (sent_at k w))) (fault.NoSuchFrame k)
 
 -- Refusals of a step: no message of this number was delivered
 unfoldable pub not_delivered : Cluster → ℕ → Option StepFault
-not_delivered w k = faulty_if (not (is_delivered (sent_at k w))) (fault.NoSuchFrame k)
+not_delivered w k = refused_if (not (is_delivered (sent_at k w))) (fault.NoSuchFrame k)
 
 -- Refusals of a step: the first that holds, in this order
 unfoldable pub fault_of : Config → Cluster → Step → Option StepFault

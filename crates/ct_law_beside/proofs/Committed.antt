@@ -28,7 +28,8 @@ use Rattle.ct_rules_node.specs.Node.{Node, Database, Committing, db_at, with_db,
 use Rattle.ct_rules_node.specs.Node as node
 use Rattle.ct_rules_node.specs.Turn.{Turn, begins, does, with_node, makes, answers, posts, posts_all}
 use Rattle.ct_rules_node.specs.Admission.{record_in}
-use Rattle.ct_rules_node.specs.Clients.{refusal, client, serves, reads, wrong_kind, refused_if, is_commit}
+use Rattle.ct_rules_node.specs.Refusals.{refused_if}
+use Rattle.ct_rules_node.specs.Clients.{refusal, client, serves, reads, wrong_kind, is_commit}
 use Rattle.ct_rules_node.specs.Clients as clients
 use Rattle.ct_rules_node.specs.Records.{at_record}
 use Rattle.ct_rules_node.specs.Databases.{updates, with_commit, awaits_others, commits_at, commit, acknowledges, on_pupdate, on_pack_of, on_pack, read_pair}

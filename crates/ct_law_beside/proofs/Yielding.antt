@@ -5,7 +5,7 @@ use Rattle.std.specs.Prelude.{nat_lt}
 use Rattle.ct_msg.specs.declared.config.Config.{Config}
 use Rattle.ct_call.specs.Rules.{Rules}
 use Rattle.ct_cluster.specs.Cluster.{Cluster, is_up}
-use Rattle.ct_cluster.specs.Faults.{first_of, no_such_node, node_down, is_holder, not_holder, fault_of, is_allowed}
+use Rattle.ct_cluster.specs.Faults.{no_such_node, node_down, is_holder, not_holder, fault_of, is_allowed}
 use Rattle.ct_cluster.specs.Labels.{Yielded}
 use Rattle.ct_cluster.specs.Steps.{done, steps, steps_or, applied}
 use Rattle.ct_cluster.specs.Traces.{label_of, line_labels, own_labels, labels, taken, ran_one}
@@ -14,21 +14,13 @@ use Rattle.ct_cluster.specs.declared.step.Step.TheVariants as step
 use Rattle.ct_cluster.specs.declared.step.StepFault.{StepFault}
 use Rattle.ct_register.specs.Legal.{AcceptsLabels}
 use Rattle.ct_register.specs.Lines.{Lines}
-use Rattle.ct_law_cluster.proofs.Faulting.{not_faulty}
+use Rattle.ct_rules_node.proofs.Refusals.{first_none, required}
 
 -- the cluster with a free recovery lock
 abbrev pub yielded : Cluster → Cluster
 yielded w = record w { holder = None }
 
 -- ---- why it is not refused
-
--- where none of three refusals is there, each is not there
-none_of : (a b d : Option StepFault) → first_of (a ∷ b ∷ d ∷ []) ≡ None → (a ≡ None) × (b ≡ None) × (d ≡ None)
-unfolding first_of
-none_of None None None e = (refl, refl, refl)
-none_of None None (Some f) e = absurd (cc)
-none_of None (Some f) d e = absurd (cc)
-none_of (Some f) b d e = absurd (cc)
 
 holds_it : (n : ℕ) (h : Option ℕ) → is_holder n h ≡ true → h ≡ Some n
 unfolding is_holder
@@ -43,10 +35,10 @@ pub record Yields (c : Config) (w : Cluster) (n : ℕ) : Type 0 where
 
 pub yields : (c : Config) (w : Cluster) (n : ℕ) → fault_of c w (step.Yield n) ≡ None → Yields c w n
 unfolding fault_of no_such_node node_down not_holder
-yields c w n e = (let parts = none_of (no_such_node c n) (node_down w n) (not_holder w n) e in record {
-  there = not_faulty (nat_lt n c.nodes) _ parts.0;
-  up = not_faulty (is_up n w) _ parts.1;
-  held = holds_it n w.holder (not_faulty (is_holder n w.holder) _ parts.2);
+yields c w n e = (let there = first_none _ _ e in let up = first_none _ _ there.1 in let held = first_none _ _ up.1 in record {
+  there = required (nat_lt n c.nodes) _ there.0;
+  up = required (is_up n w) _ up.0;
+  held = holds_it n w.holder (required (is_holder n w.holder) _ held.0);
 })
 
 -- ---- what it becomes

@@ -1,26 +1,17 @@
 -- What a call that is not refused may do.
-use Rattle.std.proofs.Common.{◌≡◌, ℕ, true, List, ◌∷◌, Option, Some, None, refl, arith}
+use Rattle.std.proofs.Common.{◌≡◌, ℕ, true, List, None, arith}
 use Rattle.std.specs.Prelude.{is_some}
 use Rattle.ct_msg.specs.declared.client.ClientOp.{ClientOp}
 use Rattle.ct_msg.specs.declared.client.ClientOp.TheVariants as op
-use Rattle.ct_msg.specs.declared.client.Why.{Why}
 use Rattle.ct_msg.specs.declared.config.Config.{Config}
 use Rattle.ct_call.specs.Rules.{Rules}
 use Rattle.ct_rules.specs.Form.{is_wanting}
 use Rattle.ct_rules.specs.State.{is_read_op}
 use Rattle.ct_rules_node.specs.Node.{Node, state_at}
-use Rattle.ct_rules_node.specs.Clients.{refusal, first_of, refused_if, call_pending, pending_of, already_locked, not_locked, no_such_db, wrong_kind, wants_record, wants_change, is_read, is_under_lock, is_commit, is_locked, db_of, key_of}
+use Rattle.ct_rules_node.specs.Refusals.{refused_if}
+use Rattle.ct_rules_node.specs.Clients.{refusal, call_pending, pending_of, already_locked, not_locked, no_such_db, wrong_kind, wants_record, wants_change, is_read, is_under_lock, is_commit, is_locked, db_of, key_of}
+use Rattle.ct_rules_node.proofs.Refusals.{first_none}
 use Rattle.ct_law_world.specs.World.{may_want}
-
-first_none : (x : Option Why) (xs : List (Option Why)) → first_of (x ∷ xs) ≡ None → x ≡ None
-unfolding first_of
-first_none None xs e = refl
-first_none (Some w) xs e = e
-
-rest_none : (x : Option Why) (xs : List (Option Why)) → first_of (x ∷ xs) ≡ None → first_of xs ≡ None
-unfolding first_of
-rest_none None xs e = e
-rest_none (Some w) xs e = absurd (cc)
 
 -- the refusals that matter to records do not hold
 pub record Admits (c : Config) (n : Node) (o : ClientOp) : Type 0 where
@@ -33,8 +24,9 @@ pub record Admits (c : Config) (n : Node) (o : ClientOp) : Type 0 where
 pub admits : (c : Config) (rules : Rules) (n : Node) (o : ClientOp) → refusal c rules n o ≡ None → Admits c n o
 unfolding refusal
 admits c rules n o e =
-    let a = rest_none _ _ e in let b = rest_none _ _ a in let d = rest_none _ _ b in let f = rest_none _ _ d in let g = rest_none _ _ f in let h = rest_none _ _ g in
-    record { db = first_none _ _ e; kind = first_none _ _ a; wish = first_none _ _ d; lock = first_none _ _ g; under = first_none _ _ h }
+    let db = first_none _ _ e in let kind = first_none _ _ db.1 in let serving = first_none _ _ kind.1 in let wish = first_none _ _ serving.1 in
+    let pending = first_none _ _ wish.1 in let lock = first_none _ _ pending.1 in let under = first_none _ _ lock.1 in
+    record { db = db.0; kind = kind.0; wish = wish.0; lock = lock.0; under = under.0 }
 
 pub may_lock : (c : Config) (n : Node) (db : ℕ) (key : List ℕ) → Admits c n (op.Lock db key) → may_want (state_at db key n) (op.Lock db key) ≡ true
 unfolding may_want call_pending already_locked wants_record wants_change is_read is_locked pending_of refused_if is_wanting is_read_op db_of key_of

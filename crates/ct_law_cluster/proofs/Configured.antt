@@ -20,7 +20,8 @@ use Rattle.ct_call.specs.Rules.{Rules}
 use Rattle.ct_rules.specs.declared.state.Wish.{Wish}
 use Rattle.ct_rules_node.specs.Node as node
 use Rattle.ct_rules_node.specs.Node.{Node}
-use Rattle.ct_rules_node.specs.Clients.{refusal, first_of, refused_if, call_pending, pending_of, already_locked, not_locked, not_serving, commit_pending, no_such_call, full, no_such_db, wrong_kind, wants_record, db_of, key_of}
+use Rattle.ct_rules_node.specs.Refusals.{refused_if, first_of}
+use Rattle.ct_rules_node.specs.Clients.{refusal, call_pending, pending_of, already_locked, not_locked, not_serving, commit_pending, no_such_call, full, no_such_db, wrong_kind, wants_record, db_of, key_of}
 use Rattle.ct_cluster.specs.Cluster.{numbers, everyone}
 use Rattle.ct_register.specs.Legal as legal
 use Rattle.ct_register.proofs.Bridges.{same_kind, same_records}

@@ -1,28 +1,15 @@
 -- What holds where a step of the cluster is not refused.
-use Rattle.std.proofs.Common.{◌≡◌, ℕ, Bool, true, false, not, List, ◌∷◌, Option, Some, None, refl}
+use Rattle.std.proofs.Common.{◌≡◌, ℕ, true, List, ◌∷◌, Option, None}
 use Rattle.std.specs.Prelude.{is_none}
 use Rattle.ct_msg.specs.declared.config.Config.{Config}
 use Rattle.ct_rules_node.specs.Node.{has_records, is_persistent, kind_at}
 use Rattle.ct_cluster.specs.Cluster.{Cluster, is_up}
-use Rattle.ct_cluster.specs.Faults.{fault_of, faulty_if, first_of, no_such_node, no_such_db, wrong_kind, node_down}
+use Rattle.ct_rules_node.specs.Refusals.{first_of}
+use Rattle.ct_cluster.specs.Faults.{fault_of, no_such_db, wrong_kind, node_down}
 use Rattle.ct_cluster.specs.declared.step.Step.TheVariants as step
 use Rattle.ct_cluster.specs.declared.step.StepFault.{StepFault}
+use Rattle.ct_rules_node.proofs.Refusals.{first_none, not_refused, required}
 use Rattle.ct_law_cluster.proofs.Configured.{has_kind}
-
-pub first_none : (x : Option StepFault) (xs : List (Option StepFault)) → first_of (x ∷ xs) ≡ None → (x ≡ None) × (first_of xs ≡ None)
-unfolding first_of
-first_none None xs e = (refl, e)
-first_none (Some f) xs e = absurd (cc)
-
-pub not_faulty : (b : Bool) (f : StepFault) → faulty_if (not b) f ≡ None → b ≡ true
-unfolding faulty_if
-not_faulty true f e = refl
-not_faulty false f e = absurd (cc)
-
-unfaulty : (b : Bool) (f : StepFault) → faulty_if b f ≡ None → b ≡ false
-unfolding faulty_if
-unfaulty true f e = absurd (cc)
-unfaulty false f e = refl
 
 -- a vacuum is of a database that has records
 pub vacuum_kind : (c : Config) (w : Cluster) (n db : ℕ) → fault_of c w (step.Vacuum n db) ≡ None → has_records (kind_at c db) ≡ true
@@ -30,9 +17,9 @@ unfolding fault_of no_such_db wrong_kind
 vacuum_kind c w n db e =
     let a = first_none _ _ (first_none _ _ e).1 in
     let b = first_none _ _ a.1 in
-    has_kind (kind_at c db) (unfaulty (is_none (kind_at c db)) _ b.0) (unfaulty (is_persistent (kind_at c db)) _ (first_none _ _ b.1).0)
+    has_kind (kind_at c db) (not_refused (is_none (kind_at c db)) _ b.0) (not_refused (is_persistent (kind_at c db)) _ (first_none _ _ b.1).0)
 
--- the node runs
-pub runs : (c : Config) (w : Cluster) (n : ℕ) (xs : List (Option StepFault)) → first_of (no_such_node c n ∷ node_down w n ∷ xs) ≡ None → is_up n w ≡ true
+-- a step that is not refused is taken by a node that runs
+pub runs : (w : Cluster) (n : ℕ) (a : Option StepFault) (rest : List (Option StepFault)) → first_of (a ∷ node_down w n ∷ rest) ≡ None → is_up n w ≡ true
 unfolding node_down
-runs c w n xs e = not_faulty (is_up n w) _ (first_none _ _ (first_none _ _ e).1).0
+runs w n a rest e = required (is_up n w) _ (first_none _ _ (first_none _ _ e).1).0

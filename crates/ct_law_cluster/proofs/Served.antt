@@ -3,7 +3,6 @@ use Rattle.std.proofs.Common.{◌≡◌, ℕ, Bool, true, false, cond, List, Non
 use Rattle.std.specs.Prelude.{is_none}
 use Rattle.ct_msg.specs.declared.client.ClientOp.{ClientOp}
 use Rattle.ct_msg.specs.declared.client.ClientOp.TheVariants as op
-use Rattle.ct_msg.specs.declared.client.Why.{Why}
 use Rattle.ct_msg.specs.declared.client.Why.TheVariants as why
 use Rattle.ct_msg.specs.declared.config.Config.{Config}
 use Rattle.ct_call.specs.Rules.{Rules}
@@ -13,7 +12,9 @@ use Rattle.ct_rules_node.specs.Node.{Node, Phase, Freezing, is_present, is_persi
 use Rattle.ct_rules_node.specs.Turn.{Turn, begins, makes}
 use Rattle.ct_rules_node.specs.Databases.{read_pair}
 use Rattle.ct_rules_node.specs.Records.{at_record}
-use Rattle.ct_rules_node.specs.Clients.{refusal, client, serves_or, serves, reads, unlocks, no_such_db, refused_if, db_of, is_commit, wrong_kind, is_read}
+use Rattle.ct_rules_node.specs.Refusals.{refused_if}
+use Rattle.ct_rules_node.specs.Clients.{refusal, client, serves_or, serves, reads, unlocks, no_such_db, db_of, is_commit, wrong_kind, is_read}
+use Rattle.ct_rules_node.proofs.Refusals.{not_refused}
 use Rattle.ct_law_cluster.proofs.Admitted.{Admits}
 use Rattle.ct_law_cluster.proofs.Configured.{has_kind}
 
@@ -50,17 +51,12 @@ pub serves_unlock : (c : Config) (rules : Rules) (n call db : ℕ) (key : List �
 unfolding serves
 serves_unlock c rules n call db key t e = unlocks_present c n call db key t t.node.phase e
 
-refused_not : (b : Bool) (w : Why) → refused_if b w ≡ None → b ≡ false
-unfolding refused_if
-refused_not true w e = absurd (cc)
-refused_not false w e = refl
-
 -- ---- the kind of its database
 
 -- the database of a call that is not refused has records, where it is not persistent
 pub call_kind : (c : Config) (n : Node) (o : ClientOp) → Admits c n o → is_persistent (kind_at c (db_of o)) ≡ false → has_records (kind_at c (db_of o)) ≡ true
 unfolding no_such_db
-call_kind c n o h f = has_kind (kind_at c (db_of o)) (refused_not (is_none (kind_at c (db_of o))) why.NoSuchDb h.db) f
+call_kind c n o h f = has_kind (kind_at c (db_of o)) (not_refused (is_none (kind_at c (db_of o))) why.NoSuchDb h.db) f
 
 -- only a commit or a read that is not refused is of a persistent database
 pub record_kind : (c : Config) (n : Node) (o : ClientOp) → Admits c n o → is_commit o ≡ false → is_read o ≡ false → is_persistent (kind_at c (db_of o)) ≡ false

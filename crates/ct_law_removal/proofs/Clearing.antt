@@ -1,6 +1,6 @@
 -- Where a step of the cluster tells that a record was removed, its location master did it, and has no entry of it.
 use Rattle.std.proofs.Common.{◌≡◌, ℕ, zero, suc, ◌+◌, ◌≤◌, Bool, true, false, ◌||◌, List, [], ◌∷◌, ◌++◌, length, set, Option, Some, None, refl, sym, ap, ◌∙◌, arith, subst, ⊎_elim}
-use Rattle.std.specs.Prelude.{nat_lt, not, slice_get, Result, Ok, Err}
+use Rattle.std.specs.Prelude.{nat_lt, slice_get, Result, Ok, Err}
 use Rattle.std.proofs.lemmas.Bool.{cond_both, ltb-true, ltb-false}
 use Rattle.std.proofs.lemmas.List.Folds.{list_any-append}
 use Rattle.ct_msg.specs.declared.client.ClientOp.{ClientOp}
@@ -14,7 +14,7 @@ use Rattle.ct_rules_node.specs.Turn.{Turn, begins}
 use Rattle.ct_rules_node.specs.Steps as node_steps
 use Rattle.ct_rules_node.specs.Laws.{NodeAscends}
 use Rattle.ct_cluster.specs.Cluster.{Cluster, Sent, Fate, Delivered, absent, or_absent, is_up, node_at, sent_at, able_from, pending_at}
-use Rattle.ct_cluster.specs.Faults.{faulty_if, first_of, node_down, fault_of, is_allowed}
+use Rattle.ct_cluster.specs.Faults.{fault_of, is_allowed}
 use Rattle.ct_cluster.specs.Labels.{Label}
 use Rattle.ct_cluster.specs.Steps.{Stepped, lines_of, with_node, put, fed, done, with_fate, deliver, drop, repeat, gone, stop, recover, steps, steps_or, applied}
 use Rattle.ct_cluster.specs.Traces.{calls_of, label_of, line_labels, is_refused as refuses, begun_by, own_labels, labels, idle, taken, ran_one}
@@ -31,6 +31,7 @@ use Rattle.ct_law_shown.proofs.Weave.{true_or_false}
 use Rattle.ct_law_shown.proofs.Hearing.{labels_are}
 use Rattle.ct_law_node.proofs.Putting.{own_node}
 use Rattle.ct_law_cluster.proofs.Fed.{fed_is}
+use Rattle.ct_law_cluster.proofs.Faulting.{runs}
 use Rattle.ct_law_removal.proofs.Removing.{told_in_line}
 use Rattle.ct_law_removal.proofs.Removed.{starts_silent, happens_remove, told_removal}
 
@@ -97,17 +98,6 @@ pub same_node : (k n : ℕ) (m : Sent) (f : Fate) (w : Cluster) → node_at n (w
 unfolding with_fate node_at
 same_node zero n m f w = refl
 same_node (suc k) n m f w = refl
-
-runs_of : (b : Bool) (f : StepFault) (rest : List (Option StepFault)) → first_of (faulty_if (not b) f ∷ rest) ≡ None → b ≡ true
-unfolding first_of faulty_if
-runs_of true f rest e = refl
-runs_of false f rest e = absurd (cc)
-
--- a step that is not refused is taken by a node that runs
-runs : (w : Cluster) (n : ℕ) (a : Option StepFault) (rest : List (Option StepFault)) → first_of (a ∷ node_down w n ∷ rest) ≡ None → is_up n w ≡ true
-unfolding first_of node_down
-runs w n None rest e = runs_of (is_up n w) _ rest e
-runs w n (Some f) rest e = absurd (cc)
 
 deliver_clears : (c : Config) (rules : Rules) (r : Lines) (g db : ℕ) (key : List ℕ) (s : Step) (calls : List PendingCall) (k : ℕ) (w : Cluster) (m : Option Sent) (x : Stepped) → AllAscend w → deliver c rules k w m ≡ Ok x → Clears r g db key w x.cluster (line_labels s calls x.lines)
 unfolding deliver line_labels label_of

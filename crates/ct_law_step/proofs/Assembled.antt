@@ -165,7 +165,7 @@ unfolding fault_of steps own_labels traces.calls_of node_steps.happens
 vacuum_taken c era rules reg w ls n db is kept h x ok e =
     let f = fed_is c rules n (event.Vacuum db) [] w x e in
     turn_tells c era rules reg h.who ls w w (step.Vacuum n db) n (vacuums c n db (begins (node_at n w))) x h.own (kept f.0) refl f.1
-    (vacuum_fed c era rules h.who w n db ls h.goes.1 x is.era_is is.small h.goes.0 h.goes.2 (runs c w n _ ok) e)
+    (vacuum_fed c era rules h.who w n db ls h.goes.1 x is.era_is is.small h.goes.0 h.goes.2 (runs w n _ _ ok) e)
 
 -- a Retry, where all that the node tells is of records
 pub retry_taken : (c : Config) (era : Era) (rules : Rules) (reg : Lines) (w : Cluster) (ls : List Label) (n : ℕ) → Starts c era rules reg → Tells c era reg n (pending w) (retry c n (begins (node_at n w))) → Run_goes c era rules reg ls w → Taken_goes c era rules reg w ls (step.Retry n)
@@ -174,7 +174,7 @@ retry_taken c era rules reg w ls n is kept h x ok e =
     let f = fed_is c rules n event.Retry [] w x e in
     turn_tells c era rules reg h.who ls w w (step.Retry n) n (retry c n (begins (node_at n w))) x h.own kept refl f.1
     (subst (λ (y : Stepped). Cluster_goes c era rules h.who y.cluster (ls ++ labels_of n (pending w) (retry c n (begins (node_at n w))).outs)) (sym f.1)
-    (retry_cluster c era rules h.who w n ls h.goes.1 is.era_is is.small (runs c w n _ ok) h.goes.0 h.goes.2))
+    (retry_cluster c era rules h.who w n ls h.goes.1 is.era_is is.small (runs w n _ _ ok) h.goes.0 h.goes.2))
 
 -- ---- calls
 
@@ -199,7 +199,7 @@ client_taken c era rules reg w ls n o kept none goes h x ok e =
     (subst (λ (l : List PendingCall). Tells c era reg n l u) (counted_calls w n o) kept) (none x.lines) f.1
     (subst (λ (l : List PendingCall). Cluster_goes c era rules (called_by n o w h.who) x.cluster (ls ++ labels_of n l u.outs)) (counted_calls w n o)
     (subst (λ (y : Stepped). Cluster_goes c era rules (called_by n o w h.who) y.cluster (ls ++ labels_of n (own_pending n (w.calls + 1) o ∷ pending (counted w)) u.outs)) (sym f.1)
-    (goes h.who h.goes.1 h.goes.0 h.goes.2 (runs c w n _ ok) f.0)))
+    (goes h.who h.goes.1 h.goes.0 h.goes.2 (runs w n _ _ ok) f.0)))
 
 -- a store that is not refused
 pub store_taken : (c : Config) (era : Era) (rules : Rules) (reg : Lines) (w : Cluster) (ls : List Label) (n db : ℕ) (key v : List ℕ) → Starts c era rules reg → refusal c rules (node_at n (counted w)) (op.Store db key v) ≡ None →

@@ -11,7 +11,7 @@ use Rattle.ct_msg.specs.declared.config.Config.{Config}
 use Rattle.ct_frame.specs.declared.event.Event.TheVariants as event
 use Rattle.ct_call.specs.Rules.{Rules}
 use Rattle.ct_rules_node.specs.Clients as clients
-use Rattle.ct_rules_node.specs.Clients.{client, refusal, serves, serves_or, reads, wrong_kind, refused_if, is_commit, is_read}
+use Rattle.ct_rules_node.specs.Clients.{client, refusal, serves, serves_or, reads, wrong_kind, is_commit, is_read}
 use Rattle.ct_rules_node.specs.Databases.{read_pair}
 use Rattle.ct_rules_node.specs.Node as node
 use Rattle.ct_rules_node.specs.Node.{Node}
@@ -99,7 +99,7 @@ call_taken c era rules reg w ls n o own goes h x ok e =
     (subst (λ (y : Stepped). Run_goes c era rules reg (ls ++ told_by_call c rules w n o) y.cluster) (sym f.1)
     (record {
       who = called_by n o w h.who;
-      goes = goes h.who h.goes.1 h.goes.0 h.goes.2 (runs c w n _ ok);
+      goes = goes h.who h.goes.1 h.goes.0 h.goes.2 (runs w n _ _ ok);
       own = all_append (IsOfLine c era.number reg) ls (told_by_call c rules w n o) h.own own;
     }))
 
@@ -176,7 +176,7 @@ commit_quiet c era rules who w n db writes old kind free =
 -- the node that is called runs
 node_runs : (c : Config) (w : Cluster) (n : ℕ) (o : ClientOp) → fault_of c w (step.Client n o) ≡ None → is_up n w ≡ true
 unfolding fault_of
-node_runs c w n o ok = runs c w n _ ok
+node_runs c w n o ok = runs w n _ _ ok
 
 -- and is in no newer generation
 old_counted : (c : Config) (era : Era) (rules : Rules) (who : Callers) (w : Cluster) (n : ℕ) → ClusterStays c era rules who w → is_up n w ≡ true → (node_at n (counted w)).generation ≤ era.number

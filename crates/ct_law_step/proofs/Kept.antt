@@ -150,4 +150,4 @@ client_whole c rules w n o x e = (fed_is c rules n (node_event.Client (w.calls +
 pub client_tells : (c : Config) (era : Era) (rules : Rules) (reg : Lines) (w : Cluster) (ls : List Label) (n : ℕ) (o : ClientOp) (x : Stepped) → Starts c era rules reg → is_persistent (kind_at c (clients.db_of o)) ≡ false → refusal c rules (node_at n (counted w)) o ≡ None →
     Run_goes c era rules reg ls w → fault_of c w (step.Client n o) ≡ None → steps c rules w (step.Client n o) ≡ Ok x → Tells c era reg n (own_pending n (w.calls + 1) o ∷ pending (counted w)) (client_turn c rules w n o)
 unfolding fault_of
-client_tells c era rules reg w ls n o x is f free h ok e = client_kept c era rules reg w ls n o is f free h (runs c w n _ ok) (client_whole c rules w n o x e)
+client_tells c era rules reg w ls n o x is f free h ok e = client_kept c era rules reg w ls n o is f free h (runs w n _ _ ok) (client_whole c rules w n o x e)

@@ -140,7 +140,7 @@ pub takeover_taken : (c : Config) (era : Era) (rules : Rules) (reg : Lines) (w :
 unfolding fault_of steps own_labels traces.calls_of node_steps.happens speaks_of_records
 takeover_taken c era rules reg w ls n h x ok e =
     let t = begins (node_at n w) in
-    let up = runs c w n _ ok in
+    let up = runs w n _ _ ok in
     let u = begin_takeover n (able_from 0 w.able) t t.node.lead in
     beside_taken c era rules reg ls w w (step.Takeover n) n u x h up
     (goes_beside c era rules h.who w.calls n (pending w) t u (begin_takeover_beside n era.number (able_from 0 w.able) t t.node.lead (h.goes.0.nodes n (h.goes.0.up n up)).lead)) refl refl

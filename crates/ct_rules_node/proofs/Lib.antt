@@ -5,6 +5,7 @@ pub mod AtRecord
 pub mod Steady
 pub mod Alone
 pub mod Growing
+pub mod Refusals
 pub mod Quiet
 pub mod Starting
 pub mod Whole

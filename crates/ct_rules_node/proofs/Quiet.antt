@@ -1,5 +1,5 @@
 -- A node that is not present sends no message of a record.
-use Rattle.std.proofs.Common.{◌≡◌, ℕ, Bool, true, false, cond, not, ◌&&◌, ◌||◌, List, [], ◌∷◌, ◌++◌, map, Option, Some, None, refl, ap, ◌∙◌, append-nil}
+use Rattle.std.proofs.Common.{◌≡◌, ℕ, Bool, true, false, cond, not, ◌&&◌, ◌||◌, List, [], ◌++◌, map, Option, Some, None, refl, ap, ◌∙◌, append-nil}
 use Rattle.std.specs.Prelude.{is_none, is_some, nat_eq}
 use Rattle.ct_msg.specs.declared.client.Answer.TheVariants as answer
 use Rattle.ct_msg.specs.declared.client.ClientOp.{ClientOp}
@@ -20,12 +20,13 @@ use Rattle.ct_rules.specs.declared.event.Place.{Place}
 use Rattle.ct_rules_node.specs.Node.{Node, Phase, Idle, Serving, Installed, Freezing, Frozen, is_serving, is_present, is_present_in, is_freezing, is_persistent, has_records, kind_at, state_at}
 use Rattle.ct_rules_node.specs.Turn.{Turn, makes}
 use Rattle.ct_rules_node.specs.Records.{out_of, acted, at_record, place_of, view}
-use Rattle.ct_rules_node.specs.Clients.{db_of, key_of, is_read, is_under_lock, refused_if, is_locked, may_finish, not_serving, first_of, refusal, unlocks, reads, serves, serves_or, client}
+use Rattle.ct_rules_node.specs.Clients.{db_of, key_of, is_read, is_under_lock, is_locked, may_finish, not_serving, refusal, unlocks, reads, serves, serves_or, client}
 use Rattle.ct_rules_node.specs.Rounds.{on_thaw}
 use Rattle.ct_rules_node.specs.Retries.{retry_records, retry}
 use Rattle.ct_rules_node.specs.Steps.{on_record_of, if_persistent, if_sound, if_taken_over, arrives, vacuums, happens}
 use Rattle.ct_rules_node.specs.Admission.{record_in, is_current}
 use Rattle.ct_rules_node.specs.Laws.{sends_of_record, record_sends, HoldsLocks}
+use Rattle.ct_rules_node.proofs.Refusals.{first_none, not_refused}
 use Rattle.ct_rules_node.proofs.Steady.{sends_more, Steady, same, either, answers_steady, commit_steady, on_pupdate_steady, on_pack_steady, read_pair_steady, begin_round_steady, frozen_steady, on_freeze_steady, on_freezeack_steady, on_pull_steady, on_pullreply_steady, on_push_steady, on_pushack_steady, begin_takeover_steady, on_release_steady, on_releaseack_steady, on_take_steady, retry_lead_steady}
 
 abbrev Quiet : Turn → Turn → Type 0
@@ -81,21 +82,6 @@ read_quiet c rules me call db key u l h =
 
 -- ---- clients
 
-first_none : (x : Option Why) (xs : List (Option Why)) → first_of (x ∷ xs) ≡ None → x ≡ None
-unfolding first_of
-first_none None xs e = refl
-first_none (Some w) xs e = e
-
-rest_none : (x : Option Why) (xs : List (Option Why)) → first_of (x ∷ xs) ≡ None → first_of xs ≡ None
-unfolding first_of
-rest_none None xs e = e
-rest_none (Some w) xs e = absurd (cc)
-
-not_refused : (b : Bool) (w : Why) → refused_if b w ≡ None → b ≡ false
-unfolding refused_if
-not_refused true w e = absurd (cc)
-not_refused false w e = refl
-
 may : (serving may : Bool) → serving ≡ false → (not serving && not may) ≡ false → may ≡ true
 may true m s e = absurd (cc)
 may false true s e = refl
@@ -103,7 +89,7 @@ may false false s e = absurd (cc)
 
 not_serving_none : (c : Config) (rules : Rules) (n : Node) (o : ClientOp) → refusal c rules n o ≡ None → not_serving n o ≡ None
 unfolding refusal
-not_serving_none c rules n o e = first_none _ _ (rest_none _ _ (rest_none _ _ e))
+not_serving_none c rules n o e = (first_none _ _ (first_none _ _ (first_none _ _ e).1).1).0
 
 present_serving : (p : Phase) → is_present p ≡ false → is_serving p ≡ false
 unfolding is_present is_serving

@@ -19,6 +19,7 @@ use Rattle.ct_rules.specs.declared.state.Wish.{Wish}
 use Rattle.ct_rules_node.specs.Node.{Node, Phase, Freezing, Frozen, Database, is_serving, is_freezing, is_persistent, db_at, state_at, kind_at, name_of}
 use Rattle.ct_rules_node.specs.Turn.{Turn, with_phase, makes, answers, posts}
 use Rattle.ct_rules_node.specs.Records.{at_record}
+use Rattle.ct_rules_node.specs.Refusals.{refused_if, first_of}
 use Rattle.ct_rules_node.specs.Databases.{commit, read_pair}
 
 -- ---- what a call asks for
@@ -76,11 +77,6 @@ is_under_lock (op.Unlock db key) = true
 is_under_lock _ = false
 
 -- ---- the refusals, each with its condition
-
--- a refusal, where its condition holds
-unfoldable pub refused_if : Bool → Why → Option Why
-refused_if true w = Some w
-refused_if false w = None
 
 -- is the record locked here?
 unfoldable pub is_locked : ℕ → List ℕ → Node → Bool
@@ -141,12 +137,6 @@ no_such_call rules _ = None
 unfoldable pub full : Config → Node → ClientOp → Option Why
 full c n (op.Commit db writes) = refused_if (not (fits writes (db_at db n).store.pairs)) why.Full
 full c n o = refused_if (wants_record o && not (is_persistent (kind_at c (db_of o))) && not (has_room (key_of o) (db_at (db_of o) n).records)) why.Full
-
--- the first of these that is there
-unfoldable pub first_of : List (Option Why) → Option Why
-first_of [] = None
-first_of (None ∷ ws) = first_of ws
-first_of (Some w ∷ ws) = Some w
 
 -- Refusals of a client: the first that holds, in this order
 unfoldable pub refusal : Config → Rules → Node → ClientOp → Option Why

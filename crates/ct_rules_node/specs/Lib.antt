@@ -1,6 +1,7 @@
 pub mod Node
 pub mod Turn
 pub mod Records
+pub mod Refusals
 pub mod Clients
 pub mod Databases
 pub mod Numbered
