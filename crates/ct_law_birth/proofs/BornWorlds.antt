@@ -17,7 +17,7 @@ use Rattle.ct_cluster.specs.Cluster.{Cluster, Sent, node_at, sent_at}
 use Rattle.ct_register.specs.Legal.{kind_at, is_of_records}
 use Rattle.ct_register.proofs.Small.{some_not_none}
 use Rattle.ct_promise.specs.Born as began
-use Rattle.ct_promise.specs.Born.{Rows, IsBornNode, IsBornWith, BornRegisters, MayWait, WishIsSound, IsMastered, IsBirthOf}
+use Rattle.ct_promise.specs.Born.{Rows, IsBornWith}
 use Rattle.ct_law_world.specs.World.{View, Mail, World, bare, born, born_state}
 use Rattle.ct_law_shown.specs.Shown.{Era, scene, view, is_it, mail_of, mails, project}
 

@@ -14,7 +14,7 @@ use Rattle.ct_register.specs.Marks.{value_at}
 use Rattle.ct_register.specs.Stands.{HasCopy, RecordsStand}
 use Rattle.ct_promise.specs.Marked.{LineMarks, MarksHoldIn}
 use Rattle.ct_promise.specs.Kept.{StandsForSeen, KeepsSeen, HasParent, RecordsHold}
-use Rattle.ct_law_world.specs.World.{World, Stands, NothingIsLost}
+use Rattle.ct_law_world.specs.World.{Stands, NothingIsLost}
 use Rattle.ct_law_world.specs.World as law
 use Rattle.ct_law_world.specs.Marked as law_marked
 use Rattle.ct_law_shown.specs.Shown.{Era, scene, project}

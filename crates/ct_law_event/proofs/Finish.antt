@@ -13,7 +13,7 @@ use Rattle.ct_deleg.specs.Tracked.{Revocation}
 use Rattle.ct_register.specs.Register.{reading, emptied}
 use Rattle.ct_law_world.specs.Labels.{Vacuumed}
 use Rattle.ct_law_fact.proofs.Rule
-use Rattle.ct_law_fact.proofs.Rule.{is_odd, Body, Call, Copy, Done, Frame, Give, Grant, Node, Out, Pass, Recalls, Refuse, Revoke, RevokeAck, VDelete, VDeleted, VStore, VStored, Wish, greater, has_node, is_here, is_reading, rank, reads_op, tell, value_of, with_node}
+use Rattle.ct_law_fact.proofs.Rule.{is_odd, Body, Copy, Frame, Give, Grant, Node, Out, Pass, Refuse, Revoke, RevokeAck, VDelete, VDeleted, VStore, VStored, Wish, greater, is_here, is_reading, rank, reads_op, tell, value_of, with_node}
 use Rattle.ct_law_event.proofs.Phases.{rank_none}
 
 abbrev pub finished : ℕ → ℕ → Ghost → Ghost

@@ -9,7 +9,7 @@ use Rattle.std.specs.Prelude.{List, []}
 use Rattle.ct_call.specs.Rules.{Rules}
 use Rattle.ct_rules.specs.declared.state.Entry.{Entry}
 use Rattle.ct_law_fact.proofs.Rule
-use Rattle.ct_law_fact.proofs.Rule.{Copy, Frame, Node, Out, Wish, greater, is_here, rank, with_node}
+use Rattle.ct_law_fact.proofs.Rule.{Copy, Frame, Node, Out, greater, is_here, with_node}
 use Rattle.ct_law_event.proofs.Phases.{rank_none}
 
 pub greater_left : (a b : ℕ) → a ≤ greater a b

@@ -19,7 +19,7 @@ use Rattle.ct_rules.specs.declared.state.Entry.{Entry}
 use Rattle.ct_rules.specs.declared.state.Waiter.{Waiter}
 use Rattle.ct_law_world.specs.Labels.{Told}
 use Rattle.ct_law_fact.proofs.Rule
-use Rattle.ct_law_fact.proofs.Rule.{wait_for_copies, Body, Call, Copy, Done, Frame, Give, Grant, Here, Kind, Node, Op, Out, Pass, Recalls, Refuse, Revoke, RevokeAck, Wish, become, drain, has_node, is_here, is_idle, is_read, is_reading, rank, reads_op, rsn_of, satisfy, send, tell, value_of, with_node, with_value}
+use Rattle.ct_law_fact.proofs.Rule.{wait_for_copies, Call, Frame, Here, Node, Op, Out, Wish, become, has_node, is_here, is_idle, is_reading, rank, reads_op, satisfy, tell, value_of, with_node}
 
 module _ (rules : Rules) (ps : List ℕ) (m me : ℕ) (nodes : ℕ → Node) (frames : List Frame) (r : Start) where
   pub call_holds : (op : Op) (g : Ghost) (o : Out) → is_here o.node.copy ≡ false → Holds rules ps m me nodes frames r g o → Kept rules ps m me nodes frames r (Rule.call me m op o)

@@ -25,7 +25,7 @@ use Rattle.ct_rules.specs.declared.state.Waiter.{Waiter}
 use Rattle.ct_register.specs.Register.{reading}
 use Rattle.ct_law_world.specs.Labels.{Told}
 use Rattle.ct_law_fact.proofs.Rule
-use Rattle.ct_law_fact.proofs.Rule.{Body, Call, Copy, Done, Frame, Give, Given, Grant, Here, Kind, Node, Op, Out, Pass, Recalls, Refuse, Revoke, RevokeAck, Wish, become, drain, end_vacuum, is_free, is_given, is_here, is_kind_given, is_kind_here, is_read, is_reading, is_wish, rank, reads_op, rsn_of, satisfy, satisfy_wish, send, tell, value_of, with_node, with_value}
+use Rattle.ct_law_fact.proofs.Rule.{Call, Copy, Frame, Give, Given, Here, Kind, Node, Op, Out, Pass, Refuse, Wish, become, end_vacuum, is_free, is_given, is_here, is_kind_given, is_kind_here, is_wish, rank, reads_op, rsn_of, satisfy_wish, tell, value_of, with_node}
 
 -- what is known of every node where the entry may move on to this least
 pub record Calm (g : Ghost) (least n : ℕ) (copy : Option Copy) (now : Option Wish) : Type 0 where

@@ -20,7 +20,7 @@ use Rattle.ct_vacuum.specs.declared.vacuum.VacuumPhase.TheVariants.{Storing, Del
 use Rattle.ct_rules.specs.State.{is_nil}
 use Rattle.ct_register.specs.Register.{Register, reading}
 use Rattle.ct_law_fact.proofs.Rule
-use Rattle.ct_law_fact.proofs.Rule.{is_storing, risen, Body, Copy, Frame, Grant, Here, Node, Out, VDelete, VDeleted, VStore, VStored, Wish, drop_copy, give, greater, has_node, is_free, is_here, is_idle, is_reading, raise_copy, rank, reads_op, rsn_of, send, send_all, tell, value_of, with_node}
+use Rattle.ct_law_fact.proofs.Rule.{is_storing, risen, Copy, Frame, Here, Node, Out, VDelete, VDeleted, VStore, VStored, drop_copy, greater, has_node, is_free, is_here, raise_copy, rank, rsn_of, send_all, value_of, with_node}
 use Rattle.ct_law_event.proofs.Floor.{greater_left}
 
 -- absent copies come to stand for what copies of this rank do

@@ -12,7 +12,7 @@ use Rattle.ct_call.specs.Table.{applied}
 use Rattle.ct_call.specs.declared.fault.CallFault.{CallFault}
 use Rattle.ct_call.specs.declared.fault.CallFault.TheVariants as fault
 use Rattle.ct_rules.specs.State
-use Rattle.ct_rules.specs.State.{is_nil, nobody, plain, for_reading, delegated, being_revoked, a_copy, is_read_op, is_read_kind, same_kind, kind_of}
+use Rattle.ct_rules.specs.State.{is_nil, nobody, delegated, being_revoked, is_read_kind}
 use Rattle.ct_rules.specs.Parts
 use Rattle.ct_rules.specs.Parts.{Moving}
 use Rattle.ct_rules.specs.declared.event.Place.{Place}
@@ -22,7 +22,7 @@ use Rattle.ct_rules.specs.declared.state.RecState.{RecState}
 use Rattle.ct_rules.specs.declared.state.Wish.{Wish}
 use Rattle.ct_law_world.specs.Labels.{Told}
 use Rattle.ct_law_fact.proofs.Rule
-use Rattle.ct_law_fact.proofs.Rule.{Kind, Copy, Node, Frame, Body, Out}
+use Rattle.ct_law_fact.proofs.Rule.{Out}
 use Rattle.ct_deleg.specs.Tracked.{Tracked, added, begun, placed}
 use Rattle.ct_law_like.proofs.Likeness.{copy_of, wish_of, body_of, out_of, FineAt, like_send, like_send_all, like_reply, rsn_like, value_like, with_value_like, gives_like, flags_like, own_like, free_like, wished_like}
 

@@ -9,7 +9,7 @@ use Rattle.ct_frame.specs.declared.frame.Msg.{Msg}
 use Rattle.ct_frame.specs.declared.frame.Msg.TheVariants as msg
 use Rattle.ct_frame.specs.declared.header.RecCopy.{RecCopy}
 use Rattle.ct_rules.specs.State
-use Rattle.ct_rules.specs.State.{is_nil, nobody, plain, for_reading, delegated, being_revoked, a_copy, is_read_op, is_read_kind, same_kind, kind_of}
+use Rattle.ct_rules.specs.State.{nobody, plain, for_reading, a_copy, is_read_kind, same_kind, kind_of}
 use Rattle.ct_rules.specs.Parts
 use Rattle.ct_rules.specs.Parts.{Moving}
 use Rattle.ct_rules.specs.declared.event.Act.{Act}

@@ -13,7 +13,7 @@ use Rattle.ct_call.specs.Table.{applied}
 use Rattle.ct_call.specs.declared.fault.CallFault.{CallFault}
 use Rattle.ct_call.specs.declared.fault.CallFault.TheVariants as fault
 use Rattle.ct_rules.specs.State
-use Rattle.ct_rules.specs.State.{is_nil, nobody, plain, for_reading, delegated, being_revoked, a_copy, is_read_op, is_read_kind, same_kind, kind_of}
+use Rattle.ct_rules.specs.State.{is_nil, nobody, plain, for_reading, a_copy, is_read_op, is_read_kind}
 use Rattle.ct_rules.specs.Parts
 use Rattle.ct_rules.specs.Parts.{Moving}
 use Rattle.ct_rules.specs.declared.event.Place.{Place}
@@ -23,7 +23,7 @@ use Rattle.ct_rules.specs.declared.state.Waiter.{Waiter}
 use Rattle.ct_rules.specs.declared.state.Wish.{Wish}
 use Rattle.ct_law_world.specs.Labels.{Told}
 use Rattle.ct_law_fact.proofs.Rule
-use Rattle.ct_law_fact.proofs.Rule.{Kind, Copy, Node, Frame, Body, Out}
+use Rattle.ct_law_fact.proofs.Rule.{Copy, Out}
 use Rattle.ct_law_like.proofs.Likeness.{kind_at, copy_of, wish_of, body_of, out_of, FineAt, like_send, like_reply, rsn_like, rank_like, value_like, mastered_like, for_reading_like, with_value_like, given_like, raised_like, own_like, free_like}
 use Rattle.ct_law_like.proofs.Alike.{none_is_not_some, idle_like, if_like, like_opened_quiet, like_satisfy, like_revoke, like_grant, like_yield, like_drained}
 use Rattle.ct_rules.specs.Frames

@@ -16,7 +16,7 @@ use Rattle.ct_rules.specs.declared.state.RecState.{RecState}
 use Rattle.ct_rules.specs.declared.state.Wish.{Wish}
 use Rattle.ct_law_world.specs.World.{sent, own_call, waiting_call, may_want}
 use Rattle.ct_law_fact.proofs.Rule
-use Rattle.ct_law_fact.proofs.Rule.{Kind, Copy, Node, Frame, Body, Out}
+use Rattle.ct_law_fact.proofs.Rule.{Copy, Node, Frame, Body, Out}
 use Rattle.ct_law_like.proofs.Likeness.{wish_of, body_of, out_of, mastered_like}
 use Rattle.ct_rules.specs.Frames
 use Rattle.ct_law_like.proofs.Likewise.{like_called, like_recalled, like_want}

@@ -10,7 +10,6 @@ use Rattle.ct_law_world.specs.Labels.{AcceptsAll}
 use Rattle.ct_law_world.specs.Marked.{is_removed, MarksHold}
 use Rattle.ct_law_world.specs.World.{Scene, World, Event, HasCopy, happens, trace, last}
 use Rattle.ct_law_fact.proofs.Rule
-use Rattle.ct_law_fact.proofs.Rule.{Copy}
 use Rattle.ct_law_like.proofs.Likeness.{copy_of}
 use Rattle.ct_law_fact.proofs.Invariant.{Ghost, Span, span_of, Past, Marking}
 use Rattle.ct_law_change.proofs.Markings.{mark_within, RunsOn}

@@ -14,7 +14,7 @@ use Rattle.ct_law_world.specs.World.{Mail, told, sent, own_call, waiting_call, m
 use Rattle.ct_law_world.specs.Labels as label
 use Rattle.ct_law_event.proofs.Leaving.{end_holds, leave_holds}
 use Rattle.ct_law_fact.proofs.Rule
-use Rattle.ct_law_fact.proofs.Rule.{Kind, Copy, Node, Frame, Body, Out}
+use Rattle.ct_law_fact.proofs.Rule.{Node, Frame}
 use Rattle.ct_law_like.proofs.Likeness.{copy_of, node_of, out_of, frame_of, frames_of, frames_append}
 use Rattle.ct_rules.specs.Frames
 use Rattle.ct_deleg.specs.Tracked.{others}

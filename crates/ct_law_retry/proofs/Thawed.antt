@@ -18,7 +18,7 @@ use Rattle.ct_rules.specs.declared.state.Wish.{Wish}
 use Rattle.ct_rules_node.specs.Node.{Node, Serving, db_at, state_at, is_present_in, is_present, is_among}
 use Rattle.ct_rules_node.specs.Turn.{Turn, does, notes, with_phase}
 use Rattle.ct_rules_node.specs.Records as node
-use Rattle.ct_rules_node.specs.Records.{put_back, acted, at_record, place_of}
+use Rattle.ct_rules_node.specs.Records.{acted, at_record, place_of}
 use Rattle.ct_rules_node.specs.Rounds.{Called, pending_calls, want_again_of, want_again, want_all, thaws}
 use Rattle.ct_rules_node.specs.Laws.{NodeAscends, left_by}
 use Rattle.ct_rules_node.proofs.Growing.{want_again_grows}

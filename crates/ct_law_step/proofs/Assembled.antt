@@ -14,11 +14,11 @@ use Rattle.ct_cluster.specs.Faults.{is_allowed, fault_of}
 use Rattle.ct_frame.specs.declared.event.Event.TheVariants as event
 use Rattle.ct_rules_node.specs.Turn.{Turn, begins, makes}
 use Rattle.ct_rules_node.specs.Steps as node_steps
-use Rattle.ct_rules_node.specs.Steps.{vacuums, arrives}
+use Rattle.ct_rules_node.specs.Steps.{vacuums}
 use Rattle.ct_cluster.specs.declared.step.PendingCall.{PendingCall}
 use Rattle.ct_cluster.specs.Steps.{Stepped, steps, steps_or, applied, done, drop, put}
 use Rattle.ct_cluster.specs.Traces as traces
-use Rattle.ct_cluster.specs.Traces.{ran_one, ran, after, idle, taken, line_labels, own_labels}
+use Rattle.ct_cluster.specs.Traces.{ran_one, idle, taken, line_labels, own_labels}
 use Rattle.ct_cluster.specs.declared.step.Step.{Step}
 use Rattle.ct_cluster.specs.declared.step.Step.TheVariants as step
 use Rattle.ct_cluster.specs.declared.step.StepFault.{StepFault}

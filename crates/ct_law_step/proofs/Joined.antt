@@ -11,7 +11,7 @@ use Rattle.ct_msg.specs.declared.config.Config.{Config}
 use Rattle.ct_frame.specs.declared.event.Event.TheVariants as event
 use Rattle.ct_call.specs.Rules.{Rules}
 use Rattle.ct_rules_node.specs.Clients as clients
-use Rattle.ct_rules_node.specs.Clients.{client, refusal, serves, serves_or, reads, wrong_kind, is_commit, is_read}
+use Rattle.ct_rules_node.specs.Clients.{client, refusal, serves, serves_or, reads, is_commit, is_read}
 use Rattle.ct_rules_node.specs.Databases.{read_pair}
 use Rattle.ct_rules_node.specs.Node as node
 use Rattle.ct_rules_node.specs.Node.{Node}

@@ -16,7 +16,7 @@ use Rattle.ct_rules_node.specs.Node.{state_at, has_records, is_persistent, kind_
 use Rattle.ct_rules_node.specs.Turn.{Turn, begins, makes}
 use Rattle.ct_rules_node.specs.Records.{out_of, acted, at_record, place_of}
 use Rattle.ct_rules_node.specs.Clients as clients
-use Rattle.ct_rules_node.specs.Clients.{refusal, serves, no_such_db}
+use Rattle.ct_rules_node.specs.Clients.{refusal, serves}
 use Rattle.ct_rules_node.specs.Laws.{left_by}
 use Rattle.ct_rules_node.specs.Steps as node_steps
 use Rattle.ct_cluster.specs.Cluster.{Cluster, is_up, node_at, pending}

@@ -14,7 +14,7 @@ use Rattle.ct_rules.specs.Form
 use Rattle.ct_rules.specs.declared.state.RecState.{RecState}
 use Rattle.ct_rules_node.specs.Admission.{record_in}
 use Rattle.ct_rules_node.specs.Node as node
-use Rattle.ct_rules_node.specs.Node.{Node, is_among}
+use Rattle.ct_rules_node.specs.Node.{is_among}
 use Rattle.ct_rules_node.specs.Rounds as rounds
 use Rattle.ct_rules_node.specs.Numbered
 use Rattle.ct_cluster.specs.Cluster as cluster
