@@ -1,6 +1,6 @@
 -- A change of the persistent side of one database: no record sees it, and what holds of the node stays.
 use Rattle.std.proofs.Common.{◌≡◌, ◌≢◌, ℕ, ◌+◌, ◌≤◌, Bool, true, false, cond, not, List, [], ◌∷◌, ◌++◌, length, Option, Some, None, refl, sym, ap, ◌∙◌, append-nil, arith, subst, ⊎_elim}
-use Rattle.std.specs.Prelude.{nat_eq, nat_lt, nat_le, slice_get, option_map}
+use Rattle.std.specs.Prelude.{nat_eq, nat_lt, nat_le}
 use Rattle.std.specs.List.{AllByRecursion}
 use Rattle.std.proofs.lemmas.Bool.{cond_both, cases_eq, eqb-true, eq-eqb, ltb-true, ltb-false}
 use Rattle.std.proofs.lemmas.List.{length-set}
@@ -10,9 +10,6 @@ use Rattle.ct_msg.specs.declared.client.ClientOp.{ClientOp}
 use Rattle.ct_msg.specs.declared.client.ClientOp.TheVariants as op
 use Rattle.ct_msg.specs.declared.client.Pair.{Pair}
 use Rattle.ct_msg.specs.declared.config.Config.{Config}
-use Rattle.ct_msg.specs.declared.config.DbDecl.{DbDecl}
-use Rattle.ct_msg.specs.declared.config.DbKind.{DbKind}
-use Rattle.ct_msg.specs.declared.config.DbKind.TheVariants.{Volatile, ReadOnly, Persistent}
 use Rattle.ct_frame.specs.declared.event.Out.{Out}
 use Rattle.ct_frame.specs.declared.event.Out.TheVariants as out
 use Rattle.ct_frame.specs.declared.frame.Msg.{Msg}
@@ -24,7 +21,7 @@ use Rattle.ct_persist.specs.Persisted.{updated}
 use Rattle.ct_persist.specs.Commits.{begun, is_last, acknowledged}
 use Rattle.ct_rules.specs.Parts.{want}
 use Rattle.ct_rules_node.specs.Laws.{AllAscend}
-use Rattle.ct_rules_node.specs.Node.{Node, Database, Committing, db_at, with_db, state_at, or_nothing, is_present_in, is_among}
+use Rattle.ct_rules_node.specs.Node.{Node, Database, Committing, db_at, with_db, state_at, or_nothing, is_present_in, is_among, is_persistent, kind_at}
 use Rattle.ct_rules_node.specs.Node as node
 use Rattle.ct_rules_node.specs.Turn.{Turn, begins, does, with_node, makes, answers, posts, posts_all}
 use Rattle.ct_rules_node.specs.Admission.{record_in}
@@ -39,8 +36,7 @@ use Rattle.ct_cluster.specs.Labels.{Label, Answered}
 use Rattle.ct_cluster.specs.Steps.{frames_of, put}
 use Rattle.ct_cluster.specs.Traces.{answered, sent_label}
 use Rattle.ct_cluster.specs.declared.step.PendingCall.{PendingCall}
-use Rattle.ct_register.specs.Laws.{is_persistent}
-use Rattle.ct_register.specs.Legal.{db_of, kind_at}
+use Rattle.ct_register.specs.Legal.{db_of}
 use Rattle.ct_promise.specs.Generation.{speaks_of_records, record_labels}
 use Rattle.ct_law_world.specs.World as law
 use Rattle.ct_law_world.specs.World.{View, Mail, World}
@@ -269,20 +265,10 @@ pack_beside c era rules who calls n pend sender db seq t h untold = pack_of_besi
 
 -- ---- what is told of it is left out
 
-decl_persistent : (d : Option DbDecl) → node.is_persistent (node.kind_in d) ≡ true → not (is_persistent (option_map (λ x. x.kind) d)) ≡ false
-unfolding node.is_persistent node.kind_in
-decl_persistent None e = absurd (cc)
-decl_persistent (Some d) e = of_kind d.kind e
-  where
-    of_kind : (k : DbKind) → node.is_persistent (Some k) ≡ true → not (is_persistent (Some k)) ≡ false
-    of_kind Volatile e = absurd (cc)
-    of_kind ReadOnly e = absurd (cc)
-    of_kind Persistent e = refl
-
 -- an answer to a call on a persistent database speaks of no record
 silent : (c : Config) (n : ℕ) (asked : ClientOp) (a : Answer) → node.is_persistent (node.kind_at c (db_of asked)) ≡ true → speaks_of_records c (Answered n asked a) ≡ false
-unfolding speaks_of_records node.kind_at kind_at
-silent c n asked a e = decl_persistent (slice_get c.dbs (db_of asked)) e
+unfolding speaks_of_records
+silent c n asked a e = ap not e
 
 left_out : (c : Config) (n : ℕ) (asked : ClientOp) (a : Answer) → node.is_persistent (node.kind_at c (db_of asked)) ≡ true → record_labels c (Answered n asked a ∷ []) ≡ []
 left_out c n asked a e = ap (λ (b : Bool). cond b (Answered n asked a ∷ []) []) (silent c n asked a e)

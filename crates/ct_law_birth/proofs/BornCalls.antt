@@ -12,12 +12,11 @@ use Rattle.ct_frame.specs.Fields.{ascends, ascends_after}
 use Rattle.ct_store.specs.Map.{Pairs, Ascends, key_cmp, look}
 use Rattle.ct_rules.specs.declared.state.RecState.{RecState}
 use Rattle.ct_rules.specs.declared.state.Wish.{Wish}
-use Rattle.ct_rules_node.specs.Node.{Node, Database, Committing, untouched, or_untouched, or_nothing, db_at, state_at, is_among}
+use Rattle.ct_rules_node.specs.Node.{Node, Database, Committing, untouched, or_untouched, or_nothing, db_at, state_at, is_among, has_records, kind_at}
 use Rattle.ct_rules_node.specs.Laws.{AllAscend}
 use Rattle.ct_rules_node.proofs.Numbered.{unnumbered}
 use Rattle.ct_cluster.specs.Cluster.{Cluster, node_at, or_absent, absent, wished, wished_in, committing, pending_in, pending_from, pending}
 use Rattle.ct_cluster.specs.declared.step.PendingCall.{PendingCall}
-use Rattle.ct_register.specs.Legal.{kind_at, is_of_records}
 use Rattle.ct_promise.specs.Born.{Rows, IsBornWith, WishIsSound}
 use Rattle.ct_law_shown.proofs.Wishing.{Wishful}
 use Rattle.ct_law_node.proofs.Pending.{Callers, Fits, Known, CommitFits, KnownAt, NodeKnown, none_known}
@@ -164,12 +163,12 @@ born_known config g members row w h n = record { order = each_ascends (node_at n
     order : (db : ℕ) → Ascends (db_at db (node_at n w)).records
     order db = by_test (is_among n members) (λ t. (h.born n t).maps db) (λ f. no_order _ ((h.left n f).records db))
 
-    sound : (db : ℕ) (key : List ℕ) → is_among n members ≡ true → is_of_records (kind_at config db) ≡ true → KnownAt (callers_in w) w.calls n db key (look key (db_at db (node_at n w)).records)
+    sound : (db : ℕ) (key : List ℕ) → is_among n members ≡ true → has_records (kind_at config db) ≡ true → KnownAt (callers_in w) w.calls n db key (look key (db_at db (node_at n w)).records)
     sound db key t of = known_at (callers_in w) w.calls n db (node_at n w).next key _ ((h.born n t).wishes db key of) (call_at (IsKnown (callers_in w) w.calls) w n db key (known_in config g members row w h))
 
     records : (db : ℕ) (key : List ℕ) → KnownAt (callers_in w) w.calls n db key (look key (db_at db (node_at n w)).records)
     records db key = by_test (is_among n members)
-        (λ t. by_test (is_of_records (kind_at config db))
+        (λ t. by_test (has_records (kind_at config db))
         (λ of. sound db key t of)
         (λ none. none_at (callers_in w) w.calls n db key _ ((h.born n t).others db none)))
         (λ f. none_at (callers_in w) w.calls n db key _ ((h.left n f).records db))

@@ -12,10 +12,9 @@ use Rattle.ct_rules.specs.declared.event.Place.{Place}
 use Rattle.ct_rules.specs.declared.state.Entry.{Entry}
 use Rattle.ct_rules.specs.declared.state.RecState.{RecState}
 use Rattle.ct_rules.specs.declared.state.Wish.{Wish}
-use Rattle.ct_rules_node.specs.Node.{db_at, is_among}
+use Rattle.ct_rules_node.specs.Node.{db_at, is_among, has_records, kind_at}
 use Rattle.ct_rules_node.specs.Rounds.{copy_from, entry_from, row_master, installed_state}
 use Rattle.ct_cluster.specs.Cluster.{Cluster, node_at}
-use Rattle.ct_register.specs.Legal.{kind_at, is_of_records}
 use Rattle.ct_promise.specs.Born.{Rows, IsLow, IsBornNode, IsBornWith, WishIsSound, born_state}
 use Rattle.ct_law_world.specs.World.{Scene, View, place}
 use Rattle.ct_law_shown.specs.Shown.{Era, scene, view}
@@ -114,7 +113,7 @@ born_formed s n next (Some x) wish low h some few =
 
 pub member_formed : (config : Config) (era : Era) (rules : Rules) (row : Rows) (w : Cluster) → IsBornWith config era.number era.members row w → (n : ℕ) → is_among n era.members ≡ true → (db : ℕ) (key : List ℕ) →
     Is_formed (scene config era rules db key) n (view db key (node_at n w))
-member_formed config era rules row w h n t db key = by_test (is_of_records (kind_at config db))
+member_formed config era rules row w h n t db key = by_test (has_records (kind_at config db))
     (λ of. subst (λ (v : View). Is_formed (scene config era rules db key) n v) (sym (member_view config era.number era.members row w h db key n t of))
     (born_formed (scene config era rules db key) n (numbers_in w n) (row db key) (wishes_in db key w n) (h.low db key) (b.wishes db key of) b.drawn b.limit))
     (λ none. subst (λ (v : View). Is_formed (scene config era rules db key) n v) (sym (empty_of n (b.others db none) (b.floors db)))

@@ -12,12 +12,11 @@ use Rattle.ct_call.specs.Rules.{Rules}
 use Rattle.ct_rules.specs.State.{nobody}
 use Rattle.ct_rules.specs.declared.state.RecState.{RecState}
 use Rattle.ct_rules.specs.declared.state.Wish.{Wish}
-use Rattle.ct_rules_node.specs.Node.{Node, db_at, state_at, master_of, or_zero, is_among}
+use Rattle.ct_rules_node.specs.Node.{Node, db_at, state_at, master_of, or_zero, is_among, has_records, kind_at}
 use Rattle.ct_rules_node.specs.Rounds.{row_master, or_nobody}
 use Rattle.ct_cluster.specs.Cluster.{Cluster, node_at}
 use Rattle.ct_register.specs.Register.{Register, reading, newborn}
 use Rattle.ct_register.specs.Lines.{Lines}
-use Rattle.ct_register.specs.Legal.{kind_at, is_of_records}
 use Rattle.ct_register.proofs.Small.{none_not_some, some_not_none}
 use Rattle.ct_promise.specs.Promises.{IsConfig}
 use Rattle.ct_promise.specs.Born.{Rows, IsBornWith, BornRegisters, WishIsSound, IsMastered, IsBirthOf}
@@ -93,7 +92,7 @@ born_drawn config g members row w h db key = record {
 }
   where
     inside : (n : ℕ) → is_among n members ≡ true → (v : Wish) → wishes_in db key w n ≡ Some v → v.request < numbers_in w n
-    inside n t v e = by_test (is_of_records (kind_at config db))
+    inside n t v e = by_test (has_records (kind_at config db))
         (λ of. drawn_wish db key (numbers_in w n) (wishes_in db key w n) v ((h.born n t).wishes db key of) e)
         (λ none. absurd (no_wish db key (node_at n w) v ((h.born n t).others db none) e))
 
@@ -131,8 +130,8 @@ birth_some (Some y) x vs e h = (let same : y ≡ x = cc in subst (λ (z : TableR
 -- it began with no version
 births_none : (config : Config) (w : Cluster) (g : ℕ) (members : List ℕ) (row : Rows) (r : Lines) → BornRegisters config w g members row r → (db : ℕ) (key : List ℕ) → HasNoRow config row db key → (r.records g db key).birth ≡ []
 births_none config w g members row r b db key no_row = ⊎_elim
-    (λ (a : (is_of_records (kind_at config db) ≡ true) × (row db key ≡ None)). birth_none (row db key) _ a.1 (b.births db key a.0))
-    (λ (none : is_of_records (kind_at config db) ≡ false). b.none db key none) no_row
+    (λ (a : (has_records (kind_at config db) ≡ true) × (row db key ≡ None)). birth_none (row db key) _ a.1 (b.births db key a.0))
+    (λ (none : has_records (kind_at config db) ≡ false). b.none db key none) no_row
 
 -- the register of a record without a row is as one that nothing was ever written to
 pub empty_register : (config : Config) (w : Cluster) (g : ℕ) (members : List ℕ) (row : Rows) (r : Lines) → BornRegisters config w g members row r → (db : ℕ) (key : List ℕ) → HasNoRow config row db key → r.records g db key ≡ newborn []
@@ -165,7 +164,7 @@ pub each_begins : (P : Scene → World → Register → Type 0) (config : Config
     ((s : Scene) (x : TableRow) (master : ℕ) (vs : List (List ℕ)) (seen number : ℕ → ℕ) (wish : ℕ → Option Wish) → Row_begins s x master vs seen number wish → P s (born s x (λ _. true) number wish) (record (newborn vs) { seen = seen })) →
     ((s : Scene) (number : ℕ → ℕ) (wish : ℕ → Option Wish) → list_all is_node s.members ≡ true → AreDrawn number wish → P s (bare (λ _. true) number wish) (newborn [])) →
     (db : ℕ) (key : List ℕ) → P (scene config era rules db key) (project era.number db key w) (r.records era.number db key)
-each_begins P config era rules row w r is h b with_row without db key = by_test (is_of_records (kind_at config db))
+each_begins P config era rules row w r is h b with_row without db key = by_test (has_records (kind_at config db))
     (λ of. either of (row db key) refl)
     (λ none. of_none (inr none))
   where
@@ -185,7 +184,7 @@ each_begins P config era rules row w r is h b with_row without db key = by_test 
     of_none no_row = subst (λ (x : World). P s x t) (sym (bare_world config era.number era.members row w h db key no_row))
         (subst (λ (q : Register). P s (bare (λ _. true) (numbers_in w) (wishes_in db key w)) q) (sym (empty_register config w era.number era.members row r b db key no_row)) (without s (numbers_in w) (wishes_in db key w) real drawn))
 
-    of_row : (x : TableRow) → is_of_records (kind_at config db) ≡ true → row db key ≡ Some x → P s (project era.number db key w) t
+    of_row : (x : TableRow) → has_records (kind_at config db) ≡ true → row db key ≡ Some x → P s (project era.number db key w) t
     of_row x of e =
         let m = row_named era.members x real (subst (λ (o : Option TableRow). IsMastered era.members o) e (h.mastered db key)) in
         subst (λ (y : World). P s y t) (sym (row_world config era rules row w h db key x of e))
@@ -200,7 +199,7 @@ each_begins P config era rules row w r is h b with_row without db key = by_test 
           drawn = drawn;
         })))
 
-    either : is_of_records (kind_at config db) ≡ true → (o : Option TableRow) → row db key ≡ o → P s (project era.number db key w) t
+    either : has_records (kind_at config db) ≡ true → (o : Option TableRow) → row db key ≡ o → P s (project era.number db key w) t
     either of None e = of_none (inl (of, e))
     either of (Some x) e = of_row x of e
 

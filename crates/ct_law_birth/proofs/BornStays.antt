@@ -1,5 +1,5 @@
 -- Where a generation began with rows, what stays of the cluster through the steps of one generation holds.
-use Rattle.std.proofs.Common.{◌≡◌, ℕ, ◌≤◌, true, List, [], ◌∷◌, None, sym, ◌∙◌, false, ap, Option, subst}
+use Rattle.std.proofs.Common.{◌≡◌, ℕ, ◌≤◌, true, List, [], ◌∷◌, None, sym, ◌∙◌, false, subst}
 use Rattle.std.specs.List.{AllByRecursion}
 use Rattle.ct_msg.specs.declared.config.Config.{Config}
 use Rattle.ct_call.specs.Rules.{Rules}
@@ -16,18 +16,14 @@ use Rattle.ct_law_birth.proofs.BornCalls.{callers_in, born_known}
 use Rattle.ct_law_birth.proofs.BornForms.{member_formed}
 use Rattle.ct_law_birth.proofs.BornNodes.{born_up, born_left, born_sent}
 use Rattle.ct_law_shown.proofs.Wishing.{Wishful, all_wishful}
-use Rattle.ct_register.specs.Legal.{is_of_records, kind_at}
-use Rattle.ct_rules_node.specs.Node as node
-use Rattle.ct_rules_node.specs.Node.{state_at, is_among}
-use Rattle.ct_register.proofs.Bridges.{same_records, same_kind}
-use Rattle.ct_msg.specs.declared.config.DbKind.{DbKind}
+use Rattle.ct_rules_node.specs.Node.{state_at, is_among, has_records, kind_at}
 use Rattle.ct_rules.specs.declared.state.RecState.{RecState}
 
 -- calls wait only for records of databases that have records: the others have no record
 born_waits : (config : Config) (era : Era) (row : Rows) (w : Cluster) → IsBornWith config era.number era.members row w → (n : ℕ) → is_among n era.members ≡ true → AllWishes (Of_records config) (node_at n w)
 unfolding Wishful
-born_waits config era row w h n t db key = by_test (is_of_records (kind_at config db))
-    (λ of. all_wishful (Of_records config db key) (state_at db key (node_at n w)).wish (λ call asked. sym (same_records (node.kind_at config db)) ∙ ap (λ (k : Option DbKind). is_of_records k) (sym (same_kind config db)) ∙ of))
+born_waits config era row w h n t db key = by_test (has_records (kind_at config db))
+    (λ of. all_wishful (Of_records config db key) (state_at db key (node_at n w)).wish (λ call asked. of))
     (λ none. subst (λ (s : RecState). Wishful (Of_records config db key) s.wish) (sym (state_none db key (node_at n w) ((h.born n t).others db none))) tt)
 
 born_node : (config : Config) (era : Era) (rules : Rules) (row : Rows) (w : Cluster) → era.thawed ≡ false → IsBornWith config era.number era.members row w → (n : ℕ) → is_among n era.members ≡ true → NodeStays config era rules (callers_in w) w.calls n (node_at n w)

@@ -11,10 +11,9 @@ use Rattle.ct_rules.specs.State.{nothing_kept}
 use Rattle.ct_rules.specs.declared.state.RecState.{RecState}
 use Rattle.ct_rules.specs.declared.state.Wish.{Wish}
 use Rattle.ct_rules_node.specs.Admission.{record_in}
-use Rattle.ct_rules_node.specs.Node.{Node, db_at, state_at, master_of, or_nothing, is_among}
+use Rattle.ct_rules_node.specs.Node.{Node, db_at, state_at, master_of, or_nothing, is_among, has_records, kind_at}
 use Rattle.ct_rules_node.specs.Rounds.{installed_state}
 use Rattle.ct_cluster.specs.Cluster.{Cluster, Sent, node_at, sent_at}
-use Rattle.ct_register.specs.Legal.{kind_at, is_of_records}
 use Rattle.ct_register.proofs.Small.{some_not_none}
 use Rattle.ct_promise.specs.Born as began
 use Rattle.ct_promise.specs.Born.{Rows, IsBornWith}
@@ -79,7 +78,7 @@ of_all P members inside outside n = by_test (is_among n members) (inside n) (out
 
 -- the view of a record at a member
 pub member_view : (config : Config) (g : ℕ) (members : List ℕ) (row : Rows) (w : Cluster) → IsBornWith config g members row w → (db : ℕ) (key : List ℕ) (n : ℕ) → is_among n members ≡ true →
-    is_of_records (kind_at config db) ≡ true →
+    has_records (kind_at config db) ≡ true →
     view db key (node_at n w) ≡ record { state = began.born_state n (master_of members key) (row db key) (wishes_in db key w n); next = numbers_in w n; floor = 0 }
 member_view config g members row w h db key n t of = (let b = h.born n t in seen_as db key (node_at n w) _ (b.records db key of) (b.floors db))
 
@@ -91,7 +90,7 @@ outside_view : (config : Config) (g : ℕ) (members : List ℕ) (row : Rows) (w 
     view db key (node_at n w) ≡ record { state = record nothing_kept { wish = wishes_in db key w n }; next = numbers_in w n; floor = 0 }
 outside_view config g members row w h db key n f = (let b = h.left n f in empty_view db key (node_at n w) (b.records db) (b.floors db))
 
-other_view : (config : Config) (g : ℕ) (members : List ℕ) (row : Rows) (w : Cluster) → IsBornWith config g members row w → (db : ℕ) (key : List ℕ) (n : ℕ) → is_of_records (kind_at config db) ≡ false →
+other_view : (config : Config) (g : ℕ) (members : List ℕ) (row : Rows) (w : Cluster) → IsBornWith config g members row w → (db : ℕ) (key : List ℕ) (n : ℕ) → has_records (kind_at config db) ≡ false →
     view db key (node_at n w) ≡ record { state = record nothing_kept { wish = wishes_in db key w n }; next = numbers_in w n; floor = 0 }
 other_view config g members row w h db key n none =
     of_all (λ (k : ℕ). view db key (node_at k w) ≡ record { state = record nothing_kept { wish = wishes_in db key w k }; next = numbers_in w k; floor = 0 }) members
@@ -106,7 +105,7 @@ same_world nodes views mail each none = λ i. record { nodes = λ n. each n i; j
 
 -- the record has a row: what members have of it is what the installation makes of that
 pub row_world : (config : Config) (era : Era) (rules : Rules) (row : Rows) (w : Cluster) → IsBornWith config era.number era.members row w → (db : ℕ) (key : List ℕ) (x : TableRow) →
-    is_of_records (kind_at config db) ≡ true → row db key ≡ Some x →
+    has_records (kind_at config db) ≡ true → row db key ≡ Some x →
     project era.number db key w ≡ born (scene config era rules db key) x (λ _. true) (numbers_in w) (wishes_in db key w)
 unfolding born_state began.born_state
 row_world config era rules row w h db key x of is =
@@ -131,15 +130,15 @@ row_world config era rules row w h db key x of is =
 
 -- nothing but calls is kept of the record: it has no row, or its database is none of records
 abbrev pub HasNoRow : Config → Rows → ℕ → List ℕ → Type 0
-HasNoRow config row db key = ((is_of_records (kind_at config db) ≡ true) × (row db key ≡ None)) ⊎ (is_of_records (kind_at config db) ≡ false)
+HasNoRow config row db key = ((has_records (kind_at config db) ≡ true) × (row db key ≡ None)) ⊎ (has_records (kind_at config db) ≡ false)
 
 pub bare_world : (config : Config) (g : ℕ) (members : List ℕ) (row : Rows) (w : Cluster) → IsBornWith config g members row w → (db : ℕ) (key : List ℕ) → HasNoRow config row db key →
     project g db key w ≡ bare (λ _. true) (numbers_in w) (wishes_in db key w)
 unfolding began.born_state
 bare_world config g members row w h db key no_row =
     same_world (λ n. view db key (node_at n w)) (λ n. record { state = record nothing_kept { wish = wishes_in db key w n }; next = numbers_in w n; floor = 0 }) (mails g db key w.sent)
-    (⊎_elim (λ (a : (is_of_records (kind_at config db) ≡ true) × (row db key ≡ None)). of_all (λ (n : ℕ). view db key (node_at n w) ≡ record { state = record nothing_kept { wish = wishes_in db key w n }; next = numbers_in w n; floor = 0 }) members
+    (⊎_elim (λ (a : (has_records (kind_at config db) ≡ true) × (row db key ≡ None)). of_all (λ (n : ℕ). view db key (node_at n w) ≡ record { state = record nothing_kept { wish = wishes_in db key w n }; next = numbers_in w n; floor = 0 }) members
     (λ n t. subst (λ (o : Option TableRow). view db key (node_at n w) ≡ record { state = began.born_state n (master_of members key) o (wishes_in db key w n); next = numbers_in w n; floor = 0 }) a.1 (member_view config g members row w h db key n t a.0))
     (λ n f. outside_view config g members row w h db key n f))
-    (λ (none : is_of_records (kind_at config db) ≡ false). λ n. other_view config g members row w h db key n none) no_row)
+    (λ (none : has_records (kind_at config db) ≡ false). λ n. other_view config g members row w h db key n none) no_row)
     (born_silent config g members row w h db key)

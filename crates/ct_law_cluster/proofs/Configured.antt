@@ -1,5 +1,5 @@
 -- What is known of a configuration, of the kind of a database, and of the reasons for which a call is refused.
-use Rattle.std.proofs.Common.{◌≡◌, ℕ, zero, suc, ◌+◌, ◌<◌, ◌≤◌, Bool, true, false, cond, List, [], ◌∷◌, length, Option, Some, None, refl, ap, ◌∙◌, arith, subst}
+use Rattle.std.proofs.Common.{◌≡◌, ℕ, zero, suc, ◌+◌, ◌<◌, ◌≤◌, Bool, true, false, cond, List, [], ◌∷◌, length, Option, Some, None, refl, ap, arith, subst}
 use Rattle.std.specs.Prelude.{nat_lt, is_none, ◌||◌}
 use Rattle.std.specs.List.{list_all}
 use Rattle.std.proofs.lemmas.Bool.{and_from, or_parts, ltb-false, lt-ltb}
@@ -19,12 +19,10 @@ use Rattle.ct_frame.specs.Fields.{is_db, is_node}
 use Rattle.ct_call.specs.Rules.{Rules}
 use Rattle.ct_rules.specs.declared.state.Wish.{Wish}
 use Rattle.ct_rules_node.specs.Node as node
-use Rattle.ct_rules_node.specs.Node.{Node}
+use Rattle.ct_rules_node.specs.Node.{Node, has_records}
 use Rattle.ct_rules_node.specs.Refusals.{refused_if, first_of}
 use Rattle.ct_rules_node.specs.Clients.{refusal, call_pending, pending_of, already_locked, not_locked, not_serving, commit_pending, no_such_call, full, no_such_db, wrong_kind, wants_record, db_of, key_of}
 use Rattle.ct_cluster.specs.Cluster.{numbers, everyone}
-use Rattle.ct_register.specs.Legal as legal
-use Rattle.ct_register.proofs.Bridges.{same_kind, same_records}
 use Rattle.ct_promise.specs.Promises.{IsConfig}
 use Rattle.ct_law_shown.specs.Shown.{is_telling}
 
@@ -68,10 +66,6 @@ pub all_small : (c : Config) → IsConfig c → (db : ℕ) → db < length c.dbs
 all_small c h db l = (let m = at_most_sixteen_dbs c h in lt-ltb db 16 (omega arith))
 
 -- ---- the kind of a database
-
--- a database whose records migrate is one of records for the registers
-pub of_records : (c : Config) (db : ℕ) → node.has_records (node.kind_at c db) ≡ true → legal.is_of_records (legal.kind_at c db) ≡ true
-of_records c db e = ap (λ (k : Option DbKind). legal.is_of_records k) (same_kind c db) ∙ same_records (node.kind_at c db) ∙ e
 
 -- one that is there and is not persistent has records
 pub has_kind : (k : Option DbKind) → is_none k ≡ false → node.is_persistent k ≡ false → node.has_records k ≡ true

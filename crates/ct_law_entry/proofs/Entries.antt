@@ -9,12 +9,11 @@ use Rattle.ct_store.proofs.Maps.{empty_ascends}
 use Rattle.ct_rules.specs.State.{nothing_kept}
 use Rattle.ct_rules.specs.declared.state.RecState.{RecState}
 use Rattle.ct_rules.specs.declared.state.Wish.{Wish}
-use Rattle.ct_rules_node.specs.Node.{Node, master_of, state_at, db_at, or_nothing, is_among}
+use Rattle.ct_rules_node.specs.Node.{Node, master_of, state_at, db_at, or_nothing, is_among, has_records, kind_at}
 use Rattle.ct_rules_node.specs.Rounds.{installed_state}
 use Rattle.ct_cluster.specs.Cluster.{Cluster, node_at}
 use Rattle.ct_cluster.specs.Cluster as cluster
 use Rattle.ct_register.specs.Lines.{Lines}
-use Rattle.ct_register.specs.Legal.{kind_at, is_of_records}
 use Rattle.ct_promise.specs.Born.{Rows, born_state, IsBornNode, HasLeft, IsBornWith}
 use Rattle.ct_law_world.specs.World.{World}
 use Rattle.ct_law_shown.specs.Shown.{Era}
@@ -47,10 +46,10 @@ unfolding db_at
 born_node_home config g members row n x h = record {
   order = all_ascend x.dbs h.maps;
   entry = λ db key ne. ⊎_elim
-      (λ (t : is_of_records (kind_at config db) ≡ true). ap (λ (s : RecState). s.entry) (h.records db key t)
+      (λ (t : has_records (kind_at config db) ≡ true). ap (λ (s : RecState). s.entry) (h.records db key t)
       ∙ born_none n (master_of members key) (row db key) (state_at db key x).wish (λ is. ne (is ∙ ap (λ (ms : List ℕ). master_of ms key) (sym h.knows))))
-      (λ (f : is_of_records (kind_at config db) ≡ false). no_records db key x (h.others db f))
-      (true_or_false (is_of_records (kind_at config db)));
+      (λ (f : has_records (kind_at config db) ≡ false). no_records db key x (h.others db f))
+      (true_or_false (has_records (kind_at config db)));
 }
 
 left_home : (n : ℕ) (x : Node) → HasLeft x → AtHome n (record { node = x; outs = []; spent = false })

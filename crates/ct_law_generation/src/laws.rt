@@ -1,5 +1,5 @@
 //! What holds of the records of one generation through every list of its steps: client calls, deliveries, losses, repeats,
-//! retries, vacuums, takeovers, marks of which nodes are able to hold addresses, and returns of the recovery lock, in every
+//! retries, vacuums, takeovers, changes of who is able to hold addresses, and returns of the recovery lock, in every
 //! order.
 ghost use Rattle.ct_promise.specs.Generation.{PromiseOfOneGeneration};
 ghost use Rattle.ct_promise.specs.Born.{PromiseFromRows};

@@ -18,8 +18,7 @@ use Rattle.ct_rules_node.specs.Admission.{record_in}
 use Rattle.ct_cluster.specs.Labels.{Label, Answered, Noted}
 use Rattle.ct_cluster.specs.Traces.{answered, sent_label}
 use Rattle.ct_cluster.specs.declared.step.PendingCall.{PendingCall}
-use Rattle.ct_register.specs.Laws.{is_persistent}
-use Rattle.ct_register.specs.Legal.{db_of, kind_at, is_of_records}
+use Rattle.ct_register.specs.Legal.{db_of}
 use Rattle.ct_register.specs.Lines.{Lines}
 use Rattle.ct_promise.specs.Generation.{speaks_of_records, is_note_of_records, record_labels}
 use Rattle.ct_law_world.specs.Labels as law
@@ -27,6 +26,7 @@ use Rattle.ct_law_world.specs.World.{told, answers, call_of}
 use Rattle.ct_law_shown.specs.Shown.{AllAsked, labels_of, Finds, IsOfLine, told_by, told_by_all}
 use Rattle.ct_law_shown.proofs.Hearing.{asked_right}
 use Rattle.ct_law_shown.proofs.Speaking.{Told, About}
+use Rattle.ct_rules_node.specs.Node.{has_records, is_persistent, kind_at}
 
 -- the label is of the line, and speaks of records
 pub record Is_kept (config : Config) (line : ℕ) (r : Lines) (x : Label) : Type 0 where
@@ -39,35 +39,35 @@ record_quiet n g (msg.Push members table ptables assigned) r e = absurd (cc)
 record_quiet n g (msg.Take number assigned) r e = absurd (cc)
 record_quiet n g _ r e = refl
 
-not_persistent : (k : Option DbKind) → is_of_records k ≡ true → not (is_persistent k) ≡ true
-unfolding is_of_records
+not_persistent : (k : Option DbKind) → has_records k ≡ true → not (is_persistent k) ≡ true
+unfolding has_records is_persistent
 not_persistent None e = absurd (cc)
 not_persistent (Some Volatile) e = refl
 not_persistent (Some ReadOnly) e = refl
 not_persistent (Some Persistent) e = absurd (cc)
 
-answer_kept : (config : Config) (line : ℕ) (r : Lines) (n : ℕ) (asked : ClientOp) (a : Answer) → r.line n ≡ line → is_of_records (kind_at config (db_of asked)) ≡ true → Is_kept config line r (Answered n asked a)
+answer_kept : (config : Config) (line : ℕ) (r : Lines) (n : ℕ) (asked : ClientOp) (a : Answer) → r.line n ≡ line → has_records (kind_at config (db_of asked)) ≡ true → Is_kept config line r (Answered n asked a)
 unfolding IsOfLine speaks_of_records
 answer_kept config line r n asked a l k = record { own = λ _. (l, k); speaks = not_persistent (kind_at config (db_of asked)) k }
 
-vacuum_kept : (config : Config) (line : ℕ) (r : Lines) (n db : ℕ) (key : List ℕ) → r.line n ≡ line → is_of_records (kind_at config db) ≡ true → Is_kept config line r (Noted n (note.Vacuumed db key))
+vacuum_kept : (config : Config) (line : ℕ) (r : Lines) (n db : ℕ) (key : List ℕ) → r.line n ≡ line → has_records (kind_at config db) ≡ true → Is_kept config line r (Noted n (note.Vacuumed db key))
 unfolding IsOfLine speaks_of_records is_note_of_records
 vacuum_kept config line r n db key l k = record { own = (l, k); speaks = refl }
 
-answered_kept : (config : Config) (line : ℕ) (r : Lines) (at : Place) (n call : ℕ) (a : Answer) (calls : List PendingCall) (asks : ℕ → Option ClientOp) (rest : List Label) (x : Option ClientOp) → asks call ≡ x → r.line n ≡ line → is_of_records (kind_at config at.db) ≡ true → Finds at.db at.key n calls asks →
+answered_kept : (config : Config) (line : ℕ) (r : Lines) (at : Place) (n call : ℕ) (a : Answer) (calls : List PendingCall) (asks : ℕ → Option ClientOp) (rest : List Label) (x : Option ClientOp) → asks call ≡ x → r.line n ≡ line → has_records (kind_at config at.db) ≡ true → Finds at.db at.key n calls asks →
     AllAsked (answers n x (act.Answer call a) ++ []) → AllByRecursion (Is_kept config line r) rest → AllByRecursion (Is_kept config line r) (answered call a calls ++ rest)
 unfolding answers AllAsked
 answered_kept config line r at n call a calls asks rest None e l k f h more = absurd h
 answered_kept config line r at n call a calls asks rest (Some asked) e l k f h more =
     subst (λ (ls : List Label). AllByRecursion (Is_kept config line r) (ls ++ rest)) (sym (f.found call asked e a))
-    (answer_kept config line r n asked a l (ap (λ (d : ℕ). is_of_records (kind_at config d)) (f.about call asked e).0 ∙ k), more)
+    (answer_kept config line r n asked a l (ap (λ (d : ℕ). has_records (kind_at config d)) (f.about call asked e).0 ∙ k), more)
 
 asked_first : (n : ℕ) (x : Option ClientOp) (call : ℕ) (a : Answer) (more : List law.Label) → AllAsked (answers n x (act.Answer call a) ++ more) → AllAsked (answers n x (act.Answer call a) ++ [])
 unfolding answers AllAsked
 asked_first n None call a more h = absurd h
 asked_first n (Some asked) call a more h = tt
 
-pub labels_kept : (config : Config) (line : ℕ) (r : Lines) (at : Place) (g n : ℕ) (calls : List PendingCall) (asks : ℕ → Option ClientOp) (xs : List Act) → r.line n ≡ line → is_of_records (kind_at config at.db) ≡ true → Told at xs → Finds at.db at.key n calls asks →
+pub labels_kept : (config : Config) (line : ℕ) (r : Lines) (at : Place) (g n : ℕ) (calls : List PendingCall) (asks : ℕ → Option ClientOp) (xs : List Act) → r.line n ≡ line → has_records (kind_at config at.db) ≡ true → Told at xs → Finds at.db at.key n calls asks →
     AllAsked (told n asks xs) → AllByRecursion (Is_kept config line r) (labels_of n calls (map (out_of g n at.db at.key) xs))
 unfolding told labels_of out_of call_of Told About
 labels_kept config line r at g n calls asks [] l k t f h = tt

@@ -13,11 +13,11 @@ use Rattle.ct_msg.specs.declared.config.Config.{Config}
 use Rattle.ct_frame.specs.declared.event.Note.TheVariants as note
 use Rattle.ct_call.specs.Rules.{Rules}
 use Rattle.ct_cluster.specs.Labels.{Label, Answered, Noted}
-use Rattle.ct_rules_node.specs.Node.{is_among}
+use Rattle.ct_rules_node.specs.Node.{is_among, has_records, kind_at}
 use Rattle.ct_register.specs.Register
 use Rattle.ct_register.specs.Register.{Register, AcceptsVacuum}
 use Rattle.ct_register.specs.Lines.{Lines, with_record}
-use Rattle.ct_register.specs.Legal.{db_of, key_of, is_of_records, kind_at, AtRecord, AcceptsAnswer, AcceptsThawed, AcceptsLabel, AcceptsLabels}
+use Rattle.ct_register.specs.Legal.{db_of, key_of, AtRecord, AcceptsAnswer, AcceptsThawed, AcceptsLabel, AcceptsLabels}
 use Rattle.ct_register.proofs.Places.{at_same, at_other, at_key_same, at_key_other}
 use Rattle.ct_law_world.specs.Labels.{AcceptsAll}
 use Rattle.ct_law_world.specs.Labels as law
@@ -70,7 +70,7 @@ answered config rules n (op.Read db key) (answer.Read v) r s e h = inl h
 answered config rules n asked a r s e h = h
 
 answer_accepted : (g : ℕ) (config : Config) (rules : Rules) (n : ℕ) (asked : ClientOp) (a : Answer) (r : Lines) (t : Register) → 1 ≤ g → is_telling a ≡ true →
-    r.line n ≡ g → is_of_records (kind_at config (db_of asked)) ≡ true → Register.Accepts rules n asked a (r.records g (db_of asked) (key_of asked)) t →
+    r.line n ≡ g → has_records (kind_at config (db_of asked)) ≡ true → Register.Accepts rules n asked a (r.records g (db_of asked) (key_of asked)) t →
     AcceptsAnswer config rules n asked a r (with_record (r.line n) (db_of asked) (key_of asked) t r)
 answer_accepted g config rules n asked a r t real e line kind h = answered config rules n asked a r _ e (
   (λ zero. absurd (omega arith)),
@@ -80,7 +80,7 @@ answer_accepted g config rules n asked a r t real e line kind h = answered confi
   refl,
 )
 
-vacuum_accepted : (g : ℕ) (config : Config) (n db : ℕ) (key : List ℕ) (r : Lines) (t : Register) → 1 ≤ g → r.line n ≡ g → is_of_records (kind_at config db) ≡ true →
+vacuum_accepted : (g : ℕ) (config : Config) (n db : ℕ) (key : List ℕ) (r : Lines) (t : Register) → 1 ≤ g → r.line n ≡ g → has_records (kind_at config db) ≡ true →
     AcceptsVacuum (r.records g db key) t → AtRecord config n db key AcceptsVacuum r (with_record (r.line n) db key t r)
 vacuum_accepted g config n db key r t real line kind h = ((λ zero. absurd (omega arith)), kind, t, subst (λ (l : ℕ). AcceptsVacuum (r.records l db key) t) (sym line) h, refl)
 
@@ -132,7 +132,7 @@ silent_alone true b e = absurd (cc)
 silent_alone false b e = refl
 
 told_answer : (g : ℕ) (config : Config) (rules : Rules) (n : ℕ) (asked : ClientOp) (a : Answer) (labels : List Label) (r : Lines) (t : ℕ → List ℕ → Register) → 1 ≤ g → is_telling a ≡ true →
-    r.line n ≡ g → is_of_records (kind_at config (db_of asked)) ≡ true → Each g rules r (Answered n asked a ∷ labels) t → Goes_on g config rules r (Answered n asked a) labels t
+    r.line n ≡ g → has_records (kind_at config (db_of asked)) ≡ true → Each g rules r (Answered n asked a ∷ labels) t → Goes_on g config rules r (Answered n asked a) labels t
 unfolding told_by_all told_by
 told_answer g config rules n asked a labels r t real e line kind h =
     let every : (db : ℕ) (key : List ℕ) → AcceptsAll rules (r.records g db key) (told_of (is_it db key (db_of asked) (key_of asked)) (law.Told n asked a) ++ told_by_all db key labels) (t db key)
@@ -155,7 +155,7 @@ silent_answer g config rules n asked a labels r t e h = (
 )
 
 told_vacuum : (g : ℕ) (config : Config) (rules : Rules) (n db : ℕ) (key : List ℕ) (labels : List Label) (r : Lines) (t : ℕ → List ℕ → Register) → 1 ≤ g →
-    r.line n ≡ g → is_of_records (kind_at config db) ≡ true → Each g rules r (Noted n (note.Vacuumed db key) ∷ labels) t → Goes_on g config rules r (Noted n (note.Vacuumed db key)) labels t
+    r.line n ≡ g → has_records (kind_at config db) ≡ true → Each g rules r (Noted n (note.Vacuumed db key) ∷ labels) t → Goes_on g config rules r (Noted n (note.Vacuumed db key)) labels t
 unfolding told_by_all told_by
 told_vacuum g config rules n db key labels r t real line kind h =
     let p = first_mid rules (is_it db key db key) (law.Vacuumed n) (told_by_all db key labels) _ _ (it_is_itself db key) (h db key) in (

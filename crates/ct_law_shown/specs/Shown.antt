@@ -10,14 +10,13 @@ use Rattle.ct_frame.specs.declared.event.Out.TheVariants as out
 use Rattle.ct_frame.specs.declared.event.Note.TheVariants as note
 use Rattle.ct_frame.specs.declared.frame.Frame.{Frame}
 use Rattle.ct_call.specs.Rules.{Rules}
-use Rattle.ct_rules_node.specs.Node.{Node, db_at, state_at, master_of, kind_at, is_readonly, is_among}
+use Rattle.ct_rules_node.specs.Node.{Node, db_at, state_at, master_of, kind_at, is_readonly, is_among, has_records}
 use Rattle.ct_rules_node.specs.Admission.{record_in}
 use Rattle.ct_cluster.specs.Cluster.{Cluster, Sent, node_at}
 use Rattle.ct_cluster.specs.Labels.{Label, Answered, Noted}
 use Rattle.ct_cluster.specs.Traces.{answered, sent_label}
 use Rattle.ct_cluster.specs.declared.step.PendingCall.{PendingCall}
 use Rattle.ct_register.specs.Legal.{db_of, key_of}
-use Rattle.ct_register.specs.Legal as legal
 use Rattle.ct_register.specs.Lines.{Lines}
 use Rattle.ct_law_world.specs.Labels as law
 use Rattle.ct_rules_node.specs.Turn.{Turn}
@@ -88,8 +87,8 @@ AllInstalled g r = (m : ℕ) → is_among m (r.members g) ≡ true → r.install
 -- The label is of records of nodes in line g: it is an answer or ends a vacuum. An answer that tells nothing may be of any
 -- database. Or a node serves in the line, which all have installed.
 unfoldable pub IsOfLine : Config → ℕ → Lines → Label → Type 0
-IsOfLine config g r (Answered n asked a) = is_telling a ≡ true → (r.line n ≡ g) × (legal.is_of_records (legal.kind_at config (db_of asked)) ≡ true)
-IsOfLine config g r (Noted n (note.Vacuumed db key)) = (r.line n ≡ g) × (legal.is_of_records (legal.kind_at config db) ≡ true)
+IsOfLine config g r (Answered n asked a) = is_telling a ≡ true → (r.line n ≡ g) × (has_records (kind_at config (db_of asked)) ≡ true)
+IsOfLine config g r (Noted n (note.Vacuumed db key)) = (r.line n ≡ g) × (has_records (kind_at config db) ≡ true)
 IsOfLine config g r (Noted n (note.Thawed h)) = (h ≡ g) × (r.line n ≡ g) × AllInstalled g r
 IsOfLine config g r _ = ⊥
 

@@ -38,7 +38,6 @@ use Rattle.ct_law_cluster.proofs.Admitted.{admits, may_lock, may_read, may_write
 use Rattle.ct_law_cluster.proofs.Served.{client_serves, call_kind, serves_lock, serves_read, serves_write, serves_apply, serves_store, serves_unlock}
 use Rattle.ct_law_beside.proofs.Committed.{commit_kind}
 use Rattle.ct_law_node.proofs.Lining.{Is_fit, kept_fit, labels_kept}
-use Rattle.ct_law_cluster.proofs.Configured.{of_records}
 use Rattle.ct_law_cluster.proofs.Fed.{fed_is}
 use Rattle.ct_law_step.proofs.Assembled.{Starts, Run_goes, Tells, client_turn}
 use Rattle.ct_law_cluster.proofs.Faulting.{runs}
@@ -59,7 +58,7 @@ event_kept c era rules reg who calls n db key e t pend asks w ev is inside kind 
     let f = fair c era rules who calls n db key e t pend asks w ev inside h k in
     let o = left_by c n db key (λ at o. move at rules e o) t in
     tells_more c era reg n pend t.outs (map (out_of t.node.generation n db key) o.acts) before
-    (kept_fit c era.number reg _ (labels_kept c era.number reg (place_of c n db key t.node) t.node.generation n pend asks o.acts (is.line n inside) (of_records c db kind) f.sends f.finds f.asked))
+    (kept_fit c era.number reg _ (labels_kept c era.number reg (place_of c n db key t.node) t.node.generation n pend asks o.acts (is.line n inside) kind f.sends f.finds f.asked))
 
 -- ---- what the call tells
 

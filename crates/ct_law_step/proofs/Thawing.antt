@@ -27,7 +27,6 @@ use Rattle.ct_law_retry.proofs.Thawed.{Thaws_from, Thaws_at, again_fair, again_g
 use Rattle.ct_law_step.proofs.Assembled.{Starts, Tells, Run_goes, pending_tells}
 use Rattle.ct_promise.specs.Generation.{speaks_of_records, is_note_of_records, record_labels}
 use Rattle.ct_law_retry.proofs.Retried.{AllInside}
-use Rattle.ct_law_cluster.proofs.Configured.{of_records}
 use Rattle.ct_law_step.proofs.Kept.{tells_more}
 use Rattle.ct_law_retry.proofs.Resending.{pending_inside}
 use Rattle.ct_cluster.specs.Steps.{Stepped, put}
@@ -60,7 +59,7 @@ again_kept c era rules reg who calls n db key pend w t is inside h k = either (s
     either (Some x) e =
         let f = again_fair c era rules who calls n db key pend w t is.era_is inside h k in
         kept_fit c era.number reg _ (labels_kept c era.number reg (place_of c n db key t.node) t.node.generation n pend (waiting_call (state_at db key t.node).wish) (left_by c n db key (want_again rules) t).acts
-        (is.line n inside) (of_records c db (known_wish (Of_records c db key) (state_at db key t.node).wish x e (h.waits db key))) f.sends f.finds f.asked)
+        (is.line n inside) (known_wish (Of_records c db key) (state_at db key t.node).wish x e (h.waits db key)) f.sends f.finds f.asked)
 
 again_tells : (c : Config) (era : Era) (rules : Rules) (reg : Lines) (who : Callers) (calls n db : ℕ) (key : List ℕ) (pend : List PendingCall) (w : World) (t : Turn) → Starts c era rules reg → is_among n era.members ≡ true → NodeStays c era rules who calls n t.node → Thaws_at c era rules n db key pend w t →
     Tells c era reg n pend t → Tells c era reg n pend (at_record c n db key (want_again rules) t)

@@ -87,7 +87,7 @@ starts v = begins v.state v.next v.floor
 abbrev pub peers : Scene → ℕ → List ℕ
 peers s n = others n s.members
 
--- the refusals of a call that wants the record: it wants it, none waits, and under the lock only a read comes
+-- may the call come? It wants the record, no other waits, and under the lock it is a read
 unfoldable pub may_want : RecState → ClientOp → Bool
 may_want s asked = is_wanting asked && is_none s.wish && (is_read_op asked || is_none s.locked)
 
@@ -100,7 +100,7 @@ unfoldable pub waiting_call : Option Wish → ℕ → Option ClientOp
 waiting_call None c = None
 waiting_call (Some w) c = own_call w.call w.op c
 
--- an answer, to a call that asked this
+-- what an act tells, where its call asked this: an answer, or that the record was vacuumed
 unfoldable pub answers : ℕ → Option ClientOp → Act → List Label
 answers n (Some asked) (act.Answer call a) = Told n asked a ∷ []
 answers n None (act.Answer call a) = Unasked n a ∷ []
@@ -216,7 +216,7 @@ abbrev pub StandsFor : Register → ℕ → (ℕ → ℕ) → ℕ → Option Rec
 StandsFor r deleted places n None = r.seen n ≤ deleted
 StandsFor r deleted places n (Some c) = (c.value ≡ reading (take (places c.header.rsn) r.versions)) × (r.seen n ≤ places c.header.rsn) × (deleted ≤ places c.header.rsn)
 
--- nothing seen is lost: places rise with the RSN, the deleted prefix has an empty reading, and each copy stands for all that
+-- nothing seen is lost: places never fall as the RSN rises, the deleted prefix has an empty reading, and each copy stands for all that
 -- its node has seen
 abbrev pub NothingIsLost : World → Register → Type 0
 NothingIsLost w r = (deleted : ℕ) × (places : ℕ → ℕ) × (reading (take deleted r.versions) ≡ []) × ((a b : ℕ) → a ≤ b → places a ≤ places b) ×

@@ -14,14 +14,13 @@ use Rattle.ct_rules.specs.Form
 use Rattle.ct_rules.specs.declared.state.RecState.{RecState}
 use Rattle.ct_rules_node.specs.Admission.{record_in}
 use Rattle.ct_rules_node.specs.Node as node
-use Rattle.ct_rules_node.specs.Node.{is_among}
+use Rattle.ct_rules_node.specs.Node.{is_among, has_records, kind_at, kind_in}
 use Rattle.ct_rules_node.specs.Rounds as rounds
 use Rattle.ct_rules_node.specs.Numbered
 use Rattle.ct_cluster.specs.Cluster as cluster
 use Rattle.ct_cluster.specs.Cluster.{Sent}
 use Rattle.ct_register.specs.Register
 use Rattle.ct_register.specs.Words
-use Rattle.ct_register.specs.Legal
 use Rattle.ct_register.proofs.Places.{of_two}
 use Rattle.ct_register.proofs.Small.{none_not_some}
 use Rattle.ct_promise.specs.Promises.{IsConfig}
@@ -87,8 +86,8 @@ sound_one (suc zero) key = at_one key
 sound_one (suc (suc db)) key = of_none 1 (suc (suc db)) 1 key
 
 -- a database that is none of records is not there
-others_of : (P : ℕ → Type 0) → ((db : ℕ) → P (suc (suc db))) → (db : ℕ) → Legal.is_of_records (Legal.kind_at config db) ≡ false → P db
-unfolding Legal.is_of_records Legal.kind_at
+others_of : (P : ℕ → Type 0) → ((db : ℕ) → P (suc (suc db))) → (db : ℕ) → has_records (kind_at config db) ≡ false → P db
+unfolding has_records kind_at kind_in
 others_of P far zero e = absurd (cc)
 others_of P far (suc zero) e = absurd (cc)
 others_of P far (suc (suc db)) e = far db

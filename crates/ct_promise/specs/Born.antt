@@ -11,14 +11,14 @@ use Rattle.ct_rules.specs.Form.{is_wanting}
 use Rattle.ct_rules.specs.declared.state.RecState.{RecState}
 use Rattle.ct_rules.specs.declared.state.Wish.{Wish}
 use Rattle.ct_rules_node.specs.Admission.{record_in}
-use Rattle.ct_rules_node.specs.Node.{Node, Lead, Nothing, Freezes, Pulls, Installs, Completed, is_present_in, master_of, db_at, state_at, is_among}
+use Rattle.ct_rules_node.specs.Node.{Node, Lead, Nothing, Freezes, Pulls, Installs, Completed, is_present_in, master_of, db_at, state_at, is_among, has_records, kind_at}
 use Rattle.ct_rules_node.specs.Rounds.{row_master, installed_state}
 use Rattle.ct_cluster.specs.Cluster.{Cluster, Sent, is_up, node_at, sent_at, pending}
 use Rattle.ct_cluster.specs.Traces.{ran}
 use Rattle.ct_cluster.specs.declared.step.Step.{Step}
 use Rattle.ct_register.specs.Register.{reading}
 use Rattle.ct_register.specs.Lines.{Lines}
-use Rattle.ct_register.specs.Legal.{kind_at, is_of_records, db_of, key_of}
+use Rattle.ct_register.specs.Legal.{db_of, key_of}
 use Rattle.ct_promise.specs.Promises.{IsConfig}
 use Rattle.ct_promise.specs.Generation.{is_of_one_generation, KeepsRecords}
 
@@ -79,11 +79,11 @@ pub record IsBornNode (config : Config) (g : ℕ) (members : List ℕ) (row : Ro
   pub floors : (db : ℕ) → (db_at db node).floor ≡ 0
   pub maps : (db : ℕ) → Ascends (db_at db node).records
   -- of each record it has what an installation makes of its row, and perhaps a wish
-  pub records : (db : ℕ) (key : List ℕ) → is_of_records (kind_at config db) ≡ true →
+  pub records : (db : ℕ) (key : List ℕ) → has_records (kind_at config db) ≡ true →
       state_at db key node ≡ born_state n (master_of members key) (row db key) (state_at db key node).wish
-  pub wishes : (db : ℕ) (key : List ℕ) → is_of_records (kind_at config db) ≡ true → WishIsSound db key node.next (state_at db key node).wish
+  pub wishes : (db : ℕ) (key : List ℕ) → has_records (kind_at config db) ≡ true → WishIsSound db key node.next (state_at db key node).wish
   -- and no record in a database that is none of records
-  pub others : (db : ℕ) → is_of_records (kind_at config db) ≡ false → (db_at db node).records ≡ []
+  pub others : (db : ℕ) → has_records (kind_at config db) ≡ false → (db_at db node).records ≡ []
 
 -- a node that is no member: it keeps nothing of any record, none of its commits waits, and request numbers begin at 1 or above
 pub record HasLeft (node : Node) : Type 0 where
@@ -130,8 +130,8 @@ pub record BornRegisters (config : Config) (w : Cluster) (g : ℕ) (members : Li
   pub installed : (n : ℕ) → is_among n members ≡ true → r.installed g n ≡ true
   -- the recovery lock is where the cluster has it
   pub holder : r.holder ≡ w.holder
-  pub births : (db : ℕ) (key : List ℕ) → is_of_records (kind_at config db) ≡ true → IsBirthOf (row db key) (r.records g db key).birth
-  pub none : (db : ℕ) (key : List ℕ) → is_of_records (kind_at config db) ≡ false → (r.records g db key).birth ≡ []
+  pub births : (db : ℕ) (key : List ℕ) → has_records (kind_at config db) ≡ true → IsBirthOf (row db key) (r.records g db key).birth
+  pub none : (db : ℕ) (key : List ℕ) → has_records (kind_at config db) ≡ false → (r.records g db key).birth ≡ []
   pub newborn : (db : ℕ) (key : List ℕ) → (r.records g db key).versions ≡ (r.records g db key).birth
   pub unowned : (db : ℕ) (key : List ℕ) → (r.records g db key).owner ≡ None
   pub seen : (n db : ℕ) (key : List ℕ) → is_among n members ≡ true → (r.records g db key).seen n ≡ length (r.records g db key).birth

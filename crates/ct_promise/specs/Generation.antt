@@ -10,12 +10,12 @@ use Rattle.ct_cluster.specs.Labels.{Label, Answered, Begun, Noted, Pushed, Takeo
 use Rattle.ct_cluster.specs.Traces.{Ran, ran}
 use Rattle.ct_cluster.specs.declared.step.Step.{Step}
 use Rattle.ct_cluster.specs.declared.step.Step.TheVariants as step
-use Rattle.ct_register.specs.Laws.{is_persistent}
 use Rattle.ct_register.specs.Lines
 use Rattle.ct_register.specs.Lines.{Lines}
-use Rattle.ct_register.specs.Legal.{kind_at, db_of, AcceptsLabels}
+use Rattle.ct_register.specs.Legal.{db_of, AcceptsLabels}
 use Rattle.ct_register.specs.Stands.{RecordsStand}
 use Rattle.ct_promise.specs.Promises.{IsConfig}
+use Rattle.ct_rules_node.specs.Node.{is_persistent, kind_at}
 
 -- Steps of one generation are all but stops, starts and recoveries.
 unfoldable pub is_of_one_generation : Step → Bool

@@ -21,8 +21,9 @@ use Rattle.ct_promise.specs.Marked.{LineMarks, no_marks, MarksHoldIn, MarksGoOnI
 
 -- ---- nothing that was seen is lost
 
--- An absent copy stands for the first `deleted` versions, and these are all that its node has seen. A present one stands for
--- those at the place of its RSN: it has their reading, and they are all that its node has seen, and the deleted ones.
+-- An absent copy stands for the first `deleted` versions, and its node has seen no more than these. A present one stands for
+-- those at the place of its RSN: it has their reading, its node has seen no more than these, and the deleted ones are among
+-- them.
 unfoldable pub StandsForSeen : Register → ℕ → (ℕ → ℕ) → ℕ → Option RecCopy → Type 0
 StandsForSeen r deleted place n None = r.seen n ≤ deleted
 StandsForSeen r deleted place n (Some c) = (c.value ≡ value_at (place c.header.rsn) r.versions) × (r.seen n ≤ place c.header.rsn) × (deleted ≤ place c.header.rsn)
@@ -48,8 +49,8 @@ pub record SeenUpTo (g db : ℕ) (key : List ℕ) (among : ℕ → Bool) (r : Li
 abbrev pub IsGreatest : ℕ → List ℕ → (ℕ → Bool) → Cluster → RecCopy → Type 0
 IsGreatest db key among w c = (n : ℕ) (d : RecCopy) → among n ≡ true → HasCopy w n db key d → d.header.rsn ≤ c.header.rsn
 
--- Of any nodes of line g, a copy of the greatest RSN has the reading of some first versions, and these are all that any of the
--- nodes has seen. Where none of them has a copy, there are such first versions with an empty reading.
+-- Of any nodes of line g, a copy of the greatest RSN has the reading of some first versions, and none of the nodes has seen
+-- more than these. Where none of them has a copy, there are such first versions with an empty reading.
 pub record HasParent (g db : ℕ) (key : List ℕ) (w : Cluster) (r : Lines) : Type 0 where
   pub some : (among : ℕ → Bool) → ((n : ℕ) → among n ≡ true → r.line n ≡ g) → (n : ℕ) (c : RecCopy) → among n ≡ true → HasCopy w n db key c → IsGreatest db key among w c →
       (p : ℕ) × (c.value ≡ value_at p (r.records g db key).versions) × SeenUpTo g db key among r p

@@ -3,4 +3,3 @@ pub mod Places
 pub mod Ways
 pub mod Formed
 pub mod Opened
-pub mod Bridges

@@ -3,11 +3,9 @@ use Rattle.std.proofs.Common.{◌≡◌, ℕ, true, false, List, [], ◌∷◌, 
 use Rattle.std.specs.Prelude.{◌≢◌, nat_eq, bytes_eq}
 use Rattle.std.proofs.lemmas.Bool.{cases_eq, cond_both, eq-eqb, ne_eqb}
 use Rattle.std.proofs.lemmas.Slice.Eq.{bytes_eq-Decides}
-use Rattle.ct_bytes.specs.declared.address.Address.{Address}
-use Rattle.ct_msg.specs.Config.{same_address}
 use Rattle.ct_rules_node.specs.Node.{is_among}
 use Rattle.ct_register.specs.Register.{Register}
-use Rattle.ct_register.specs.Words.{at, at_key, at_address}
+use Rattle.ct_register.specs.Words.{at, at_key}
 
 pub at_same : {X : Type 0} (n m : ℕ) (x : X) (f : ℕ → X) → m ≡ n → at n x f m ≡ x
 unfolding at
@@ -33,10 +31,6 @@ at_key_other key k x f ne = cond_both (bytes_eq k key) x (f k) (λ v. v ≡ f k)
 pub at_key_all : {X : Type 0} (P : X → Type 0) (key : List ℕ) (x : X) (f : List ℕ → X) → P x → ((k : List ℕ) → P (f k)) → (k : List ℕ) → P (at_key key x f k)
 unfolding at_key
 at_key_all P key x f new old k = cond_both (bytes_eq k key) x (f k) P (λ _. new) (λ _. old k)
-
-pub at_address_all : {X : Type 0} (P : X → Type 0) (a : Address) (x : X) (f : Address → X) → P x → ((b : Address) → P (f b)) → (b : Address) → P (at_address a x f b)
-unfolding at_address
-at_address_all P a x f new old b = cond_both (same_address b a) x (f b) P (λ _. new) (λ _. old b)
 
 -- what holds of 0 and 1 holds of both
 pub of_two : (P : ℕ → Type 0) → P 0 → P 1 → (m : ℕ) → is_among m (0 ∷ 1 ∷ []) ≡ true → P m

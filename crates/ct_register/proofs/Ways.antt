@@ -15,7 +15,7 @@ use Rattle.ct_frame.specs.declared.event.Note.TheVariants as note
 use Rattle.ct_frame.specs.declared.frame.Assigned.{Assigned}
 use Rattle.ct_call.specs.Rules.{Rules}
 use Rattle.ct_cluster.specs.Labels.{Label, Answered, Begun, Noted, Ticket, Yielded, Stopped, Started, Pushed, Takeover, Taken}
-use Rattle.ct_rules_node.specs.Node.{is_among}
+use Rattle.ct_rules_node.specs.Node.{is_among, is_persistent, kind_at}
 use Rattle.ct_register.specs.Words
 use Rattle.ct_register.specs.Register
 use Rattle.ct_register.specs.Register.{Register}
@@ -27,7 +27,7 @@ use Rattle.ct_register.specs.Lines
 use Rattle.ct_register.specs.Lines.{Lines, with_record, with_database, with_placing}
 use Rattle.ct_register.specs.Legal
 use Rattle.ct_register.specs.Legal.{AtRecord, AtDatabase, AtPlacing}
-use Rattle.ct_register.specs.Laws.{leaves_choice, is_persistent, GoOnInOneWay}
+use Rattle.ct_register.specs.Laws.{leaves_choice, GoOnInOneWay}
 
 -- ---- the one way, as a function
 
@@ -135,10 +135,11 @@ takeover_one members able x y p = p.2 ∙
       runs = Words.at (x.begun + 1) (Some (record { able = filter (λ n. is_among n members) able; given = given })) x.runs;
     }) (sym (ap or_none p.1))
 
-not_persistent : (config : Config) (db : ℕ) → is_persistent (Legal.kind_at config db) ≡ false → Legal.kind_at config db ≡ Some Persistent → ⊥
+not_persistent : (config : Config) (db : ℕ) → is_persistent (kind_at config db) ≡ false → kind_at config db ≡ Some Persistent → ⊥
+unfolding is_persistent
 not_persistent config db other is = absurd (let e : is_persistent (Some Persistent) ≡ false = subst (λ k. is_persistent k ≡ false) is other in cc)
 
-read_one : (config : Config) (rules : Rules) (n db : ℕ) (key v : List ℕ) (r s : Lines) → is_persistent (Legal.kind_at config db) ≡ false →
+read_one : (config : Config) (rules : Rules) (n db : ℕ) (key v : List ℕ) (r s : Lines) → is_persistent (kind_at config db) ≡ false →
     Legal.AcceptsAnswer config rules n (op.Read db key) (answer.Read v) r s → s ≡ at_record n db key (Register.seen_by n) r
 read_one config rules n db key v r s c p =
     let Step : Register → Register → Type 0 = Register.Accepts rules n (op.Read db key) (answer.Read v) in

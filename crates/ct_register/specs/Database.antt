@@ -63,7 +63,7 @@ AcceptsBegin n writes owner d e =
     (e ≡ record d { commits = d.commits ++ writes ∷ []; committer = Some n; seen = at n (length (d.commits ++ writes ∷ [])) d.seen })
 
 -- A commit of node n is answered, among these members. As committed: it is acknowledged, and every member has seen it. As
--- unsure: some members are missing, and the others have seen it. Either needs that it is the newest commit, is not
+-- unsure: some nodes are named as missing, and every member that is not has seen it. Either needs that it is the newest commit, is not
 -- acknowledged and has the number that is answered. No other answer is accepted.
 abbrev pub AcceptsCommit : List ℕ → ℕ → List Pair → Answer → Database → Database → Type 0
 AcceptsCommit members n writes (answer.Committed number) d e =

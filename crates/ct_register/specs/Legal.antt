@@ -1,6 +1,6 @@
 -- Which labels the registers accept, one after the other. Only what a birth takes over, and how many commits a read has
 -- seen, is left open.
-use Rattle.std.specs.Prelude.{◌≡◌, ◌≢◌, ◌⊎◌, ℕ, ◌+◌, ◌<◌, Bool, true, false, List, [], ◌∷◌, Option, None, Some, option_map, slice_get}
+use Rattle.std.specs.Prelude.{◌≡◌, ◌≢◌, ◌⊎◌, ℕ, ◌+◌, ◌<◌, true, false, List, [], ◌∷◌, Option, None, Some}
 use Rattle.ct_bytes.specs.declared.address.Address.{Address}
 use Rattle.ct_msg.specs.declared.client.Answer.{Answer}
 use Rattle.ct_msg.specs.declared.client.Answer.TheVariants as answer
@@ -8,14 +8,12 @@ use Rattle.ct_msg.specs.declared.client.ClientOp.{ClientOp}
 use Rattle.ct_msg.specs.declared.client.ClientOp.TheVariants as op
 use Rattle.ct_msg.specs.declared.client.Why.TheVariants as why
 use Rattle.ct_msg.specs.declared.config.Config.{Config}
-use Rattle.ct_msg.specs.declared.config.DbDecl.{DbDecl}
-use Rattle.ct_msg.specs.declared.config.DbKind.{DbKind}
-use Rattle.ct_msg.specs.declared.config.DbKind.TheVariants.{Volatile, ReadOnly, Persistent}
+use Rattle.ct_msg.specs.declared.config.DbKind.TheVariants.{Persistent}
 use Rattle.ct_frame.specs.declared.event.Note.{Note}
 use Rattle.ct_frame.specs.declared.event.Note.TheVariants as note
 use Rattle.ct_call.specs.Rules.{Rules}
 use Rattle.ct_cluster.specs.Labels.{Label, Answered, Begun, Noted, Ticket, Yielded, Stopped, Started, Pushed, Takeover, Taken}
-use Rattle.ct_rules_node.specs.Node.{is_among}
+use Rattle.ct_rules_node.specs.Node.{is_among, has_records, kind_at, name_of}
 use Rattle.ct_register.specs.Register
 use Rattle.ct_register.specs.Register.{Register, OwnedByNoOther, AcceptsEnd, AcceptsVacuum}
 use Rattle.ct_register.specs.Database
@@ -25,26 +23,6 @@ use Rattle.ct_register.specs.Lines.{Lines, with_record, with_database, with_plac
 use Rattle.ct_register.specs.Births.{Birth, PersistentBirth, born_of}
 
 -- ---- databases
-
--- what kind of database has this place, if one has
-unfoldable pub kind_at : Config → ℕ → Option DbKind
-kind_at config db = option_map (λ d. d.kind) (slice_get config.dbs db)
-
--- the name of a database, and no name where there is none
-unfoldable pub name_of : Option DbDecl → List ℕ
-name_of None = []
-name_of (Some d) = d.name
-
--- the name of the database in this place
-unfoldable pub name_at : Config → ℕ → List ℕ
-name_at config db = name_of (slice_get config.dbs db)
-
--- its records are kept one by one, and not as a whole
-unfoldable pub is_of_records : Option DbKind → Bool
-is_of_records None = false
-is_of_records (Some Volatile) = true
-is_of_records (Some ReadOnly) = true
-is_of_records (Some Persistent) = false
 
 -- the database of a request, and its key
 abbrev pub db_of : ClientOp → ℕ
@@ -71,7 +49,7 @@ key_of (op.Commit db writes) = []
 -- the node is in a line, and a record of it does this step
 abbrev pub AtRecord : Config → ℕ → ℕ → List ℕ → (Register → Register → Type 0) → Lines → Lines → Type 0
 AtRecord config n db key Step r s =
-    (r.line n ≢ 0) × (is_of_records (kind_at config db) ≡ true) ×
+    (r.line n ≢ 0) × (has_records (kind_at config db) ≡ true) ×
     (t : Register) × Step (r.records (r.line n) db key) t × (s ≡ with_record (r.line n) db key t r)
 
 -- the node is in a line, and a persistent database of it does this step
@@ -86,7 +64,7 @@ AtPlacing n Step r s = (r.line n ≢ 0) × (p : Placing) × Step (r.placing (r.l
 
 -- who owns the lock that a commit of this database needs: the record of its name in the database of locks, in a line
 abbrev pub lock_owner : Config → ℕ → ℕ → Lines → Option ℕ
-lock_owner config g db r = (r.records g 0 (name_at config db)).owner
+lock_owner config g db r = (r.records g 0 (name_of config db)).owner
 
 -- ---- answers
 

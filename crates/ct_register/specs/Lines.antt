@@ -5,7 +5,7 @@ use Rattle.ct_bytes.specs.declared.address.Address.{Address}
 use Rattle.ct_msg.specs.declared.config.Config.{Config}
 use Rattle.ct_register.specs.Words.{at, at_key, at_address}
 use Rattle.ct_register.specs.Register
-use Rattle.ct_register.specs.Register.{Register, joined_by, left_by}
+use Rattle.ct_register.specs.Register.{Register, owner_without, joined_by, left_by}
 use Rattle.ct_register.specs.Database
 use Rattle.ct_register.specs.Database.{Database}
 use Rattle.ct_register.specs.Placing.{Placing, nothing_placed}
@@ -84,11 +84,6 @@ joined g n r = record r {
   installed = at g (at n true (r.installed g)) r.installed;
 }
 
--- the recovery lock, unless this node holds it
-unfoldable pub holder_without : ℕ → Option ℕ → Option ℕ
-holder_without n None = None
-holder_without n (Some m) = if nat_eq m n then None else Some m
-
 -- node n stops: it leaves its line, in which alone it owned anything, and what it had seen there is forgotten. What it had
 -- seen in older lines is never asked for again, and what it had seen of persistent databases stays. It holds no address and
 -- no recovery lock.
@@ -97,7 +92,7 @@ stopped n r = record r {
   records = at (r.line n) (λ db key. left_by n (r.records (r.line n) db key)) r.records;
   line = at n 0 r.line;
   had = also_had n 0 r.had;
-  holder = holder_without n r.holder;
+  holder = owner_without n r.holder;
   held = at n (λ _. false) r.held;
 }
 

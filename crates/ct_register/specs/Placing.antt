@@ -1,11 +1,11 @@
 -- Where the addresses of one generation are placed: by its push, and then by its takeover runs.
-use Rattle.std.specs.Prelude.{◌≡◌, ℕ, ◌+◌, nat_eq, Bool, true, false, ◌&&◌, if◌then◌else◌, List, [], ◌∷◌, map, filter, Option, None, Some, is_some}
+use Rattle.std.specs.Prelude.{◌≡◌, ℕ, ◌+◌, nat_eq, Bool, true, false, ◌&&◌, List, filter, Option, None, Some, is_some}
 use Rattle.std.specs.List.{list_any}
 use Rattle.ct_bytes.specs.declared.address.Address.{Address}
 use Rattle.ct_msg.specs.Config.{same_address}
 use Rattle.ct_frame.specs.declared.frame.Assigned.{Assigned}
 use Rattle.ct_lcp2.specs.Placing.{placed}
-use Rattle.ct_rules_node.specs.Node.{is_among}
+use Rattle.ct_rules_node.specs.Node.{is_among, assigned_all}
 use Rattle.ct_register.specs.Words.{at}
 
 -- a takeover run: the members that are able, and the placement that it begins with
@@ -30,19 +30,10 @@ pub record Placing : Type 0 where
 abbrev pub nothing_placed : Placing
 nothing_placed = record { pushed = None; begun = 0; runs = λ _. None; taken = λ _. None; last = None }
 
--- the node that an address is assigned to
-unfoldable pub node_of : Address → List Assigned → Option ℕ
-node_of a [] = None
-node_of a (x ∷ xs) = if same_address a x.address then x.node else node_of a xs
-
--- each of the addresses, with the node that it is assigned to
-abbrev pub over : List Address → List Assigned → List Assigned
-over addresses given = map (λ a. record { address = a; node = node_of a given }) addresses
-
 -- what a run assigns, of all configured addresses: each address that has a node in the placement that LCP2 makes of the
 -- given one over the able members
 unfoldable pub take_list : List Address → Run → List Assigned
-take_list addresses run = filter (λ x. is_some x.node) (placed run.able (over addresses run.given))
+take_list addresses run = filter (λ x. is_some x.node) (placed run.able (assigned_all addresses run.given))
 
 -- the placement that the next run begins with: that of the last take, and of the push before any
 unfoldable pub given_placement : Option (List Assigned) → Option (List Assigned) → Option (List Assigned)

@@ -8,16 +8,15 @@ use Rattle.ct_msg.specs.declared.config.DbKind.TheVariants.{Persistent}
 use Rattle.ct_frame.specs.declared.header.RecCopy.{RecCopy}
 use Rattle.ct_persist.specs.Persisted.{Persisted}
 use Rattle.ct_rules.specs.State.{for_reading}
-use Rattle.ct_rules_node.specs.Node.{state_at, db_at}
+use Rattle.ct_rules_node.specs.Node.{state_at, db_at, kind_at, holder_in}
 use Rattle.ct_cluster.specs.Cluster as cluster
 use Rattle.ct_cluster.specs.Cluster.{Cluster, is_up, node_at}
 use Rattle.ct_register.specs.Register.{reading}
 use Rattle.ct_register.specs.Database.{Database, contents_after}
 use Rattle.ct_frame.specs.declared.frame.Assigned.{Assigned}
-use Rattle.ct_register.specs.Placing.{given_placement, node_of}
+use Rattle.ct_register.specs.Placing.{given_placement}
 use Rattle.ct_register.specs.Lines
 use Rattle.ct_register.specs.Lines.{Lines}
-use Rattle.ct_register.specs.Legal.{kind_at}
 
 -- a node has the number and the pairs of a database after its first j commits: all that are acknowledged, and all that the
 -- node has seen
@@ -66,7 +65,7 @@ pub record StandsFor (config : Config) (w : Cluster) (r : Lines) : Type 0 where
   pub holds : (n : ℕ) (a : Address) → is_up n w ≡ true → HoldsAddress w n a ↔ (r.held n a ≡ true)
   -- it holds an address only where the last take of its line assigns it, or the push before any take
   pub assigned : (n : ℕ) (a : Address) → is_up n w ≡ true → HoldsAddress w n a →
-      (xs : List Assigned) × (given_placement (r.placing (r.line n)).pushed (r.placing (r.line n)).last ≡ Some xs) × (node_of a xs ≡ Some n)
+      (xs : List Assigned) × (given_placement (r.placing (r.line n)).pushed (r.placing (r.line n)).last ≡ Some xs) × (holder_in a xs ≡ Some n)
   -- no two running nodes of one line hold the same address
   pub addresses : (n m : ℕ) (a : Address) → is_up n w ≡ true → is_up m w ≡ true → r.line n ≢ 0 → r.line m ≡ r.line n → HoldsAddress w n a → HoldsAddress w m a → m ≡ n
 

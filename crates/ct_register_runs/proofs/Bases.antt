@@ -5,7 +5,7 @@ use Rattle.std.proofs.lemmas.Bool.{cond_both}
 use Rattle.ct_msg.specs.declared.client.Answer.TheVariants as answer
 use Rattle.ct_persist.specs.Updates
 use Rattle.ct_persist.specs.Persisted
-use Rattle.ct_rules_node.specs.Node.{is_among}
+use Rattle.ct_rules_node.specs.Node.{is_among, has_records, kind_at, kind_in, name_in, name_of}
 use Rattle.ct_register.specs.Words
 use Rattle.ct_register.specs.Register
 use Rattle.ct_register.specs.Register.{Register}
@@ -103,7 +103,7 @@ unfolding kept_born kept_front ended_records locked_line locked Words.at Words.a
 kept_unowned = unowned_at 2 (λ db key. kept_born.records 2 db key) ended_records (λ db key. refl) ended_records_unowned
 
 pub unsure_may_be_kept : UnsureMayBeKept
-unfolding kept_born kept_front all_commits Words.at Words.at_key is_among Database.newest Database.all_seen Lines.also_had Register.reading Legal.kind_at Legal.name_of Legal.name_at Legal.is_of_records Updates.contents Persisted.written
+unfolding kept_born kept_front all_commits Words.at Words.at_key is_among Database.newest Database.all_seen Lines.also_had Register.reading kind_at kind_in name_in name_of has_records Updates.contents Persisted.written
 unsure_may_be_kept =
     (_, (_, (one_not_zero, refl, _, (refl, refl, refl), refl), (_, (one_not_zero, refl, _, (refl, refl, refl), refl), (_, (one_not_zero, refl, _, (record { begun = refl; newest = refl; unacknowledged = below_next 0; numbered = refl }, (λ e. cc), refl), refl), (_, (one_not_zero, refl, _, (refl, refl), refl), (_, (refl, tt, refl), (kept_born, ((λ _ _. 0), all_commits kept_front, kept_births, kept_persistent, refl), (Lines.joined 2 1 kept_born, (refl, refl, below_next 1, unowned_by 1 kept_born.records kept_unowned, refl), refl))))))), ((refl, refl, refl, refl), refl, refl))
 
@@ -140,6 +140,6 @@ unfolding lost_born lost_front ended_records locked_line locked Words.at Words.a
 lost_unowned = unowned_at 2 (λ db key. lost_born.records 2 db key) _ (λ db key. refl) (unowned_at 1 _ ended_records stopped_unowned ended_records_unowned)
 
 pub unsure_may_be_lost : UnsureMayBeLost
-unfolding lost_born lost_front Words.at Words.at_key is_among Database.newest Database.all_seen Lines.also_had Lines.holder_without Register.reading Legal.kind_at Legal.name_of Legal.name_at Legal.is_of_records Updates.contents Persisted.written
+unfolding lost_born lost_front Words.at Words.at_key is_among Database.newest Database.all_seen Lines.also_had Register.reading kind_at kind_in name_in name_of has_records Updates.contents Persisted.written Register.owner_without
 unsure_may_be_lost =
     (_, (_, (one_not_zero, refl, _, (refl, refl, refl), refl), (_, (one_not_zero, refl, _, (refl, refl, refl), refl), (_, (one_not_zero, refl, _, (record { begun = refl; newest = refl; unacknowledged = below_next 0; numbered = refl }, (λ e. cc), refl), refl), (_, (one_not_zero, refl, _, (refl, refl), refl), (_, refl, (_, (refl, tt, refl), (lost_born, ((λ _ _. 0), (λ _. 0), lost_births, lost_persistent, refl), (Lines.joined 2 1 lost_born, (refl, refl, below_next 1, unowned_by 1 lost_born.records lost_unowned, refl), refl)))))))), ((refl, refl, refl, refl), refl, refl))

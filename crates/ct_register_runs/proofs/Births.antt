@@ -1,7 +1,7 @@
 -- The runs that are legal, and what the registers show then: runs through a round.
 use Rattle.std.proofs.Common.{◌≡◌, ℕ, ◌≤◌, List, [], ◌∷◌, length, refl, inl}
 use Rattle.std.specs.Prelude.{None, true}
-use Rattle.ct_rules_node.specs.Node.{is_among}
+use Rattle.ct_rules_node.specs.Node.{is_among, has_records, kind_at, kind_in}
 use Rattle.ct_register.specs.Words
 use Rattle.ct_register.specs.Register
 use Rattle.ct_register.specs.Register.{Register}
@@ -63,7 +63,7 @@ unfolding kept_two kept_one kept_born kept_front Words.at
 kept_thawed = of_two (λ m. kept_two.installed 2 m ≡ true) refl refl
 
 pub round_keeps : RoundKeeps
-unfolding kept_two kept_one kept_born kept_front all_versions Words.at Words.at_key is_among Lines.also_had Register.reading Legal.kind_at Legal.is_of_records Births.birth_list Births.taken_over Births.unless_empty
+unfolding kept_two kept_one kept_born kept_front all_versions Words.at Words.at_key is_among Lines.also_had Register.reading kind_at kind_in has_records Births.birth_list Births.taken_over Births.unless_empty
 round_keeps =
     (_, (_, (one_not_zero, refl, _, (refl, refl), refl), (_, (refl, tt, refl), (kept_born, (all_versions kept_front, (λ db. 0), kept_births, kept_persistent, refl), (kept_one, (refl, refl, below_next 1, unowned_by 0 kept_born.records kept_unowned, refl), (kept_two, (refl, refl, below_next 1, unowned_by 1 kept_one.records kept_one_unowned, refl), (_, (two_not_zero, refl, kept_thawed, refl), (_, (two_not_zero, refl, kept_thawed, refl), (_, (two_not_zero, refl, _, (refl, refl, refl), refl), refl)))))))), (refl, refl, refl, refl))
 
@@ -91,7 +91,7 @@ lost_unowned =
     unowned_at 2 _ _ (λ db key. refl) (unowned_at 1 _ _ (everywhere_at (λ r. Register.owner_without 1 r.owner ≡ None) 1 a (wrote 1 x) (λ _ _. Register.newborn []) (nobody 1) (λ _ _. nobody 1)) (unowned_at 1 _ _ (everywhere_at (λ r. r.owner ≡ None) 1 a (wrote 1 x) (λ _ _. Register.newborn []) refl (λ _ _. refl)) (λ l db key. refl)))
 
 pub round_may_lose : RoundMayLose
-unfolding lost_born lost_front Words.at Words.at_key is_among Lines.also_had Lines.holder_without Register.reading Legal.kind_at Legal.is_of_records Births.birth_list Births.taken_over Births.unless_empty
+unfolding lost_born lost_front Words.at Words.at_key is_among Lines.also_had Register.reading kind_at kind_in has_records Births.birth_list Births.taken_over Births.unless_empty Register.owner_without
 round_may_lose =
     (_, (_, (one_not_zero, refl, _, (refl, refl), refl), (_, refl, (_, (refl, tt, refl), (lost_born, ((λ _ _. 0), (λ db. 0), lost_births, lost_persistent, refl), (Lines.joined 2 0 lost_born, (refl, refl, below_next 1, unowned_by 0 lost_born.records lost_unowned, refl), (_, (two_not_zero, refl, of_one (λ m. (Lines.joined 2 0 lost_born).installed 2 m ≡ true) 0 refl, refl), (_, inl (two_not_zero, refl, _, (tt, refl, refl), refl), refl))))))), (refl, refl, refl, refl))
 
@@ -110,6 +110,6 @@ unfolding empty_front is_among Words.at
 empty_persistent = persistent_births empty_front both (λ db. 0) 0 refl refl (λ db. nought 0) (λ db. nought 0) (λ db k is. nought 0)
 
 pub round_empties : RoundEmpties
-unfolding empty_front all_versions Words.at Words.at_key is_among Register.reading Legal.kind_at Legal.is_of_records Births.birth_list Births.taken_over Births.unless_empty
+unfolding empty_front all_versions Words.at Words.at_key is_among Register.reading kind_at kind_in has_records Births.birth_list Births.taken_over Births.unless_empty
 round_empties =
     (_, (_, (one_not_zero, refl, _, (refl, refl), refl), (_, (refl, tt, refl), (Births.born_of 2 1 (all_versions empty_front) 1 (λ db. 0) empty_front, (all_versions empty_front, (λ db. 0), empty_births, empty_persistent, refl), refl))), (refl, refl, refl, refl))

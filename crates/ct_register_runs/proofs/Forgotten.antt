@@ -9,7 +9,7 @@ use Rattle.ct_store.specs.Map.{Pairs, look}
 use Rattle.ct_persist.specs.Updates
 use Rattle.ct_persist.specs.Persisted
 use Rattle.ct_cluster.specs.Labels.{Label, Noted, Ticket, Stopped}
-use Rattle.ct_rules_node.specs.Node.{is_among}
+use Rattle.ct_rules_node.specs.Node.{is_among, has_records, kind_at, kind_in, is_persistent}
 use Rattle.ct_register.specs.Words
 use Rattle.ct_register.specs.Register
 use Rattle.ct_register.specs.Database
@@ -95,12 +95,12 @@ reads_reading n v r s h = (read_of_record n v r s h).3.1
 
 -- a read of the persistent database, which is not one of a record
 read_of_database : (n : ℕ) (v : List ℕ) (r s : Lines) → Legal.AcceptsLabel config functions r (reads_database n v) s → Legal.AtDatabase config n 2 (Database.AcceptsRead n a v) r s
-unfolding Legal.kind_at Legal.is_of_records
+unfolding kind_at kind_in has_records
 read_of_database n v r s h = ⊎_elim (λ (p : Legal.AtRecord config n 2 a (Register.Accepts functions n (op.Read 2 a) (answer.Read v)) r s). (let e : false ≡ true = p.1 in absurd (cc)))
     (λ (p : Legal.AtDatabase config n 2 (Database.AcceptsRead n a v) r s). p) h
 
 pub round_forgets : RoundForgets
-unfolding Words.at Words.at_key is_among Births.birth_list Legal.kind_at
+unfolding Words.at Words.at_key is_among Births.birth_list kind_at kind_in has_records is_persistent
 round_forgets s = through_round (writes 0 x ∷ reads 1 x ∷ Stopped 0 ∷ Ticket 2 1 (1 ∷ []) ∷ []) 1 (1 ∷ []) 1 1 (installs 1 ∷ thaws 1 ∷ []) (reads 1 [] ∷ []) s refl refl (λ counts kept b d h.
     (let lost : [] ≡ Register.reading (Births.taken_over (counts 1 a) (x ∷ [])) = reads_reading 1 [] (born_after (writes 0 x ∷ reads 1 x ∷ Stopped 0 ∷ Ticket 2 1 (1 ∷ []) ∷ []) 1 1 (installs 1 ∷ thaws 1 ∷ []) counts kept) h.0 h.1 in
     let count : counts 1 a ≡ 1 = one (counts 1 a) (b.seen 1 1 a one_not_zero refl refl) (b.within 1 a one_not_zero) in

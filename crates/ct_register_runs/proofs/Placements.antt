@@ -7,7 +7,7 @@ use Rattle.ct_lcp2.specs.Best
 use Rattle.ct_lcp2.specs.Distance
 use Rattle.ct_lcp2.specs.Placing as lcp2
 use Rattle.ct_cluster.specs.Labels.{Ticket}
-use Rattle.ct_rules_node.specs.Node.{is_among}
+use Rattle.ct_rules_node.specs.Node.{is_among, holder_in, assigned_all}
 use Rattle.ct_register.specs.Words
 use Rattle.ct_register.specs.Register
 use Rattle.ct_register.specs.Placing
@@ -22,13 +22,8 @@ use Rattle.ct_register_runs.specs.Runs.{config, both, first_at_zero, one_each, b
 
 -- what LCP2 makes of the first address at node 0 and the second at none
 pub placed_once : Placing.take_list config.addresses (record { able = both; given = first_at_zero }) ≡ one_each
-unfolding Placing.take_list Placing.node_of lcp2.placement lcp2.held lcp2.repeated lcp2.moves_away lcp2.places_at lcp2.places lcp2.homeless lcp2.failbacks_of lcp2.failbacks lcp2.sources lcp2.total Best.best_from Distance.agreed Distance.sum_to Distance.imbalance
+unfolding Placing.take_list holder_in assigned_all lcp2.placement lcp2.held lcp2.repeated lcp2.moves_away lcp2.places_at lcp2.places lcp2.homeless lcp2.failbacks_of lcp2.failbacks lcp2.sources lcp2.total Best.best_from Distance.agreed Distance.sum_to Distance.imbalance
 placed_once = refl
-
--- what it makes of that where node 1 alone is able
-placed_twice : Placing.take_list config.addresses (record { able = 1 ∷ []; given = one_each }) ≡ both_at_one
-unfolding Placing.take_list Placing.node_of lcp2.placement lcp2.held lcp2.repeated lcp2.moves_away lcp2.places_at lcp2.places lcp2.homeless lcp2.failbacks_of lcp2.failbacks lcp2.sources lcp2.total Best.best_from Distance.agreed Distance.sum_to Distance.imbalance
-placed_twice = refl
 
 -- ---- the run
 

@@ -15,6 +15,7 @@ use Rattle.ct_register_runs.specs.Refused.{SecondLock, OldRead, ReadUnderLock, W
 use Rattle.ct_register.proofs.Ways
 use Rattle.ct_register.proofs.Ways.{labels_after, refused_after}
 use Rattle.ct_register.proofs.Small.{some_not_none, none_not_some, not_below}
+use Rattle.ct_rules_node.specs.Node.{kind_at, kind_in, name_in, name_of}
 
 -- these labels come first, and the rest is refused then
 pub from_opening : (front rest : List Label) (s : Lines) → Ways.leave_no_choice config front ≡ true → (Legal.AcceptsLabels config functions (labels_after front (Lines.opening config)) rest s → ⊥) → Legal.Legal config functions (front ++ rest) s → ⊥
@@ -22,7 +23,7 @@ from_opening front rest s no_choice refused = refused_after config functions fro
 
 -- a read of a record, of a database that is not persistent
 pub read_of_record : (n : ℕ) (v : List ℕ) (r s : Lines) → Legal.AcceptsLabel config functions r (reads n v) s → Legal.AtRecord config n 1 a (Register.Accepts functions n (op.Read 1 a) (answer.Read v)) r s
-unfolding Legal.kind_at
+unfolding kind_at kind_in
 read_of_record n v r s h = ⊎_elim (λ (p : Legal.AtRecord config n 1 a (Register.Accepts functions n (op.Read 1 a) (answer.Read v)) r s). p)
     (λ (p : Legal.AtDatabase config n 1 (Database.AcceptsRead n a v) r s). (let e = p.1 in absurd (cc))) h
 
@@ -31,11 +32,11 @@ unfolding Words.at Words.at_key
 second_lock s = from_opening (locks 0 [] ∷ []) (locks 1 [] ∷ []) s refl (λ h. some_not_none h.1.3.0)
 
 pub old_read : OldRead
-unfolding Words.at Words.at_key Register.reading Legal.kind_at
+unfolding Words.at Words.at_key Register.reading kind_at kind_in
 old_read s = from_opening (writes 0 x ∷ []) (reads 1 [] ∷ []) s refl (λ h. (let e : [] ≡ x = (read_of_record _ _ _ _ h.1).3.1 in absurd (cc)))
 
 pub read_under_lock : ReadUnderLock
-unfolding Words.at Words.at_key Legal.kind_at
+unfolding Words.at Words.at_key kind_at kind_in
 read_under_lock s = from_opening (locks 0 [] ∷ []) (reads 1 [] ∷ []) s refl (λ h. (let e : ◌≡◌ {A = ℕ} 0 1 = (read_of_record _ _ _ _ h.1).3.0 in absurd (cc)))
 
 pub write_under_lock : WriteUnderLock
@@ -59,11 +60,11 @@ unfolding Words.at Words.at_key Register.reading
 vacuum_of_value s = from_opening (writes 0 x ∷ []) (vacuums 1 ∷ []) s refl (λ h. (let e : x ≡ [] = h.1.3.1 in absurd (cc)))
 
 pub read_after_stop : ReadAfterStop
-unfolding Words.at Legal.kind_at
+unfolding Words.at kind_at kind_in
 read_after_stop s = from_opening (Stopped 0 ∷ []) (reads 0 [] ∷ []) s refl (λ h. (read_of_record _ _ _ _ h.1).0 refl)
 
 pub commit_unlocked : CommitUnlocked
-unfolding Legal.name_at Legal.name_of
+unfolding name_of name_in
 commit_unlocked s h = none_not_some h.1.3.0
 
 pub commit_beside_another : CommitBesideAnother

@@ -168,12 +168,12 @@ abbrev pub TicketsCount : Type 0
 TicketsCount =
     Reaches (Ticket 2 0 both ∷ Ticket 3 0 both ∷ Yielded 0 ∷ Ticket 4 1 both ∷ Stopped 1 ∷ Ticket 5 0 both ∷ []) (λ s. (s.last ≡ 5) × (s.holder ≡ Some 0))
 
--- a round takes over what was written; its members have seen that
+-- a round may take over what was written; its members have seen that then
 abbrev pub RoundKeeps : Type 0
 RoundKeeps = Reaches (writes 0 x ∷ Ticket 2 1 both ∷ round 1 both ∷ installs 0 ∷ installs 1 ∷ thaws 0 ∷ thaws 1 ∷ locks 0 x ∷ []) (λ s.
     Shows (x ∷ []) (Some 0) 1 1 (s.records 2 1 a))
 
--- a round takes over nothing of a record whose reading is empty
+-- a round may take over nothing of a record whose reading is empty
 abbrev pub RoundEmpties : Type 0
 RoundEmpties = Reaches (writes 0 [] ∷ Ticket 2 1 both ∷ round 1 both ∷ []) (λ s. Shows [] None 0 0 (s.records 2 1 a))
 
@@ -181,7 +181,7 @@ RoundEmpties = Reaches (writes 0 [] ∷ Ticket 2 1 both ∷ round 1 both ∷ [])
 abbrev pub RoundMayLose : Type 0
 RoundMayLose = Reaches (writes 1 x ∷ Stopped 1 ∷ Ticket 2 0 (0 ∷ []) ∷ round 0 (0 ∷ []) ∷ installs 0 ∷ thaws 0 ∷ reads 0 [] ∷ []) (λ s. Shows [] None 0 0 (s.records 2 1 a))
 
--- a commit may be read before it is acknowledged, or not yet, and must be read after that
+-- a commit may be read before it is acknowledged, or not yet, and is read after that
 abbrev pub CommitIsRead : Type 0
 CommitIsRead =
     Reaches (locks_database 0 ∷ begins 0 ∷ reads_database 1 [] ∷ reads_database 0 x ∷ commits 0 1 ∷ reads_database 1 x ∷ []) (λ s. Counts 1 1 1 1 (s.databases 1 2))

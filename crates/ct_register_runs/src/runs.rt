@@ -25,7 +25,7 @@ pub fn tickets()
     ensures { TicketsCount }
 {}
 
-/// A round takes over what was written, but for empty values. It may lose what nobody saw who is there.
+/// A round may take over what was written, but for empty values. It may lose what nobody saw who is there.
 pub fn rounds()
     ensures round_keeps { RoundKeeps }
     ensures round_empties { RoundEmpties }

@@ -53,7 +53,7 @@ is_wanting (op.Write db key v) = true
 is_wanting (op.Apply db key f arg) = true
 is_wanting _ = false
 
--- the operation of a wish wants the record; no wish is none that does not
+-- does the operation of a wish want the record? So it is where there is no wish
 unfoldable pub wants_record : Option Wish → Bool
 wants_record None = true
 wants_record (Some w) = is_wanting w.op

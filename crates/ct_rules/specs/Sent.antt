@@ -21,7 +21,7 @@ is_sound me (act.Send receiver m) = is_message me m
 is_sound me (act.Answer call answer) = true
 is_sound me (act.Finished floor) = true
 
--- a request, and a recall, that waits is of a node
+-- a request that waits is of a node
 unfoldable pub is_of_node : Waiter → Bool
 is_of_node w = is_node w.node
 

@@ -29,8 +29,8 @@ pub fn reads_no_names()
     ensures { ReadsNoNames }
 {}
 
-/// What a node sends about a record keeps the rules of its fields, and so may come to its receiver, where the state was in
-/// form, what came kept them too, and all that waits is of nodes. This stays so.
+/// What a node sends about a record keeps the rules of its fields, where the state was in form, what came kept them too,
+/// and all that waits is of nodes. This stays so.
 pub fn sends_sound()
     ensures { SendsSound }
 {}

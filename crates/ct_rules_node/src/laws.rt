@@ -18,7 +18,7 @@ pub fn tells_each()
 {}
 
 /// A step at one record leaves there what the rule of the record says, unless that is blank, and leaves all others alone. A
-/// blank state in form is the one in which nothing is kept.
+/// blank state in form, with tracking at the holder alone, is the one in which nothing is kept.
 pub fn moves_one()
     ensures one { MovesOne }
     ensures blank { BlankIsNothing }

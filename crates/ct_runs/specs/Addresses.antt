@@ -70,7 +70,7 @@ Takeover = Prints (record { nodes = 2; dbs = lock_db ∷ []; addresses = V4 1677
     []
     )
 
--- an address leaves a node that is not able, and fails back
+-- an address leaves a node that is not able; once that is able again, another one moves to it
 abbrev pub Failback : Type 0
 Failback = Prints (record { nodes = 2; dbs = lock_db ∷ []; addresses = V4 167772161 ∷ V4 167772162 ∷ [] }) (
     step.Recover 0 (0 ∷ 1 ∷ []) ∷

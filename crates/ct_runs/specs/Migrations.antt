@@ -77,7 +77,7 @@ RecordMoves = Prints (record { nodes = 3; dbs = lock_db ∷ a_db (codes "t") Vol
     []
     )
 
--- a pass that comes again changes nothing, and a record that nobody wishes for any more is refused and kept
+-- a pass that comes again changes nothing, and a record that nobody wishes for any more is refused
 abbrev pub RepeatedPass : Type 0
 RepeatedPass = Prints (record { nodes = 3; dbs = lock_db ∷ a_db (codes "t") Volatile ∷ []; addresses = [] }) (
     step.Client 0 (op.Lock 1 (codes "a")) ∷

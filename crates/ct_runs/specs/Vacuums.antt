@@ -11,7 +11,7 @@ use Rattle.ct_runs.specs.Examples.{Prints, a_db, sent}
 use Rattle.ct_cluster.specs.declared.step.Line.TheVariants as line
 use Rattle.ct_cluster.specs.declared.step.Step.TheVariants as step
 
--- a deleted record is vacuumed in two phases, and made anew under a greater RSN
+-- a deleted record is vacuumed in two phases, and can be locked anew
 abbrev pub VacuumThenRecreate : Type 0
 VacuumThenRecreate = Prints (record { nodes = 3; dbs = lock_db ∷ a_db (codes "t") Volatile ∷ []; addresses = [] }) (
     step.Client 0 (op.Lock 1 (codes "a")) ∷

@@ -21,7 +21,7 @@ pub fn record_moves()
     ensures { RecordMoves }
 {}
 
-/// A pass that comes again changes nothing, and a record that nobody wishes for any more is refused and kept.
+/// A pass that comes again changes nothing, and a record that nobody wishes for any more is refused.
 pub fn repeated_pass()
     ensures { RepeatedPass }
 {}
@@ -51,7 +51,7 @@ pub fn late_grant()
     ensures { LateGrant }
 {}
 
-/// A deleted record is vacuumed in two phases, and made anew under a greater RSN.
+/// A deleted record is vacuumed in two phases, and can be locked anew.
 pub fn vacuum_then_recreate()
     ensures { VacuumThenRecreate }
 {}
@@ -121,7 +121,7 @@ pub fn takeover()
     ensures { Takeover }
 {}
 
-/// An address leaves a node that is not able, and fails back.
+/// An address leaves a node that is not able; once that is able again, another one moves to it.
 pub fn failback()
     ensures { Failback }
 {}
