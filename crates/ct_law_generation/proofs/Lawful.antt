@@ -89,10 +89,9 @@ born_lives config g members rules row w r is h b = record {
 }
 
 pub law_from_rows : LawFromRows
-law_from_rows config rules g members row w r steps is h b all = (
-  marks_of_all (λ db key. (born_ghosts config g members rules row w r is h b db key).0),
-  runs_from config (era_from g members w) rules w r (λ db key. (born_ghosts config g members rules row w r is h b db key).0) steps (born_is_generation config g members row w is h) all (born_lives config g members rules row w r is h b),
-)
+law_from_rows config rules g members row w r is h b =
+    let ghosts : Ghosts = λ db key. (born_ghosts config g members rules row w r is h b db key).0 in
+    (marks_of_all ghosts, λ steps all. runs_from config (era_from g members w) rules w r ghosts steps (born_is_generation config g members row w is h) all (born_lives config g members rules row w r is h b))
 
 -- ---- the promises
 

@@ -58,5 +58,6 @@ one_generation_follows law config rules steps is all = (let h = law config rules
 
 pub rows_follow : RowsFollow
 rows_follow law config rules g members row w r steps is born registers all =
-    let h = law config rules g members row w r steps is born registers all in
-    records_kept config rules g steps w r h.0 h.1.1 h.1.0.stand
+    let h = law config rules g members row w r is born registers in
+    let k = h.1 steps all in
+    records_kept config rules g steps w r h.0 k.1 k.0.stand

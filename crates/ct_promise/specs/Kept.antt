@@ -83,8 +83,8 @@ abbrev pub LawOfOneGeneration : Type 0
 LawOfOneGeneration = (config : Config) (rules : Rules) (steps : List Step) → IsConfig config → list_all is_of_one_generation steps ≡ true →
     RunsFrom config rules 1 (opening config) (Lines.opening config) no_marks steps
 
--- and of every one from a cluster on that has installed a generation with rows, with some marks
+-- and of every one from a cluster on that has installed a generation with rows, with the same marks at the beginning for all
 abbrev pub LawFromRows : Type 0
-LawFromRows = (config : Config) (rules : Rules) (g : ℕ) (members : List ℕ) (row : Rows) (w : Cluster) (r : Lines) (steps : List Step) →
-    IsConfig config → IsBornWith config g members row w → BornRegisters config w g members row r → list_all is_of_one_generation steps ≡ true →
-    (marks : LineMarks) × RunsFrom config rules g w r marks steps
+LawFromRows = (config : Config) (rules : Rules) (g : ℕ) (members : List ℕ) (row : Rows) (w : Cluster) (r : Lines) →
+    IsConfig config → IsBornWith config g members row w → BornRegisters config w g members row r →
+    (marks : LineMarks) × ((steps : List Step) → list_all is_of_one_generation steps ≡ true → RunsFrom config rules g w r marks steps)
