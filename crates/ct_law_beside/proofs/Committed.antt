@@ -1,6 +1,6 @@
 -- A change of the persistent side of one database: no record sees it, and what holds of the node stays.
 use Rattle.std.proofs.Common.{◌≡◌, ◌≢◌, ℕ, ◌+◌, ◌≤◌, Bool, true, false, cond, not, List, [], ◌∷◌, ◌++◌, length, Option, Some, None, refl, sym, ap, ◌∙◌, append-nil, arith, subst, ⊎_elim}
-use Rattle.std.specs.Prelude.{nat_eq, nat_lt, nat_le}
+use Rattle.std.specs.Prelude.{nat_eq, nat_lt, nat_le, ◌||◌}
 use Rattle.std.specs.List.{AllByRecursion}
 use Rattle.std.proofs.lemmas.Bool.{cond_both, cases_eq, eqb-true, eq-eqb, ltb-true, ltb-false}
 use Rattle.std.proofs.lemmas.List.{length-set}
@@ -290,7 +290,7 @@ waiting_untold c who n call asked (x ∷ xs) h own e a = cond_both (nat_eq x.cal
 -- ---- the cluster
 
 amid_same : (g : ℕ) (db : ℕ) (key : List ℕ) (n : ℕ) (w : World) (t u : Turn) → view db key u.node ≡ view db key t.node → mails g db key (frames_of u.outs) ≡ mails g db key (frames_of t.outs) → amid g db key n w u ≡ amid g db key n w t
-amid_same g db key n w t u v m = λ i. record { nodes = λ k. cond (nat_eq k n) (v i) (w.nodes k); joined = λ _. true; mail = w.mail ++ m i }
+amid_same g db key n w t u v m = λ i. record { nodes = λ k. cond (nat_eq k n) (v i) (w.nodes k); joined = λ k. w.joined k || nat_eq k n; mail = w.mail ++ m i }
 
 -- Where a turn that has just begun goes on so, the cluster stays so, and the same schedules lead to it; what is told more is
 -- left out.

@@ -43,7 +43,7 @@ unfolding CommitFits
 more_commit calls n db x who None h = tt
 more_commit calls n db x who (Some w) h = (old_caller calls w.call x _ who h.1 h.0, (let l = h.1 in omega arith))
 
-more_known : (calls n : ℕ) (x : ℕ × ClientOp) (who : Callers) (node : Node) → NodeKnown who calls n node → NodeKnown (with_caller (calls + 1) x who) (calls + 1) n node
+pub more_known : (calls n : ℕ) (x : ℕ × ClientOp) (who : Callers) (node : Node) → NodeKnown who calls n node → NodeKnown (with_caller (calls + 1) x who) (calls + 1) n node
 unfolding KnownAt
 more_known calls n x who node h = record {
   order = h.order;

@@ -35,7 +35,7 @@ use Rattle.ct_law_shown.proofs.Speaking.{Told, move_told}
 use Rattle.ct_law_shown.proofs.Wishing.{Wishful}
 use Rattle.ct_law_node.proofs.Pending.{Callers, is_call, Known, KnownAt, NodeKnown, answered_as, pending_fits, pending_has}
 use Rattle.ct_law_node.proofs.Forming.{Is_formed, Is_sound_mail, formed_moves, formed_blank, sound_moves}
-use Rattle.ct_law_shown.proofs.Amid.{Fair, put_world, place_is}
+use Rattle.ct_law_shown.proofs.Amid.{Fair, here, put_world, place_is}
 use Rattle.ct_law_node.proofs.Staying.{NodeStays, Of_records, of_era, Sure, stays_at}
 use Rattle.ct_law_node.proofs.Events.{each_follows}
 
@@ -130,7 +130,7 @@ fair c era rules who calls n db key e t pend asks w ev member h k =
       grows = move_grows (place_of c n db key t.node) rules e (node.view db key t.node);
       sends = move_told (place_of c n db key t.node) rules e (node.view db key t.node) tt;
       finds = k.finds;
-      asked = subst (λ (x : Stepped). AllAsked x.labels) (k.is_event ∙ put_world (scene c era rules db key) (amid era.number db key n w t) n asks o member refl k.whole) (asked_now (scene c era rules db key) (amid era.number db key n w t) ev k.lawful);
+      asked = subst (λ (x : Stepped). AllAsked x.labels) (k.is_event ∙ put_world (scene c era rules db key) (amid era.number db key n w t) n asks o member (here w n) k.whole) (asked_now (scene c era rules db key) (amid era.number db key n w t) ev k.lawful);
     }
 
 -- what it sends keeps the rules of its fields

@@ -1,6 +1,6 @@
 -- Retry of records: each has its Call sent again, and then its Revokes, once.
 use Rattle.std.proofs.Common.{◌≡◌, ◌≢◌, ℕ, zero, suc, ◌+◌, ◌<◌, ◌≤◌, Bool, true, false, cond, ◌&&◌, List, [], ◌∷◌, ◌++◌, append-nil, length, Option, Some, None, refl, sym, ap, ◌∙◌, arith, subst, append_assoc}
-use Rattle.std.specs.Prelude.{slice_get}
+use Rattle.std.specs.Prelude.{slice_get, ◌||◌}
 use Rattle.std.specs.Ordering.{is_eq}
 use Rattle.std.specs.List.{filter}
 use Rattle.std.proofs.lemmas.List.Elements.{filter-append}
@@ -38,7 +38,7 @@ use Rattle.ct_law_world.specs.Labels as law
 use Rattle.ct_law_world.specs.World.{View, World, Resends, place, starts, sent, told, answers, call_of, waiting_call, Stepped, put, happens}
 use Rattle.ct_law_shown.specs.Shown.{Era, scene, view, mails, told_by_all, heard, labels_of, amid, Comes_by}
 use Rattle.ct_law_node.proofs.Pending.{Callers}
-use Rattle.ct_law_shown.proofs.Amid.{if_same, self, put_world}
+use Rattle.ct_law_shown.proofs.Amid.{if_same, here, self, put_world}
 use Rattle.ct_law_node.proofs.Staying.{NodeStays}
 use Rattle.ct_law_node.proofs.Following.{Goes_on}
 use Rattle.ct_law_retry.proofs.Retried.{more, calls_sent, revokes_sent, resend_is, sent_more, calls_untold, revokes_untold, calls_at, revokes_at, Retries_at, Passes, passes_more, calls_just, revokes_just, all_passes, all_mail}
@@ -238,7 +238,7 @@ resends_follow c era rules who calls n pend db key w t member r h =
     let o = resent c era rules n db key v in
     let asks = waiting_call (state_at db key t.node).wish in
     let k = resends_passes c era rules who calls n pend t r h in
-    let all = resends_happen c era rules n db key w t ∙ put_world s (amid era.number db key n w t) n asks o member refl refl in
+    let all = resends_happen c era rules n db key w t ∙ put_world s (amid era.number db key n w t) n asks o member (here w n) refl in
     let nodes : (j : ℕ) → cond (nat_eq j n) v (cond (nat_eq j n) v (w.nodes j)) ≡ cond (nat_eq j n) (view db key u.node) (w.nodes j)
     = λ j. if_same (nat_eq j n) v v (w.nodes j) ∙ ap (λ (x : View). cond (nat_eq j n) x (w.nodes j)) (sym (k.same db key)) in
     let calls' = calls_at c era rules n db key v in
@@ -248,7 +248,7 @@ resends_follow c era rules who calls n pend db key w t member r h =
     (ap (λ (m : List Mail). mails era.number db key (frames_of t.outs) ++ m) (sent_more n calls' revokes') ∙ sym (append_assoc (mails era.number db key (frames_of t.outs)) (sent n calls') (sent n revokes')) ∙ sym (resends_mail c era rules who calls n db key t r h)) in
     let untold : told n asks (calls' ++ revokes') ≡ [] = told_more n asks calls' revokes' (calls_untold n asks _ _) (revokes_untold n asks _ _) in
     record {
-      world = ap (λ (x : Stepped). x.world) all ∙ (λ i. record { nodes = λ j. nodes j i; joined = λ _. true; mail = mail i });
+      world = ap (λ (x : Stepped). x.world) all ∙ (λ i. record { nodes = λ j. nodes j i; joined = λ j. w.joined j || nat_eq j n; mail = mail i });
       labels = k.untold db key ∙ sym (append-nil (told_by_all db key (labels_of n pend t.outs)))
           ∙ ap (λ (l : List law.Label). told_by_all db key (labels_of n pend t.outs) ++ heard (l ++ [])) (sym untold ∙ ap (λ (x : Stepped). x.labels) (sym all));
     }

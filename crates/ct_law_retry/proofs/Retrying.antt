@@ -1,6 +1,6 @@
 -- Retry at a member: Calls and Revokes of records, then the PUpdates of commits and what it leads, which no record sees.
 use Rattle.std.proofs.Common.{◌≡◌, ℕ, ◌+◌, ◌<◌, ◌≤◌, Bool, true, cond, List, [], ◌∷◌, ◌++◌, length, append-nil, Option, Some, None, refl, sym, ap, ◌∙◌, arith, subst}
-use Rattle.std.specs.Prelude.{nat_eq}
+use Rattle.std.specs.Prelude.{nat_eq, ◌||◌}
 use Rattle.std.proofs.lemmas.Bool.{cond_both, eqb-true}
 use Rattle.ct_msg.specs.declared.config.Config.{Config}
 use Rattle.ct_frame.specs.Fields.{is_db}
@@ -126,7 +126,7 @@ retry_is c n t e = ap (λ (u : Turn). retry_lead n u u.node.lead) (records_are c
 pub adds_follow : (s : Scene) (g n : ℕ) (w : World) (pend : List PendingCall) (t u v : Turn) → Adds_none g n pend u v → Follows g s n w pend t u → Follows g s n w pend t v
 adds_follow s g n w pend t u v a f =
     let same : amid g s.db s.key n w u ≡ amid g s.db s.key n w v = (let mail = sym (a.mail s.db s.key) in let node = sym a.node in
-    λ i. record { nodes = λ k. cond (nat_eq k n) (view s.db s.key (node i)) (w.nodes k); joined = λ _. true; mail = w.mail ++ mail i }) in
+    λ i. record { nodes = λ k. cond (nat_eq k n) (view s.db s.key (node i)) (w.nodes k); joined = λ k. w.joined k || nat_eq k n; mail = w.mail ++ mail i }) in
     (f.0, record { world = f.1.world ∙ same; labels = a.untold s.db s.key ∙ f.1.labels })
 
 pub retry_goes : (c : Config) (era : Era) (rules : Rules) (who : Callers) (calls n : ℕ) (pend : List PendingCall) (ws : ℕ → List ℕ → World) (t : Turn) → is_among n era.members ≡ true → Retries_at c n → NodeStays c era rules who calls n t.node →

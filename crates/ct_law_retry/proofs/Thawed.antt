@@ -1,6 +1,6 @@
 -- Thaw: every call that waits at a node wants its record anew, one after the other, and the world of every record follows.
 use Rattle.std.proofs.Common.{◌≡◌, ℕ, ◌<◌, true, false, cond, List, [], ◌∷◌, ◌++◌, length, Option, Some, None, refl, sym, ap, ◌∙◌, append-nil, arith, subst}
-use Rattle.std.specs.Prelude.{nat_eq, is_none}
+use Rattle.std.specs.Prelude.{nat_eq, is_none, ◌||◌}
 use Rattle.std.specs.List.{AllByRecursion}
 use Rattle.std.proofs.lemmas.Bool.{eq-eqb}
 use Rattle.ct_msg.specs.declared.client.ClientOp.{ClientOp}
@@ -35,7 +35,7 @@ use Rattle.ct_law_shown.proofs.Hearing.{frames_more, labels_more, told_by_more}
 use Rattle.ct_law_shown.proofs.Wishing.{Wishful, want_wish}
 use Rattle.ct_law_node.proofs.Pending.{Callers, Known, KnownAt}
 use Rattle.ct_law_node.proofs.Forming.{Is_formed, Is_sound_mail, formed_moves, formed_blank, sound_moves}
-use Rattle.ct_law_shown.proofs.Amid.{self, put_world, place_is, Fair}
+use Rattle.ct_law_shown.proofs.Amid.{here, self, put_world, place_is, Fair}
 use Rattle.ct_law_node.proofs.Staying.{NodeStays, Sure, stays_at, AllWishes, Of_records, of_era, wishes_at}
 use Rattle.ct_law_node.proofs.Events.{each_follows}
 use Rattle.ct_law_node.proofs.Following.{IsEra, Asks, all_plain, node_of, Goes_on, asked_now}
@@ -200,7 +200,7 @@ again_fair c era rules who calls n db key pend w t real member h k =
       grows = want_again_grows rules (place_of c n db key t.node) (node.view db key t.node);
       sends = again_told (place_of c n db key t.node) rules (node.view db key t.node) tt;
       finds = waited_finds db key n pend (state_at db key t.node).wish k.waited;
-      asked = subst (λ (x : Stepped). AllAsked x.labels) (thaws_happen c era rules n db key t w h.knows ∙ put_world (scene c era rules db key) (amid era.number db key n w t) n asks o member refl k.whole) (asked_now (scene c era rules db key) (amid era.number db key n w t) (Thaws n) k.reached);
+      asked = subst (λ (x : Stepped). AllAsked x.labels) (thaws_happen c era rules n db key t w h.knows ∙ put_world (scene c era rules db key) (amid era.number db key n w t) n asks o member (here w n) k.whole) (asked_now (scene c era rules db key) (amid era.number db key n w t) (Thaws n) k.reached);
     }
 
 sends_again : (c : Config) (era : Era) (rules : Rules) (who : Callers) (calls n db : ℕ) (key : List ℕ) (pend : List PendingCall) (w : World) (t : Turn) → is_node n ≡ true → NodeStays c era rules who calls n t.node → Thaws_at c era rules n db key pend w t →
@@ -286,7 +286,7 @@ thawing_goes c era rules who calls n g pend ws t h =
       (λ db key. (
         [],
         record {
-          world = (λ i. record { nodes = λ k. cond (nat_eq k n) (view db key t.node) ((ws db key).nodes k); joined = λ _. true; mail = (ws db key).mail ++ mails era.number db key (sym sent' i) });
+          world = (λ i. record { nodes = λ k. cond (nat_eq k n) (view db key t.node) ((ws db key).nodes k); joined = λ k. (ws db key).joined k || nat_eq k n; mail = (ws db key).mail ++ mails era.number db key (sym sent' i) });
           labels = ap (λ (l : List Label). told_by_all db key l) (labels_more n pend t.outs x) ∙ told_by_more db key (labels_of n pend t.outs) (labels_of n pend x);
         },
       )),

@@ -1,6 +1,6 @@
 -- A step at one record of a node, in the world of each record.
 use Rattle.std.proofs.Common.{◌≡◌, ◌≢◌, ℕ, ◌<◌, ◌≤◌, Bool, true, false, cond, List, [], ◌∷◌, ◌++◌, map, length, Option, refl, sym, ap, ◌∙◌, append-nil, arith, subst, ⊎_elim, inl, inr, append_assoc}
-use Rattle.std.specs.Prelude.{nat_eq, not, ◌&&◌, ◌⊎◌}
+use Rattle.std.specs.Prelude.{nat_eq, not, ◌&&◌, ◌||◌, ◌⊎◌}
 use Rattle.std.proofs.lemmas.Bool.{cases_eq, eq-eqb}
 use Rattle.ct_msg.specs.declared.client.ClientOp.{ClientOp}
 use Rattle.ct_msg.specs.declared.config.Config.{Config}
@@ -54,6 +54,14 @@ place_is c era rules n db key t e = ap (λ (ms : List ℕ). place (record (scene
 pub self : (g : ℕ) (db : ℕ) (key : List ℕ) (n : ℕ) (w : World) (t : Turn) → (amid g db key n w t).nodes n ≡ view db key t.node
 self g db key n w t = ap (λ (b : Bool). cond b (view db key t.node) (w.nodes n)) (eq-eqb n n refl)
 
+-- who takes a step has joined
+pub here : (w : World) (n : ℕ) → (w.joined n || nat_eq n n) ≡ true
+here w n = either (w.joined n) (nat_eq n n) (eq-eqb n n refl)
+  where
+    either : (a b : Bool) → b ≡ true → (a || b) ≡ true
+    either true b e = refl
+    either false b e = e
+
 goes : (a j b : Bool) → a ≡ true → j ≡ true → b ≡ false → (a && j && not b) ≡ true
 goes true true false a e b = refl
 goes true true true a e b = absurd (cc)
@@ -105,13 +113,13 @@ pub own_step : (c : Config) (era : Era) (rules : Rules) (n db : ℕ) (key : List
 unfolding at_record acted place_of
 own_step c era rules n db key part t calls asks w e f h =
     let o = left_by c n db key part t in
-    let all = h ∙ put_world (scene c era rules db key) (amid era.number db key n w t) n asks o f.member refl f.whole in
+    let all = h ∙ put_world (scene c era rules db key) (amid era.number db key n w t) n asks o f.member (here w n) f.whole in
     let seen = seen_same c n db key part t o refl f.order f.has f.blank in
     let nodes : (k : ℕ) → cond (nat_eq k n) (view_of o) (cond (nat_eq k n) (view db key t.node) (w.nodes k)) ≡ cond (nat_eq k n) (view db key (at_record c n db key part t).node) (w.nodes k)
     = λ k. if_same (nat_eq k n) (view_of o) (view db key t.node) (w.nodes k) ∙ ap (λ (v : View). cond (nat_eq k n) v (w.nodes k)) (sym seen) in
     let mail = mail_after era.number db key w.mail t.outs (map (out_of t.node.generation n db key) o.acts) (sent n o.acts) (subst (λ (g : ℕ). mails g db key (frames_of (map (out_of t.node.generation n db key) o.acts)) ≡ sent n o.acts) f.generation (mails_same (place_of c n db key t.node) t.node.generation n o.acts f.sends)) in
     record {
-      world = ap (λ (x : Stepped). x.world) all ∙ (λ i. record { nodes = λ k. nodes k i; joined = λ _. true; mail = mail i });
+      world = ap (λ (x : Stepped). x.world) all ∙ (λ i. record { nodes = λ k. nodes k i; joined = λ k. w.joined k || nat_eq k n; mail = mail i });
       labels = labels_after db key n calls t.outs (map (out_of t.node.generation n db key) o.acts) _ (hear_same db key t.node.generation n calls asks o.acts f.finds f.asked)
           ∙ ap (λ (l : List law.Label). told_by_all db key (labels_of n calls t.outs) ++ heard l) (sym (append-nil (told n asks o.acts)) ∙ ap (λ (x : Stepped). x.labels ++ []) (sym all));
     }
@@ -180,13 +188,13 @@ unfolding at_record acted place_of rises sent told heard
 other_step c era rules n db0 db key0 key part t calls asks w f e =
     let u = at_record c n db0 key0 part t in
     let o = left_by c n db0 key0 part t in
-    let all = rises_happens era.number (scene c era rules db key) n w t u ∙ put_world (scene c era rules db key) (amid era.number db key n w t) n (waiting_call (state_at db key t.node).wish) (rises db key t u) f.member refl refl in
+    let all = rises_happens era.number (scene c era rules db key) n w t u ∙ put_world (scene c era rules db key) (amid era.number db key n w t) n (waiting_call (state_at db key t.node).wish) (rises db key t u) f.member (here w n) refl in
     let seen = risen c era n db0 db key0 key part t calls asks f e in
     let nodes : (k : ℕ) → cond (nat_eq k n) (view_of (rises db key t u)) (cond (nat_eq k n) (view db key t.node) (w.nodes k)) ≡ cond (nat_eq k n) (view db key u.node) (w.nodes k)
     = λ k. if_same (nat_eq k n) (view_of (rises db key t u)) (view db key t.node) (w.nodes k) ∙ ap (λ (v : View). cond (nat_eq k n) v (w.nodes k)) seen in
     let mail = mail_after era.number db key w.mail t.outs (map (out_of t.node.generation n db0 key0) o.acts) [] (mails_other era.number (place_of c n db0 key0 t.node) db key t.node.generation n o.acts e f.sends) in
     record {
-      world = ap (λ (x : Stepped). x.world) all ∙ (λ i. record { nodes = λ k. nodes k i; joined = λ _. true; mail = mail i });
+      world = ap (λ (x : Stepped). x.world) all ∙ (λ i. record { nodes = λ k. nodes k i; joined = λ k. w.joined k || nat_eq k n; mail = mail i });
       labels = labels_after db key n calls t.outs (map (out_of t.node.generation n db0 key0) o.acts) _ (hear_other db db0 key key0 t.node.generation n calls asks o.acts e f.finds f.asked)
           ∙ ap (λ (x : Stepped). told_by_all db key (labels_of n calls t.outs) ++ heard (x.labels ++ [])) (sym all);
     }

@@ -31,14 +31,14 @@ unfolding send_all send acts
 send_all_same [] m o = refl
 send_all_same (n ∷ ns) m o = send_all_same ns m (send n m o)
 
-send_all_wish : (P : ℕ → ClientOp → Type 0) (ns : List ℕ) (m : Msg) (o : Moving) → Wishful P o.state.wish → Wishful P (send_all ns m o).state.wish
+pub send_all_wish : (P : ℕ → ClientOp → Type 0) (ns : List ℕ) (m : Msg) (o : Moving) → Wishful P o.state.wish → Wishful P (send_all ns m o).state.wish
 send_all_wish P ns m o h = rw (send_all_same ns m o) h
 
-read_here_wish : (P : ℕ → ClientOp → Type 0) (at : Place) (request : ℕ) (o : Moving) (w : Option Wish) → Wishful P o.state.wish → Wishful P (read_here at request o w).state.wish
+pub read_here_wish : (P : ℕ → ClientOp → Type 0) (at : Place) (request : ℕ) (o : Moving) (w : Option Wish) → Wishful P o.state.wish → Wishful P (read_here at request o w).state.wish
 unfolding send acts reply keeps makes Wishful read_here
 read_here_wish P at request o w h = grind (arith, h)
 
-grant_wish : (P : ℕ → ClientOp → Type 0) (at : Place) (node request : ℕ) (o : Moving) → Wishful P o.state.wish → Wishful P (grant at node request o).state.wish
+pub grant_wish : (P : ℕ → ClientOp → Type 0) (at : Place) (node request : ℕ) (o : Moving) → Wishful P o.state.wish → Wishful P (grant at node request o).state.wish
 unfolding send acts keeps grant delegate
 grant_wish P at node request o h = grind (arith, h, read_here_wish P)
 
@@ -54,24 +54,24 @@ yield_wish : (P : ℕ → ClientOp → Type 0) (at : Place) (o : Moving) → Wis
 unfolding yield_record
 yield_wish P at o h = grind (arith, h, give_wish P, revoke_wish P)
 
-drain_wish : (P : ℕ → ClientOp → Type 0) (at : Place) (ws : List RecallNote) (o : Moving) → Wishful P o.state.wish → Wishful P (drain at ws o).state.wish
+pub drain_wish : (P : ℕ → ClientOp → Type 0) (at : Place) (ws : List RecallNote) (o : Moving) → Wishful P o.state.wish → Wishful P (drain at ws o).state.wish
 unfolding drain keeps end_vacuum
 drain_wish P at [] o h = h
 drain_wish P at (r ∷ rs) o h = grind (arith, h, grant_wish P, yield_wish P, drain_wish P at rs (grant at r.node r.request (end_vacuum o)))
 
-drained_wish : (P : ℕ → ClientOp → Type 0) (at : Place) (o : Moving) → Wishful P o.state.wish → Wishful P (drained at o).state.wish
+pub drained_wish : (P : ℕ → ClientOp → Type 0) (at : Place) (o : Moving) → Wishful P o.state.wish → Wishful P (drained at o).state.wish
 unfolding drained
 drained_wish P at o h = grind (arith, h, drain_wish P)
 
-satisfied_wish : (P : ℕ → ClientOp → Type 0) (rules : Rules) (call : ℕ) (o_p : ClientOp) (o : Moving) → Wishful P o.state.wish → Wishful P (satisfy rules call o_p o).state.wish
+pub satisfied_wish : (P : ℕ → ClientOp → Type 0) (rules : Rules) (call : ℕ) (o_p : ClientOp) (o : Moving) → Wishful P o.state.wish → Wishful P (satisfy rules call o_p o).state.wish
 unfolding acts reply keeps satisfy applies
 satisfied_wish P rules call o_p o h = grind (arith, h)
 
-own_wish : (P : ℕ → ClientOp → Type 0) (rules : Rules) (o : Moving) (w : Option Wish) → Wishful P o.state.wish → Wishful P (satisfy_own rules o w).state.wish
+pub own_wish : (P : ℕ → ClientOp → Type 0) (rules : Rules) (o : Moving) (w : Option Wish) → Wishful P o.state.wish → Wishful P (satisfy_own rules o w).state.wish
 unfolding keeps satisfy_own Wishful
 own_wish P rules o w h = grind (arith, h, satisfied_wish P)
 
-end_revocation_wish : (P : ℕ → ClientOp → Type 0) (at : Place) (rules : Rules) (o : Moving) → Wishful P o.state.wish → Wishful P (end_revocation at rules o).state.wish
+pub end_revocation_wish : (P : ℕ → ClientOp → Type 0) (at : Place) (rules : Rules) (o : Moving) → Wishful P o.state.wish → Wishful P (end_revocation at rules o).state.wish
 unfolding keeps makes end_revocation raise
 end_revocation_wish P at rules o h = grind (arith, h, own_wish P, drained_wish P)
 
@@ -103,7 +103,7 @@ call_wish : (P : ℕ → ClientOp → Type 0) (at : Place) (n request : ℕ) (k 
 unfolding keeps on_call called end_vacuum
 call_wish P at n request k o h = grind (arith, h, call_of_wish P, opened_wish P)
 
-handle_wish : (P : ℕ → ClientOp → Type 0) (at : Place) (r : RecallNote) (o : Moving) → Wishful P o.state.wish → Wishful P (handle at r o).state.wish
+pub handle_wish : (P : ℕ → ClientOp → Type 0) (at : Place) (r : RecallNote) (o : Moving) → Wishful P o.state.wish → Wishful P (handle at r o).state.wish
 unfolding keeps handle end_vacuum
 handle_wish P at r o h = grind (arith, h, grant_wish P, yield_wish P)
 
@@ -119,7 +119,7 @@ on_give_wish : (P : ℕ → ClientOp → Type 0) (at : Place) (x rsn : ℕ) (val
 unfolding on_give on_give_of
 on_give_wish P at x rsn value o h = grind (arith, h, hand_on_wish P)
 
-take_wish : (P : ℕ → ClientOp → Type 0) (at : Place) (rules : Rules) (rsn : ℕ) (value : List ℕ) (o : Moving) → Wishful P o.state.wish → Wishful P (take at rules rsn value o).state.wish
+pub take_wish : (P : ℕ → ClientOp → Type 0) (at : Place) (rules : Rules) (rsn : ℕ) (value : List ℕ) (o : Moving) → Wishful P o.state.wish → Wishful P (take at rules rsn value o).state.wish
 unfolding keeps makes take becomes satisfy_wish Wishful
 take_wish P at rules rsn value o h = grind (arith, h, satisfied_wish P, drained_wish P)
 
@@ -193,7 +193,7 @@ want_of_wish : (P : ℕ → ClientOp → Type 0) (at : Place) (rules : Rules) (c
 unfolding reply acts want_of
 want_of_wish P at rules call o_p o own h = grind (arith, h, own, satisfied_wish P, wait_wish P at call o_p o own h, call_for_wish P at call o_p o own h)
 
-home_opened_wish : (P : ℕ → ClientOp → Type 0) (at : Place) (o : Moving) → Wishful P o.state.wish → Wishful P (opened_at_home at o).state.wish
+pub home_opened_wish : (P : ℕ → ClientOp → Type 0) (at : Place) (o : Moving) → Wishful P o.state.wish → Wishful P (opened_at_home at o).state.wish
 unfolding keeps opened_at_home end_vacuum
 home_opened_wish P at o h = grind (arith, h, opened_wish P)
 

@@ -1,5 +1,5 @@
 -- What a cluster in one generation shows of one record, and what its labels tell of that record.
-use Rattle.std.specs.Prelude.{◌≡◌, ℕ, nat_eq, bytes_eq, Bool, true, false, ◌&&◌, if◌then◌else◌, List, [], ◌∷◌, ◌++◌, Option, None, Some}
+use Rattle.std.specs.Prelude.{◌≡◌, ℕ, nat_eq, bytes_eq, Bool, true, false, ◌&&◌, ◌||◌, if◌then◌else◌, List, [], ◌∷◌, ◌++◌, Option, None, Some}
 use Rattle.ct_msg.specs.declared.client.Answer.{Answer}
 use Rattle.ct_msg.specs.declared.client.Answer.TheVariants as answer
 use Rattle.ct_msg.specs.declared.client.ClientOp.{ClientOp}
@@ -116,9 +116,10 @@ pub record Finds (db : ℕ) (key : List ℕ) (n : ℕ) (calls : List PendingCall
   pub found : (call : ℕ) (asked : ClientOp) → asks call ≡ Some asked → (a : Answer) → answered call a calls ≡ Answered n asked a ∷ []
   pub about : (call : ℕ) (asked : ClientOp) → asks call ≡ Some asked → (db_of asked ≡ db) × (key_of asked ≡ key)
 
--- the world of the record while node n is amid a step: what it has and sent so far, over the world before the step
+-- The world of the record while node n is amid a step: what it has and sent so far, over the world before the step. It has
+-- joined there, as who has not takes no step.
 abbrev pub amid : ℕ → ℕ → List ℕ → ℕ → World → Turn → World
-amid g db key n w t = record { nodes = λ k. if nat_eq k n then view db key t.node else w.nodes k; joined = λ _. true; mail = w.mail ++ mails g db key (frames_of t.outs) }
+amid g db key n w t = record { nodes = λ k. if nat_eq k n then view db key t.node else w.nodes k; joined = λ k. w.joined k || nat_eq k n; mail = w.mail ++ mails g db key (frames_of t.outs) }
 
 -- From one middle of a step to another the world of the record comes by these events, which tell what the step tells of the
 -- record.

@@ -252,7 +252,7 @@ note_formed config n (note.Thawed g) r s p f = subst IsFormed (sym p.3) f
 note_formed config n (note.Released a) r s p f = subst IsFormed (sym p.1) (address_formed n a false r f)
 note_formed config n (note.Took a) r s p f = subst IsFormed (sym p.3) (address_formed n a true r f)
 
-label_formed : (config : Config) (rules : Rules) (label : Label) (r s : Lines) → Legal.AcceptsLabel config rules r label s → IsFormed r → IsFormed s
+pub label_formed : (config : Config) (rules : Rules) (label : Label) (r s : Lines) → Legal.AcceptsLabel config rules r label s → IsFormed r → IsFormed s
 label_formed config rules (Answered n asked given) r s p f = answer_formed config rules n asked given r s p f
 label_formed config rules (Begun n db writes) r s p f =
     at_database_formed config n db (Database.AcceptsBegin n writes (Legal.lock_owner config (r.line n) db r)) r s (begun_counted n writes (Legal.lock_owner config (r.line n) db r)) p f
@@ -265,7 +265,7 @@ label_formed config rules (Pushed g assigned) r s p f = subst IsFormed (sym p.3)
 label_formed config rules (Takeover n able) r s p f = at_placing_formed n (Placing.AcceptsTakeover (r.members (r.line n)) able) r s p f
 label_formed config rules (Taken n g number assigned) r s p f = at_placing_formed n (Placing.AcceptsTake config.addresses number assigned) r s p.1 f
 
-labels_formed : (config : Config) (rules : Rules) (labels : List Label) (r s : Lines) → Legal.AcceptsLabels config rules r labels s → IsFormed r → IsFormed s
+pub labels_formed : (config : Config) (rules : Rules) (labels : List Label) (r s : Lines) → Legal.AcceptsLabels config rules r labels s → IsFormed r → IsFormed s
 labels_formed config rules [] r s p f = subst IsFormed (sym p) f
 labels_formed config rules (label ∷ labels) r s p f = labels_formed config rules labels p.0 s p.2 (label_formed config rules label r p.0 p.1 f)
 

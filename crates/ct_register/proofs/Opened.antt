@@ -30,7 +30,7 @@ untouched_one (x ∷ xs) zero = refl
 untouched_one (x ∷ xs) (suc db) = untouched_one xs db
 
 -- nothing is kept of any database at any node
-opened_db : (c : Config) (n db : ℕ) → node.db_at db (cluster.node_at n (cluster.opening c)) ≡ node.untouched
+pub opened_db : (c : Config) (n db : ℕ) → node.db_at db (cluster.node_at n (cluster.opening c)) ≡ node.untouched
 unfolding node.db_at node.opening node.or_untouched cluster.node_at cluster.opening cluster.absent
 opened_db c n db = one_of_all (λ (x : Node). node.db_at db x ≡ node.untouched) (node.opening c (cluster.everyone c)) refl (untouched_one c.dbs db) c.nodes n
 
@@ -79,7 +79,7 @@ up_below zero n up = absurd (cc)
 up_below (suc k) zero up = zero_below k
 up_below (suc k) (suc n) up = below_suc n k (up_below k n up)
 
-opened_below : (c : Config) (n : ℕ) → nat_lt n c.nodes ≡ true → cluster.node_at n (cluster.opening c) ≡ node.opening c (cluster.everyone c)
+pub opened_below : (c : Config) (n : ℕ) → nat_lt n c.nodes ≡ true → cluster.node_at n (cluster.opening c) ≡ node.opening c (cluster.everyone c)
 unfolding cluster.node_at cluster.opening
 opened_below c n lt = one_below (node.opening c (cluster.everyone c)) c.nodes n lt
 

@@ -1,0 +1,14 @@
+pub mod Even
+pub mod Opened
+pub mod Accounts
+pub mod Records
+pub mod Turns
+pub mod Clients
+pub mod Events
+pub mod Clusters
+pub mod Waiting
+pub mod Stops
+pub mod Telling
+pub mod Running
+pub mod Once
+pub mod Born

@@ -1,0 +1,129 @@
+-- Through every list of steps the calls that wait are exactly the open ones, and no answer is unasked.
+use Rattle.std.proofs.Common.{◌≡◌, ℕ, zero, suc, ◌<◌, true, false, List, [], ◌∷◌, ◌++◌, length, replicate, Option, Some, None, refl, sym, ap, ◌∙◌, subst, arith, ⊎_elim}
+use Rattle.std.specs.Prelude.{slice_get, Result, Ok, Err}
+use Rattle.ct_msg.specs.declared.config.Config.{Config}
+use Rattle.ct_call.specs.Rules.{Rules}
+use Rattle.ct_store.specs.Map.{look}
+use Rattle.ct_rules_node.specs.Node as node
+use Rattle.ct_rules_node.specs.Node.{Node, Database, state_at, db_at, or_nothing, or_untouched, untouched}
+use Rattle.ct_rules_node.specs.Laws.{AllAscend, NodeAscends}
+use Rattle.ct_rules_node.proofs.Starting.{starts_in_order}
+use Rattle.ct_register.proofs.Opened.{untouched_one}
+use Rattle.ct_cluster.specs.Cluster as cluster
+use Rattle.ct_cluster.specs.Cluster.{Cluster, everyone, or_absent, node_at}
+use Rattle.ct_cluster.specs.Faults.{fault_of, is_allowed}
+use Rattle.ct_cluster.specs.Steps.{Stepped, steps_or, applied}
+use Rattle.ct_cluster.specs.Traces.{idle, taken, ran_one, after, ran}
+use Rattle.ct_cluster.specs.Labels.{Label}
+use Rattle.ct_cluster.specs.declared.step.Step.{Step}
+use Rattle.ct_cluster.specs.declared.step.StepFault.{StepFault}
+use Rattle.ct_law_shown.proofs.Weave.{true_or_false}
+use Rattle.ct_law_shown.proofs.Wishing.{Wishful}
+use Rattle.ct_law_calls.specs.Log.{OpenCall, asked_in, CallsStand, heard, Logged, logged, logged_one, CallsRun, LawOfCalls, logged_all, PromiseOfCalls, Told}
+use Rattle.ct_law_calls.proofs.Accounts.{Wished, Committed, Stands}
+use Rattle.ct_law_calls.proofs.Clusters.{Calls}
+use Rattle.ct_law_calls.proofs.Telling.{by_log, calls_stand, heard_more, step_logs}
+
+-- ---- one step
+
+-- what one step tells, and the open calls after it
+pub record One_logs (c : Config) (w : Cluster) (s : Step) (log : List OpenCall) (v : Cluster) (told : List Label) (kept : Logged) : Type 0 where
+  pub trace : kept.trace ≡ heard told
+  pub calls : Calls c v (by_log kept.log)
+
+result_logs : (c : Config) (rules : Rules) (w : Cluster) (s : Step) (log : List OpenCall) (f : Option StepFault) (r : Result Stepped StepFault) → Calls c w (by_log log) → fault_of c w s ≡ f → steps_or c rules w s f ≡ r →
+    One_logs c w s log (taken w s r).cluster (taken w s r).trace (logged w s log r)
+unfolding taken logged steps_or idle heard
+result_logs c rules w s log (Some f) (Ok x) h e is = absurd (cc)
+result_logs c rules w s log None (Ok x) h e is = (let l = step_logs c rules w s x log h e is in record { trace = l.trace; calls = l.calls })
+result_logs c rules w s log f (Err g) h e is = record { trace = refl; calls = h }
+
+one_logs : (c : Config) (rules : Rules) (w : Cluster) (s : Step) (log : List OpenCall) → Calls c w (by_log log) → One_logs c w s log (ran_one c rules w s).cluster (ran_one c rules w s).trace (logged_one c rules w s log)
+unfolding ran_one logged_one applied idle heard
+one_logs c rules w s log h = ⊎_elim
+    (λ (t : is_allowed s ≡ true). rw t (result_logs c rules w s log (fault_of c w s) (steps_or c rules w s (fault_of c w s)) h refl refl))
+    (λ (f : is_allowed s ≡ false). rw f (record { trace = refl; calls = h }))
+    (true_or_false (is_allowed s))
+
+-- ---- every list of steps
+
+pub calls_run : (c : Config) (rules : Rules) (w : Cluster) (log : List OpenCall) (ss : List Step) → Calls c w (by_log log) → CallsRun c rules w log ss
+unfolding CallsRun
+calls_run c rules w log [] h = tt
+calls_run c rules w log (s ∷ ss) h = (let l = one_logs c rules w s log h in (l.trace, calls_stand c (ran_one c rules w s).cluster (logged_one c rules w s log).log l.calls, calls_run c rules (ran_one c rules w s).cluster (logged_one c rules w s log).log ss l.calls))
+
+-- ---- the opening
+
+one_of_all : (P : Node → Type 0) (x : Node) → P cluster.absent → P x → (k n : ℕ) → P (or_absent (slice_get (replicate k x) n))
+unfolding or_absent
+one_of_all P x none all zero n = none
+one_of_all P x none all (suc k) zero = all
+one_of_all P x none all (suc k) (suc n) = one_of_all P x none all k n
+
+one_below : (x : Node) (k n : ℕ) → n < k → or_absent (slice_get (replicate k x) n) ≡ x
+unfolding or_absent
+one_below x zero n l = absurd (omega arith)
+one_below x (suc k) zero l = refl
+one_below x (suc k) (suc n) l = one_below x k n (omega arith)
+
+up_below : (k n : ℕ) → cluster.is_true (slice_get (replicate k true) n) ≡ true → n < k
+unfolding cluster.is_true
+up_below zero n up = absurd (cc)
+up_below (suc k) zero up = omega arith
+up_below (suc k) (suc n) up = (let a = up_below k n up in omega arith)
+
+many : {X : Type 0} (k : ℕ) (x : X) → length (replicate k x) ≡ k
+many zero x = refl
+many (suc k) x = ap suc (many k x)
+
+-- no call waits where nothing is kept, and none is open
+empty_stands : (n : ℕ) (x : Node) → NodeAscends x → ((db : ℕ) → db_at db x ≡ untouched) → Stands n (by_log []) x
+unfolding asked_in state_at untouched or_nothing Wishful Committed
+empty_stands n x order none = record {
+  order = order;
+  wishes = λ db key. subst (λ (d : Database). Wishful (Wished n (by_log []) db key) (or_nothing (look key d.records)).wish) (sym (none db)) tt;
+  commits = λ db. subst (λ (d : Database). Committed n (by_log []) db d.commit) (sym (none db)) tt;
+  waits = λ k o e. absurd (cc);
+}
+
+opened_none : (c : Config) (db : ℕ) → db_at db (node.opening c (everyone c)) ≡ untouched
+unfolding node.opening db_at
+opened_none c db = untouched_one c.dbs db
+
+absent_none : (db : ℕ) → db_at db cluster.absent ≡ untouched
+unfolding cluster.absent db_at or_untouched
+absent_none db = refl
+
+absent_order : NodeAscends cluster.absent
+unfolding cluster.absent AllAscend
+absent_order = tt
+
+opened_calls : (c : Config) → Calls c (cluster.opening c) (by_log [])
+unfolding cluster.opening node_at cluster.is_up asked_in
+opened_calls c = record {
+  size = many c.nodes (node.opening c (everyone c));
+  there = λ n up. up_below c.nodes n up;
+  sized = λ n l. ap (λ (x : Node). length x.dbs) (one_below (node.opening c (everyone c)) c.nodes n l) ∙ (starts_in_order c (everyone c)).0;
+  nodes = λ n. one_of_all (λ (x : Node). Stands n (by_log []) x) (node.opening c (everyone c)) (empty_stands n cluster.absent absent_order absent_none) (empty_stands n (node.opening c (everyone c)) (starts_in_order c (everyone c)).1 (opened_none c)) c.nodes n;
+  given = λ k v e. absurd (cc);
+}
+
+pub law_of_calls : LawOfCalls
+law_of_calls c rules ss = calls_run c rules (cluster.opening c) [] ss (opened_calls c)
+
+-- ---- a whole run
+
+all_logs : (c : Config) (rules : Rules) (w : Cluster) (log : List OpenCall) (ss : List Step) → Calls c w (by_log log) → ((logged_all c rules w log ss).trace ≡ heard (ran c rules w ss).trace) × CallsStand (ran c rules w ss).cluster (logged_all c rules w log ss).log
+unfolding logged_all ran after idle heard
+all_logs c rules w log [] h = (refl, calls_stand c w log h)
+all_logs c rules w log (s ∷ ss) h =
+    let l = one_logs c rules w s log h in
+    let rest = all_logs c rules (ran_one c rules w s).cluster (logged_one c rules w s log).log ss l.calls in (
+      ap (λ (x : List Told). x ++ (logged_all c rules (ran_one c rules w s).cluster (logged_one c rules w s log).log ss).trace) l.trace
+          ∙ ap (λ (x : List Told). heard (ran_one c rules w s).trace ++ x) rest.0
+          ∙ sym (heard_more (ran_one c rules w s).trace (ran c rules (ran_one c rules w s).cluster ss).trace),
+      rest.1,
+    )
+
+pub promise_of_calls : PromiseOfCalls
+promise_of_calls c rules ss = all_logs c rules (cluster.opening c) [] ss (opened_calls c)

@@ -1,0 +1,162 @@
+-- The list of the calls that wait at a node: each is open, and each open one is in it.
+use Rattle.std.proofs.Common.{◌≡◌, ℕ, zero, suc, ◌+◌, Bool, true, false, cond, ◌||◌, List, [], ◌∷◌, ◌++◌, Option, Some, None, refl, sym, ◌∙◌, ap, subst, arith, ⊎_elim}
+use Rattle.std.specs.Prelude.{slice_get}
+use Rattle.std.specs.Ordering.{is_eq}
+use Rattle.std.specs.List.{AllByRecursion, list_any}
+use Rattle.std.specs.List.Sorted.{IsStrictlySortedBy}
+use Rattle.std.proofs.lemmas.Bool.{eq-eqb}
+use Rattle.ct_msg.specs.declared.client.ClientOp.{ClientOp}
+use Rattle.ct_store.specs.Map.{Pairs, Ascends, key_cmp, look}
+use Rattle.ct_store.proofs.Maps.{one_key, equal}
+use Rattle.ct_rules.specs.declared.state.RecState.{RecState}
+use Rattle.ct_rules.specs.declared.state.Wish.{Wish}
+use Rattle.ct_rules_node.specs.Clients.{db_of, key_of, is_commit}
+use Rattle.ct_rules_node.specs.Node.{Node, Database, Committing, untouched, or_untouched, or_nothing, db_at, state_at}
+use Rattle.ct_rules_node.specs.Laws.{AllAscend}
+use Rattle.ct_rules_node.proofs.Keys.{below_unseen}
+use Rattle.ct_rules_node.proofs.Installed.{own_key}
+use Rattle.ct_cluster.specs.Cluster.{wished, wished_in, committing, pending_in}
+use Rattle.ct_cluster.specs.declared.step.PendingCall.{PendingCall}
+use Rattle.ct_law_shown.proofs.Weave.{true_or_false}
+use Rattle.ct_law_shown.proofs.Wishing.{Wishful}
+use Rattle.ct_law_node.proofs.Pending.{is_call}
+use Rattle.ct_lcp2.proofs.Choices.{all_append}
+use Rattle.ct_law_calls.proofs.Opened.{Opened}
+use Rattle.ct_law_calls.proofs.Accounts.{Wished, Committed, wish_call, commit_call, place_commit, place_wish, Stands}
+
+-- the call is open, of its node and with what it asked
+unfoldable pub Fits : ℕ → Opened → PendingCall → Type 0
+Fits n who x = (who x.call ≡ Some (x.node, x.op)) × (x.node ≡ n)
+
+wished_fits : (who : Opened) (n db : ℕ) (key : List ℕ) (w : Option Wish) → Wishful (Wished n who db key) w → AllByRecursion (Fits n who) (wished n w)
+unfolding Wishful Wished wished Fits
+wished_fits who n db key None h = tt
+wished_fits who n db key (Some w) h = ((h.0, refl), tt)
+
+pub look_tail : (P : List ℕ → Option RecState → Type 0) (e : List ℕ × RecState) (m : Pairs RecState) → Ascends (e ∷ m) → ((key : List ℕ) → P key None) → ((key : List ℕ) → P key (look key (e ∷ m))) → (key : List ℕ) → P key (look key m)
+unfolding IsStrictlySortedBy
+look_tail P e m h none all key = cases (is_eq (key_cmp key e.0)) refl
+  where
+    cases : (b : Bool) → is_eq (key_cmp key e.0) ≡ b → P key (look key m)
+    cases true t = subst (λ (k : List ℕ). P k (look k m)) (sym (one_key key e.0 (equal _ t))) (subst (λ (x : Option RecState). P e.0 x) (sym (below_unseen e.0 m h.0)) (none e.0))
+    cases false t = subst (λ (b : Bool). P key (cond b (Some e.1) (look key m))) t (all key)
+
+pub look_head : (P : List ℕ → Option RecState → Type 0) (e : List ℕ × RecState) (m : Pairs RecState) → ((key : List ℕ) → P key (look key (e ∷ m))) → P e.0 (Some e.1)
+look_head P e m all = subst (λ (b : Bool). P e.0 (cond b (Some e.1) (look e.0 m))) (own_key e.0) (all e.0)
+
+unfoldable KnownAt : Opened → ℕ → ℕ → List ℕ → Option RecState → Type 0
+KnownAt who n db key s = Wishful (Wished n who db key) (or_nothing s).wish
+
+none_known : (who : Opened) (n db : ℕ) (key : List ℕ) → KnownAt who n db key None
+unfolding KnownAt or_nothing Wishful
+none_known who n db key = tt
+
+records_fit : (who : Opened) (n db : ℕ) (m : Pairs RecState) → Ascends m → ((key : List ℕ) → KnownAt who n db key (look key m)) → AllByRecursion (Fits n who) (wished_in n m)
+unfolding wished_in IsStrictlySortedBy KnownAt or_nothing Wishful
+records_fit who n db [] h all = tt
+records_fit who n db (e ∷ m) h all = all_append (Fits n who) (wished n e.1.wish) (wished_in n m)
+    (one (look_head (KnownAt who n db) e m all))
+    (records_fit who n db m h.1 (look_tail (KnownAt who n db) e m h (none_known who n db) all))
+  where
+    one : KnownAt who n db e.0 (Some e.1) → AllByRecursion (Fits n who) (wished n e.1.wish)
+    one k = wished_fits who n db e.0 e.1.wish k
+
+committing_fits : (who : Opened) (n db : ℕ) (x : Option Committing) → Committed n who db x → AllByRecursion (Fits n who) (committing n db x)
+unfolding Committed committing Fits
+committing_fits who n db None h = tt
+committing_fits who n db (Some x) h = ((h, refl), tt)
+
+left_case : (b d e : Bool) → (d ≡ true → e ≡ true) → (b || d) ≡ true → (b || e) ≡ true
+left_case true d e f k = refl
+left_case false d e f k = f k
+
+right_case : (b e : Bool) → e ≡ true → (b || e) ≡ true
+right_case true e k = refl
+right_case false e k = k
+
+left_any : (f : PendingCall → Bool) (xs ys : List PendingCall) → list_any f xs ≡ true → list_any f (xs ++ ys) ≡ true
+left_any f [] ys e = absurd (cc)
+left_any f (x ∷ xs) ys e = left_case (f x) (list_any f xs) (list_any f (xs ++ ys)) (λ k. left_any f xs ys k) e
+
+right_any : (f : PendingCall → Bool) (xs ys : List PendingCall) → list_any f ys ≡ true → list_any f (xs ++ ys) ≡ true
+right_any f [] ys e = e
+right_any f (x ∷ xs) ys e = right_case (f x) (list_any f (xs ++ ys)) (right_any f xs ys e)
+
+wished_any : (n : ℕ) (o : Option Wish) (w : Wish) → o ≡ Some w → list_any (is_call w.call) (wished n o) ≡ true
+unfolding wished is_call
+wished_any n None w e = absurd (cc)
+wished_any n (Some v) w e = (let same : v ≡ w = cc in rw (eq-eqb v.call w.call (ap (λ (x : Wish). x.call) same)) refl)
+
+records_case : (n : ℕ) (m : Pairs RecState) (s : RecState) (before : Option RecState) (w : Wish) (b : Bool) → ((or_nothing before).wish ≡ Some w → list_any (is_call w.call) (wished_in n m) ≡ true) →
+    (or_nothing (cond b (Some s) before)).wish ≡ Some w → list_any (is_call w.call) (wished n s.wish ++ wished_in n m) ≡ true
+unfolding or_nothing
+records_case n m s before w true rest k = left_any (is_call w.call) (wished n s.wish) (wished_in n m) (wished_any n s.wish w k)
+records_case n m s before w false rest k = right_any (is_call w.call) (wished n s.wish) (wished_in n m) (rest k)
+
+records_any : (n : ℕ) (m : Pairs RecState) (key : List ℕ) (w : Wish) → (or_nothing (look key m)).wish ≡ Some w → list_any (is_call w.call) (wished_in n m) ≡ true
+unfolding wished_in or_nothing
+records_any n [] key w e = absurd (cc)
+records_any n (x ∷ m) key w e = records_case n m x.1 (look key m) w (is_eq (key_cmp key x.0)) (λ k. records_any n m key w k) e
+
+pub next_index : (i k : ℕ) → i + suc k ≡ (i + 1) + k
+next_index i k = omega arith
+
+zero_more : (k : ℕ) → k ≡ 0 + k
+zero_more k = omega arith
+
+node_any : (n i k : ℕ) (ds : List Database) (key : List ℕ) (w : Wish) → (or_nothing (look key (or_untouched (slice_get ds k)).records)).wish ≡ Some w → list_any (is_call w.call) (pending_in n i ds) ≡ true
+unfolding pending_in or_untouched untouched or_nothing
+node_any n i k [] key w e = absurd (cc)
+node_any n i zero (d ∷ ds) key w e = left_any (is_call w.call) (wished_in n d.records ++ committing n i d.commit) (pending_in n (i + 1) ds)
+    (left_any (is_call w.call) (wished_in n d.records) (committing n i d.commit) (records_any n d.records key w e))
+node_any n i (suc k) (d ∷ ds) key w e = right_any (is_call w.call) (wished_in n d.records ++ committing n i d.commit) (pending_in n (i + 1) ds) (node_any n (i + 1) k ds key w e)
+
+node_fits : (who : Opened) (n i : ℕ) (ds : List Database) → AllAscend ds → ((k : ℕ) (key : List ℕ) → KnownAt who n (i + k) key (look key (or_untouched (slice_get ds k)).records)) → ((k : ℕ) → Committed n who (i + k) (or_untouched (slice_get ds k)).commit) →
+    AllByRecursion (Fits n who) (pending_in n i ds)
+unfolding pending_in AllAscend or_untouched
+node_fits who n i [] h all commits = tt
+node_fits who n i (d ∷ ds) h all commits =
+    all_append (Fits n who) (wished_in n d.records ++ committing n i d.commit) (pending_in n (i + 1) ds)
+    (all_append (Fits n who) (wished_in n d.records) (committing n i d.commit)
+    (records_fit who n i d.records h.0 (λ key. subst (λ (j : ℕ). KnownAt who n j key (look key d.records)) (omega arith) (all 0 key)))
+    (committing_fits who n i d.commit (subst (λ (j : ℕ). Committed n who j d.commit) (omega arith) (commits 0))))
+    (node_fits who n (i + 1) ds h.1 (λ k key. subst (λ (j : ℕ). KnownAt who n j key (look key (or_untouched (slice_get ds k)).records)) (next_index i k) (all (suc k) key))
+    (λ k. subst (λ (j : ℕ). Committed n who j (or_untouched (slice_get ds k)).commit) (next_index i k) (commits (suc k))))
+
+committing_any : (n db : ℕ) (o : Option Committing) (y : Committing) → o ≡ Some y → list_any (is_call y.call) (committing n db o) ≡ true
+unfolding committing is_call
+committing_any n db None y e = absurd (cc)
+committing_any n db (Some v) y e = (let same : v ≡ y = cc in rw (eq-eqb v.call y.call (ap (λ (x : Committing). x.call) same)) refl)
+
+pub commit_any : (n i k : ℕ) (ds : List Database) (y : Committing) → (or_untouched (slice_get ds k)).commit ≡ Some y → list_any (is_call y.call) (pending_in n i ds) ≡ true
+unfolding pending_in or_untouched untouched
+commit_any n i k [] y e = absurd (cc)
+commit_any n i zero (d ∷ ds) y e = left_any (is_call y.call) (wished_in n d.records ++ committing n i d.commit) (pending_in n (i + 1) ds)
+    (right_any (is_call y.call) (wished_in n d.records) (committing n i d.commit) (committing_any n i d.commit y e))
+commit_any n i (suc k) (d ∷ ds) y e = right_any (is_call y.call) (wished_in n d.records ++ committing n i d.commit) (pending_in n (i + 1) ds) (commit_any n (i + 1) k ds y e)
+
+-- ---- a node
+
+pub stands_fit : (n : ℕ) (who : Opened) (x : Node) → Stands n who x → AllByRecursion (Fits n who) (pending_in n 0 x.dbs)
+unfolding KnownAt state_at db_at
+stands_fit n who x s = node_fits who n 0 x.dbs s.order (λ k key. subst (λ (j : ℕ). Wishful (Wished n who j key) (or_nothing (look key (or_untouched (slice_get x.dbs k)).records)).wish) (zero_more k) (s.wishes k key))
+    (λ k. subst (λ (j : ℕ). Committed n who j (or_untouched (slice_get x.dbs k)).commit) (zero_more k) (s.commits k))
+
+wish_there : (w : Option Wish) (k : ℕ) → wish_call w ≡ Some k → (x : Wish) × (w ≡ Some x) × (x.call ≡ k)
+unfolding wish_call
+wish_there None k e = absurd (cc)
+wish_there (Some w) k e = (w, refl, (let same : w.call ≡ k = cc in same))
+
+commit_there : (w : Option Committing) (k : ℕ) → commit_call w ≡ Some k → (x : Committing) × (w ≡ Some x) × (x.call ≡ k)
+unfolding commit_call
+commit_there None k e = absurd (cc)
+commit_there (Some w) k e = (w, refl, (let same : w.call ≡ k = cc in same))
+
+pub stands_any : (n : ℕ) (who : Opened) (x : Node) (k : ℕ) (o : ClientOp) → Stands n who x → who k ≡ Some (n, o) → list_any (is_call k) (pending_in n 0 x.dbs) ≡ true
+unfolding state_at db_at
+stands_any n who x k o s e = ⊎_elim
+    (λ (co : is_commit o ≡ true). (let y = commit_there (db_at (db_of o) x).commit k (sym (place_commit o x co) ∙ s.waits k o e) in
+    subst (λ (i : ℕ). list_any (is_call i) (pending_in n 0 x.dbs) ≡ true) y.2 (commit_any n 0 (db_of o) x.dbs y.0 y.1)))
+    (λ (no : is_commit o ≡ false). (let y = wish_there (state_at (db_of o) (key_of o) x).wish k (sym (place_wish o x no) ∙ s.waits k o e) in
+    subst (λ (i : ℕ). list_any (is_call i) (pending_in n 0 x.dbs) ≡ true) y.2 (node_any n 0 (db_of o) x.dbs (key_of o) y.0 y.1)))
+    (true_or_false (is_commit o))

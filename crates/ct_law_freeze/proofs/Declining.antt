@@ -1,0 +1,112 @@
+-- A call that is refused, at any node: nothing changes but the count of calls.
+use Rattle.std.specs.Prelude.{nat_lt}
+use Rattle.ct_call.specs.Rules.{Rules}
+use Rattle.ct_cluster.specs.Cluster.{Cluster, Sent, node_at, pending}
+use Rattle.ct_cluster.specs.Labels.{Answered, Label}
+use Rattle.ct_cluster.specs.Steps.{frames_of, put, with_node}
+use Rattle.ct_cluster.specs.declared.step.PendingCall.{PendingCall}
+use Rattle.ct_law_change.proofs.Markings.{goes_stays}
+use Rattle.ct_law_cluster.proofs.Called.{counted, called_by}
+use Rattle.ct_law_fact.proofs.Invariant.{span_of}
+use Rattle.ct_law_freeze.proofs.Freezing.{resent}
+use Rattle.ct_law_freeze.proofs.Stood.{lead_later}
+use Rattle.ct_law_freeze.proofs.Turning.{sent_still}
+use Rattle.ct_law_line.proofs.Faces.{Turned}
+use Rattle.ct_law_line.proofs.Lives.{Lives, NodeLives, MailSays, ReplySays}
+use Rattle.ct_law_node.proofs.Calling.{own_pending}
+use Rattle.ct_law_record.proofs.MarkLists.{marks_go}
+use Rattle.ct_law_record.proofs.MarkedRun.{marks_of}
+use Rattle.ct_law_shown.specs.Shown.{mails, labels_of}
+use Rattle.ct_msg.specs.declared.client.Answer.{Answer}
+use Rattle.ct_msg.specs.declared.client.ClientOp.{ClientOp}
+use Rattle.ct_msg.specs.declared.config.Config.{Config}
+use Rattle.ct_promise.specs.Generation.{record_labels}
+use Rattle.ct_promise.specs.Marked.{is_removal, is_removed}
+use Rattle.ct_register.specs.Legal.{AcceptsLabels, AcceptsAnswer}
+use Rattle.ct_register.specs.Lines.{Lines}
+use Rattle.ct_register.specs.Marks.{MarksStep}
+use Rattle.ct_rules_node.specs.Turn.{Turn}
+use Rattle.std.proofs.Common.{◌≡◌, ℕ, Bool, true, false, List, [], ◌++◌, append-nil, refl, sym, ap, ◌∙◌, subst, ◌+◌, cond, ◌∷◌}
+use Rattle.std.specs.List.{AllByRecursion}
+use Rattle.ct_law_world.specs.Marked as law_marked
+use Rattle.ct_law_freeze.proofs.Leading.{later_none}
+use Rattle.ct_msg.specs.declared.client.Answer.TheVariants as answer
+use Rattle.ct_rules_node.specs.Turn.{does}
+use Rattle.ct_rules_node.specs.Turn.{begins}
+use Rattle.std.proofs.Common.{inl}
+use Rattle.ct_msg.specs.declared.client.Why.{Why}
+use Rattle.ct_msg.specs.declared.client.Why.TheVariants as why
+use Rattle.ct_promise.specs.Generation.{speaks_of_records}
+use Rattle.ct_rules_node.specs.Turn.{makes, answers}
+use Rattle.ct_law_shown.specs.Shown.{is_telling}
+use Rattle.ct_law_freeze.proofs.Held.{outs_labels}
+use Rattle.ct_law_freeze.proofs.Leading.{node_lead}
+use Rattle.ct_law_freeze.proofs.Counted.{node_called}
+
+silent : (config : Config) (rules : Rules) (n : ℕ) (asked : ClientOp) (a : Answer) (r : Lines) → is_telling a ≡ false → AcceptsAnswer config rules n asked a r r
+unfolding is_telling
+silent config rules n asked (answer.Refused (why.TooLong m)) r e = absurd (cc)
+silent config rules n asked (answer.Refused w) r e = refl
+silent config rules n asked _ r e = absurd (cc)
+
+module _ (c : Config) (rules : Rules) (w : Cluster) (r : Lines) (h : Lives c rules w r) (n : ℕ) (asked : ClientOp) (reason : Why) (there : nat_lt n c.nodes ≡ true) (quiet : is_telling (answer.Refused reason) ≡ false) where
+  abbrev u : Turn
+  u = answers (w.calls + 1) (answer.Refused reason) (makes (w.calls + 1) (begins (node_at n w)))
+
+  abbrev v : Cluster
+  v = (put n u [] (counted w)).cluster
+
+  abbrev pend : List PendingCall
+  pend = own_pending n (w.calls + 1) asked ∷ pending (counted w)
+
+  labels : labels_of n pend u.outs ≡ Answered n asked (answer.Refused reason) ∷ []
+  unfolding answers does makes
+  labels = outs_labels n 0 0 (w.calls + 1) asked (answer.Refused reason) (pending (counted w)) u.outs [] refl (inl refl)
+
+  frames : frames_of u.outs ≡ []
+  unfolding answers does makes frames_of
+  frames = refl
+
+  sent_is : v.sent ≡ w.sent ++ frames_of u.outs
+  unfolding put with_node
+  sent_is = refl
+
+  sent_same : v.sent ≡ w.sent
+  sent_same = sent_is ∙ ap (λ (l : List Sent). w.sent ++ l) frames ∙ append-nil w.sent
+
+  calls_is : v.calls ≡ w.calls + 1
+  unfolding put with_node
+  calls_is = refl
+
+  accepted : (b : Bool) → AcceptsLabels c rules r (cond b (Answered n asked (answer.Refused reason) ∷ []) []) r
+  accepted true = (r, silent c rules n asked (answer.Refused reason) r quiet, refl)
+  accepted false = refl
+
+  mine : NodeLives c rules (called_by n asked w h.who) v r h.ages n u.node
+  unfolding answers does makes
+  mine = node_lead c rules (called_by n asked w h.who) (counted w) v r h.ages n (node_at n w) (node_at n w).lead calls_is
+      (lead_later c w v r h.ages r h.ages n (node_at n w).lead (later_none r h.ages) (λ g e. e) (λ q i. sent_still w v (frames_of u.outs) q sent_is i) (h.nodes n there).lead)
+      (subst (λ (l : List Sent). AllByRecursion (λ s. ReplySays r h.ages n (node_at n w) s.frame s.frame.msg) l) (sym sent_same) (h.nodes n there).replies)
+      (node_called c rules h.who w r h.ages n (node_at n w) (n, asked) (h.nodes n there))
+
+  unremoved : (m d : ℕ) (k : List ℕ) → is_removed r m d k (labels_of n pend u.outs) ≡ false
+  unfolding is_removal
+  unremoved m d k = ap (λ (z : List Label). is_removed r m d k z) labels
+
+  pub refused_turned : Turned c rules (called_by n asked w h.who) (counted w) r h.ages n pend u
+  unfolding law_marked.is_removed
+  refused_turned = record {
+    lines = r;
+    ages = h.ages;
+    accepts = subst (λ (z : List Label). AcceptsLabels c rules r (record_labels c z) r) (sym labels) (accepted (speaks_of_records c (Answered n asked (answer.Refused reason))));
+    later = later_none r h.ages;
+    away = λ k ne. record { line = refl; pline = refl; views = λ g db key born. refl };
+    last = refl;
+    holder = refl;
+    lives = resent c rules w v r h.ages (λ m db key. ap (λ (l : List Sent). mails m db key l) sent_same) h.lines;
+    mine = mine;
+    says = subst (λ (l : List Sent). AllByRecursion (λ s. MailSays c r h.ages s.frame) l) (sym frames) tt;
+    replies = λ k ne. subst (λ (l : List Sent). AllByRecursion (λ s. ReplySays r h.ages k (node_at k (counted w)) s.frame s.frame.msg) l) (sym frames) tt;
+    marks = λ g born db key. subst (λ (t : Bool). MarksStep t (marks_of (h.ages.ghosts g db key)) (marks_of (h.ages.ghosts g db key))) (sym (unremoved g db key))
+        (marks_go false (span_of (h.ages.ghosts g db key)) (span_of (h.ages.ghosts g db key)) ((h.lines.line g born).world db key).all.marks.under (goes_stays (span_of (h.ages.ghosts g db key))));
+  }

@@ -1,0 +1,2 @@
+//! What a Freeze, and what a node does that freezes, makes of registers, worlds and nodes.
+#![tactic(auto)]

@@ -1,0 +1,11 @@
+pub mod Quiet
+pub mod Standing
+pub mod Stopped
+pub mod Bare
+pub mod Ticketed
+pub mod Turning
+pub mod Wordless
+pub mod Beginning
+pub mod Recovered
+pub mod Called
+pub mod Taking

@@ -1,0 +1,10 @@
+pub mod Facts
+pub mod Stores
+pub mod Places
+pub mod Stand
+pub mod Opening
+pub mod Shares
+pub mod Taking
+pub mod Births
+pub mod Pulls
+pub mod Merged
