@@ -107,8 +107,8 @@ comes_back (V4 n) fits = ap V4 (from_be_bytes-to_be_bytes_4 n fits)
 comes_back (V6 n) fits = ap V6 (ap (from_be_bytes w128) (same_bytes 8 (to_be_bytes w128 n) refl (bytes_small 16 n)) ∙ from_be_bytes-to_be_bytes_16 n fits)
 
 -- a word that is the text of an address spells no other
-pub same_address : (word : List ℕ) (ip : IpAddr) → IsIpText word ip → (a : Address) → IsAddress a → address_text a ≡ word → of_ip ip ≡ a
-same_address word ip read a fits same = ap of_ip (IsIpText_unique word ip (ip_of a) read (subst (λ t. IsIpText t (ip_of a)) same (spells a))) ∙ comes_back a fits
+pub same_value : (word : List ℕ) (ip : IpAddr) → IsIpText word ip → (a : Address) → IsAddress a → address_text a ≡ word → of_ip ip ≡ a
+same_value word ip read a fits same = ap of_ip (IsIpText_unique word ip (ip_of a) read (subst (λ t. IsIpText t (ip_of a)) same (spells a))) ∙ comes_back a fits
 
 -- a word that spells nothing is the text of no address
 pub no_address : (word : List ℕ) → ((ip : IpAddr) → ¬ IsIpText word ip) → (a : Address) → ¬ (address_text a ≡ word)
@@ -116,4 +116,4 @@ no_address word none a same = none (ip_of a) (subst (λ t. IsIpText t (ip_of a))
 
 -- no two addresses have one text
 pub one_address : (a b : Address) → IsAddress a → IsAddress b → address_text a ≡ address_text b → a ≡ b
-one_address a b fits room same = sym (comes_back a fits) ∙ same_address (address_text b) (ip_of a) (subst (λ t. IsIpText t (ip_of a)) same (spells a)) b room refl
+one_address a b fits room same = sym (comes_back a fits) ∙ same_value (address_text b) (ip_of a) (subst (λ t. IsIpText t (ip_of a)) same (spells a)) b room refl

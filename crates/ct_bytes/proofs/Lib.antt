@@ -1,4 +1,6 @@
-pub mod Addresses
-pub mod Numbers
-pub mod Reading
-pub mod Spellings
+pub mod AddressOrder
+mod Addresses
+mod Numbers
+mod Reading
+mod Spellings
+pub mod Words

@@ -1,10 +1,10 @@
 -- The one spelling of an address, and the order of addresses.
-use Rattle.std.specs.Prelude.{ℕ, ◌^◌, ◌<◌, List, Option, None, Some, bytes_eq, if◌then◌else◌}
+use Rattle.std.specs.Prelude.{ℕ, ◌^◌, ◌<◌, ◌==◌, Bool, false, List, Option, None, Some, bytes_eq, if◌then◌else◌}
 use Rattle.std.specs.Int.{w32, w128, to_be_bytes, from_be_bytes}
 use Rattle.std.specs.Net.Addr.{segments_of, octets_of}
 use Rattle.std.specs.Net.Text.{ipv4_text, hex_groups_text}
 use Rattle.std.specs.Net.Reader.{whole_value, read_ipv4, read_ipv6}
-use Rattle.std.specs.Ordering.{nat_cmp}
+use Rattle.std.specs.Ordering.{nat_cmp, is_lt}
 use Rattle.std.specs.declared.cmp.Ordering.{Ordering}
 use Rattle.std.specs.declared.cmp.Ordering.TheVariants.{Less, Greater}
 use Rattle.ct_bytes.specs.declared.address.Address.{Address}
@@ -54,3 +54,13 @@ address_cmp (V4 m) (V4 n) = nat_cmp m n
 address_cmp (V4 m) (V6 n) = Less
 address_cmp (V6 m) (V4 n) = Greater
 address_cmp (V6 m) (V6 n) = nat_cmp m n
+
+-- does the first address come before the second?
+abbrev pub address_before : Address → Address → Bool
+address_before a b = is_lt (address_cmp a b)
+
+abbrev pub same_address : Address → Address → Bool
+same_address (V4 m) (V4 n) = m == n
+same_address (V6 m) (V6 n) = m == n
+same_address (V4 m) (V6 n) = false
+same_address (V6 m) (V4 n) = false

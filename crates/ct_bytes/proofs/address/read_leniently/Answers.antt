@@ -1,7 +1,7 @@
 use Rattle.std.proofs.Common.{Some, ap, ◌∙◌, sym}
 use Rattle.std.specs.declared.net.ip_addr.IpAddr.TheVariants as Ip
 use Rattle.ct_bytes.specs.declared.address.Address.TheVariants.{V4, V6}
-use Rattle.ct_bytes.proofs.Addresses.{same_address, no_address}
+use Rattle.ct_bytes.proofs.Addresses.{same_value, no_address}
 use Rattle.ct_bytes.proofs.Reading.{read_v4, read_v6, read_none}
 use Rattle.ct_bytes.proofs.address.read_leniently.Goals as goal
 
@@ -11,7 +11,7 @@ returns-in-Ok-V4 c =
     let read = rw c.in-Ok-V4.field-0-is at c.in-Ok-V4.ensures in
     record {
       exact = ap (λ n. Some (V4 n)) c.to_bits.ensures ∙ sym (read_v4 word c.in-Ok-V4.ip read);
-      only = λ a fits same. ap Some (ap V4 c.to_bits.ensures ∙ same_address word (Ip.V4 c.in-Ok-V4.ip) read a fits same);
+      only = λ a fits same. ap Some (ap V4 c.to_bits.ensures ∙ same_value word (Ip.V4 c.in-Ok-V4.ip) read a fits same);
     }
 
 pub returns-in-Ok-V6 : goal.returns-in-Ok-V6
@@ -20,7 +20,7 @@ returns-in-Ok-V6 c =
     let read = rw c.in-Ok-V6.field-0-is at c.in-Ok-V6.ensures in
     record {
       exact = ap (λ n. Some (V6 n)) c.to_bits-in-Ok-V6.ensures ∙ sym (read_v6 word c.in-Ok-V6.ip read);
-      only = λ a fits same. ap Some (ap V6 c.to_bits-in-Ok-V6.ensures ∙ same_address word (Ip.V6 c.in-Ok-V6.ip) read a fits same);
+      only = λ a fits same. ap Some (ap V6 c.to_bits-in-Ok-V6.ensures ∙ same_value word (Ip.V6 c.in-Ok-V6.ip) read a fits same);
     }
 
 pub returns-in-Err : goal.returns-in-Err
