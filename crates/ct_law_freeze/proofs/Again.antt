@@ -70,7 +70,7 @@ freeze_says : (c : Config) (w : Cluster) (r : Lines) (a : Ages) (n g k : ℕ) (m
 unfolding RoundSays ReplySays record_in
 freeze_says c w r a n g k members t = record { sender = refl; round = t; none = refl; reply = tt }
 
-push_says : (c : Config) (w : Cluster) (r : Lines) (a : Ages) (n g k : ℕ) (members : List ℕ) (b : PushBody) → IsTicket c r g n members → r.born g ≡ true → b.members ≡ members → b.table ≡ a.tables g → Says_round c w r a n (record { generation = g; sender = n; receiver = k; msg = push_of b })
+pub push_says : (c : Config) (w : Cluster) (r : Lines) (a : Ages) (n g k : ℕ) (members : List ℕ) (b : PushBody) → IsTicket c r g n members → r.born g ≡ true → b.members ≡ members → b.table ≡ a.tables g → Says_round c w r a n (record { generation = g; sender = n; receiver = k; msg = push_of b })
 unfolding RoundSays ReplySays record_in push_of
 push_says c w r a n g k members b t born is table = record { sender = refl; round = (t.later, born, is ∙ sym t.named, table); none = refl; reply = tt }
 

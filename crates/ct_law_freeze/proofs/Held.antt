@@ -159,7 +159,7 @@ reply_held r s a b n x y db key st g l f m is z freezing locked views k = tt
 pub phase_held : (c : Config) (rules : Rules) (who : Callers) (v : Cluster) (r : Lines) (b : Ages) (n g l : ℕ) (y : Node) → (y.phase ≡ Freezing g l) ⊎ ((y.phase ≡ Frozen g) × ((d : ℕ) (k : List ℕ) → (state_at d k y).locked ≡ None)) → Rest_after r b n g y → PhaseSays c rules who v r b n y y.phase
 unfolding PhaseSays
 phase_held c rules who v r b n g l y z k = ⊎_elim
-    (λ (e : y.phase ≡ Freezing g l). subst (λ (p : Phase). PhaseSays c rules who v r b n y p) (sym e) (k.ticket, k.unborn, k.promise, k.older, k.empty, k.rests, k.commit))
+    (λ (e : y.phase ≡ Freezing g l). subst (λ (p : Phase). PhaseSays c rules who v r b n y p) (sym e) (k.ticket, k.unborn, k.promise, k.older, k.empty, k.rests, k.commit, k.member))
     (λ p. subst (λ (q : Phase). PhaseSays c rules who v r b n y q) (sym p.0) (k.ticket, k.promise, k.older, k.empty, k.rests, k.commit, p.1, λ born. absurd (let e = sym born ∙ k.unborn in cc)))
     z
 
@@ -306,6 +306,7 @@ module _ (c : Config) (rules : Rules) (w : Cluster) (r : Lines) (h : Lives c rul
     empty = λ z. absurd (lined z);
     rests = λ _ d k. rests_all d k;
     commit = λ d. t.node.commit d ∙ calm d;
+    member = says.7;
   }
 
   all_replies : AllByRecursion (λ q. ReplySays s b n y q.frame q.frame.msg) v.sent

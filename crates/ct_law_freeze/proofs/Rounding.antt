@@ -64,17 +64,17 @@ abbrev pub sends : List Frame → List Out
 sends [] = []
 sends (f ∷ fs) = out.Send f ∷ sends fs
 
-sends_untold : (c : Config) (n : ℕ) (pend : List PendingCall) (fs : List Frame) → record_labels c (labels_of n pend (sends fs)) ≡ []
+pub sends_untold : (c : Config) (n : ℕ) (pend : List PendingCall) (fs : List Frame) → record_labels c (labels_of n pend (sends fs)) ≡ []
 unfolding labels_of
 sends_untold c n pend [] = refl
 sends_untold c n pend (f ∷ fs) = filter_more (speaks_of_records c) (sent_label f.sender f.generation f.msg) (labels_of n pend (sends fs)) ∙ (λ i. sent_untold c f.sender f.generation f.msg i ++ sends_untold c n pend fs i)
 
-sends_mails : (c : Config) (w : Cluster) (r : Lines) (a : Ages) (n m db : ℕ) (key : List ℕ) (fs : List Frame) → AllByRecursion (Says_round c w r a n) fs → mails m db key (frames_of (sends fs)) ≡ []
+pub sends_mails : (c : Config) (w : Cluster) (r : Lines) (a : Ages) (n m db : ℕ) (key : List ℕ) (fs : List Frame) → AllByRecursion (Says_round c w r a n) fs → mails m db key (frames_of (sends fs)) ≡ []
 unfolding frames_of mails mail_of
 sends_mails c w r a n m db key [] h = refl
 sends_mails c w r a n m db key (f ∷ fs) h = (λ i. mail_of m db key f (h.0.none i) ++ sends_mails c w r a n m db key fs h.1 i)
 
-sends_all : (P : Frame → Type 0) (fs : List Frame) → AllByRecursion P fs → AllByRecursion (λ s. P s.frame) (frames_of (sends fs))
+pub sends_all : (P : Frame → Type 0) (fs : List Frame) → AllByRecursion P fs → AllByRecursion (λ s. P s.frame) (frames_of (sends fs))
 unfolding frames_of
 sends_all P [] h = tt
 sends_all P (f ∷ fs) h = (h.0, sends_all P fs h.1)
@@ -84,13 +84,13 @@ unfolding ReplySays
 foreign r a n k x f (msg.PullReply vbase pbase table ptables addresses) own ne = λ e. absurd (ne (sym e ∙ own))
 foreign r a n k x f m own ne = tt
 
-replies_all : (c : Config) (w : Cluster) (r : Lines) (a : Ages) (n k : ℕ) (f : Frame) → Says_round c w r a n f → ReplySays r a k (node_at k w) f f.msg
+pub replies_all : (c : Config) (w : Cluster) (r : Lines) (a : Ages) (n k : ℕ) (f : Frame) → Says_round c w r a n f → ReplySays r a k (node_at k w) f f.msg
 replies_all c w r a n k f h = ⊎_elim
     (λ (e : k ≡ n). subst (λ (j : ℕ). ReplySays r a j (node_at j w) f f.msg) (sym e) h.reply)
     (λ (ne : k ≢ n). foreign r a n k (node_at k w) f f.msg h.sender ne)
     (cases_eq k n)
 
-says_mail : (c : Config) (w : Cluster) (r : Lines) (a : Ages) (n : ℕ) (f : Frame) → Says_round c w r a n f → MailSays c r a f
+pub says_mail : (c : Config) (w : Cluster) (r : Lines) (a : Ages) (n : ℕ) (f : Frame) → Says_round c w r a n f → MailSays c r a f
 says_mail c w r a n f h = record { round = h.round; sound = λ k e. absurd (let z : None ≡ Some k = sym h.none ∙ e in cc) }
 
 -- a turn that sends these, and leads that

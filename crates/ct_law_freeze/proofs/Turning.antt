@@ -167,11 +167,12 @@ pub record Rest_after (r : Lines) (b : Ages) (n g : ℕ) (y : Node) : Type 0 whe
   pub empty : r.line n ≡ 0 → (db : ℕ) → (db_at db y).records ≡ []
   pub rests : r.line n ≢ 0 → (db : ℕ) (key : List ℕ) → Rests db key ((b.worlds (r.line n) db key).nodes n) y
   pub commit : (db : ℕ) → (db_at db y).commit ≡ None
+  pub member : is_among n (r.members g) ≡ true
 
 phase_after : (c : Config) (rules : Rules) (who : Callers) (v : Cluster) (r : Lines) (b : Ages) (n g h : ℕ) (x y : Node) → Froze c g h x y → Rest_after r b n g y → PhaseSays c rules who v r b n y y.phase
 unfolding PhaseSays
 phase_after c rules who v r b n g h x y z k = ⊎_elim
-    (λ (e : y.phase ≡ Freezing g h). subst (λ (p : Phase). PhaseSays c rules who v r b n y p) (sym e) (k.ticket, k.unborn, k.promise, k.older, k.empty, k.rests, k.commit))
+    (λ (e : y.phase ≡ Freezing g h). subst (λ (p : Phase). PhaseSays c rules who v r b n y p) (sym e) (k.ticket, k.unborn, k.promise, k.older, k.empty, k.rests, k.commit, k.member))
     (λ p. subst (λ (q : Phase). PhaseSays c rules who v r b n y q) (sym p.0) (k.ticket, k.promise, k.older, k.empty, k.rests, k.commit, p.1, λ born. absurd (let e = sym born ∙ k.unborn in cc)))
     z.phase
 
@@ -278,6 +279,7 @@ module _ (c : Config) (rules : Rules) (w : Cluster) (r : Lines) (h : Lives c rul
       next = turn.node.next ∙ before.next ne db key ∙ next_on (is_ended c 0 x.dbs db key) ((a.worlds (r.line n) db key).nodes n) ∙ ap (λ (t : View). t.next) (sym (freed.here ne db key));
     };
     commit = turn.node.commit;
+    member = subst (λ (ms : List ℕ). is_among n ms ≡ true) (sym ticket.named) member;
   }
 
   wish_is : (db : ℕ) (key : List ℕ) → (state_at db key y).wish ≡ (state_at db key x).wish

@@ -2,7 +2,7 @@
 use Rattle.std.proofs.Common.{◌≡◌, ◌≢◌, ℕ, ◌<◌, ◌≤◌, Bool, true, false, ◌||◌, ◌^◌, List, [], ◌∷◌, Some, inl, inr, ⊎_elim, refl, sym, ap, ◌∙◌, subst, arith}
 use Rattle.std.specs.Prelude.{nat_eq}
 use Rattle.std.specs.List.{AllByRecursion}
-use Rattle.std.proofs.lemmas.Bool.{cases_eq}
+use Rattle.std.proofs.lemmas.Bool.{cases_eq, eq-eqb}
 use Rattle.ct_msg.specs.declared.config.Config.{Config}
 use Rattle.ct_frame.specs.declared.frame.Frame.{Frame}
 use Rattle.ct_frame.specs.declared.frame.Msg.{Msg}
@@ -34,12 +34,18 @@ use Rattle.ct_law_line.proofs.Lives.{Replied, ReplySays, Waits, WasSent, IsGathe
 use Rattle.ct_law_line.proofs.Later.{Later, Away}
 use Rattle.ct_law_line.proofs.Framing.{ticket_later}
 
+-- does the node lead the round of this generation, before its line is born?
+unfoldable pub is_led : ℕ → Lead → Bool
+is_led g (Freezes h members missing) = nat_eq h g
+is_led g (Pulls h members missing x) = nat_eq h g
+is_led g l = false
+
 -- a line that is born by the step: the node promised it, is as it will install it, and does not lead its round
 pub record Fresh (c : Config) (rules : Rules) (r s : Lines) (b : Ages) (k : ℕ) (x : Node) (g : ℕ) : Type 0 where
   pub promised : is_among k (s.members g) ≡ true → g ≤ x.promise
   pub past : (h : ℕ) → x.phase ≢ Freezing g h
   pub begun : x.phase ≡ Frozen g → (db : ℕ) (key : List ℕ) → (b.worlds g db key).nodes k ≡ begun_view (scene c (era_of s b g) rules db key) (row_in b g db key) k (state_at db key x).wish x.next
-  pub led : r.leader g ≢ Some k
+  pub led : is_led g x.lead ≡ false
 
 abbrev pub AllFresh : Config → Rules → Lines → Lines → Ages → ℕ → Node → Type 0
 AllFresh c rules r s b k x = (g : ℕ) → r.born g ≡ false → s.born g ≡ true → Fresh c rules r s b k x g
@@ -164,6 +170,7 @@ module _ (c : Config) (rules : Rules) (who them : Callers) (w v : Cluster) (r : 
       λ out. h.4 (sym away.line ∙ out),
       rests_away h.5,
       h.6,
+      subst (λ (ms : List ℕ). is_among k ms ≡ true) (sym (later.named g h.0.0 h.0.1)) h.7,
     )
     phase_away (Frozen g) is h = (
       (h.0.0, later.leader g h.0.0 h.0.1),
@@ -184,19 +191,22 @@ module _ (c : Config) (rules : Rules) (who them : Callers) (w v : Cluster) (r : 
     gathered_away : (g : ℕ) (members missing : List ℕ) (y : Gathered) → IsGatheredOf w k g members missing y → IsGatheredOf v k g members missing y
     gathered_away g members missing y h = record { pulls = h.pulls; same = h.same; sent = λ p has. sent _ (h.sent p has); member = h.member; waits = h.waits }
 
-    lead_away : (l : Lead) → LeadSays c w r a k l → LeadSays c v s b k l
-    unfolding LeadSays
-    lead_away Nothing h = tt
-    lead_away (Freezes g members missing) h = (ticket_later c r a s b g k members later h.0, unborn_still g h.1 (λ t. (fresh g h.1 t).led h.0.given))
-    lead_away (Pulls g members missing y) h = (ticket_later c r a s b g k members later h.0, unborn_still g h.1 (λ t. (fresh g h.1 t).led h.0.given), gathered_away g members missing y h.2)
-    lead_away (Installs g members missing body) h = (
+    unled : (g : ℕ) → r.born g ≡ false → is_led g x.lead ≡ true → s.born g ≡ true → ⊥
+    unled g old leads now = absurd (let e = sym leads ∙ (fresh g old now).led in cc)
+
+    lead_away : (l : Lead) → x.lead ≡ l → LeadSays c w r a k l → LeadSays c v s b k l
+    unfolding LeadSays is_led
+    lead_away Nothing is h = tt
+    lead_away (Freezes g members missing) is h = (ticket_later c r a s b g k members later h.0, unborn_still g h.1 (unled g h.1 (ap (is_led g) is ∙ eq-eqb g g refl)))
+    lead_away (Pulls g members missing y) is h = (ticket_later c r a s b g k members later h.0, unborn_still g h.1 (unled g h.1 (ap (is_led g) is ∙ eq-eqb g g refl)), gathered_away g members missing y h.2)
+    lead_away (Installs g members missing body) is h = (
       ticket_later c r a s b g k members later h.0,
       later.born g h.1,
       h.2,
       h.3 ∙ sym (later.tables g h.1),
       waits_grow members missing (λ m. r.installed g m ≡ true) (λ m. s.installed g m ≡ true) (later.installed g) h.4,
     )
-    lead_away (Completed g members t) h = (ticket_later c r a s b g k members later h.0, later.born g h.1, λ m among. later.installed g m (h.2 m among))
+    lead_away (Completed g members t) is h = (ticket_later c r a s b g k members later h.0, later.born g h.1, λ m among. later.installed g m (h.2 m among))
 
     formed_away : (h : NodeLives c rules who w r a k x) (db : ℕ) (key : List ℕ) → Is_formed (scene c (era_of s b (s.line k)) rules db key) k (view db key x)
     formed_away h db key = ⊎_elim
@@ -225,6 +235,6 @@ module _ (c : Config) (rules : Rules) (who them : Callers) (w v : Cluster) (r : 
       formed = formed_away h;
       commits = h.commits;
       phase = phase_away x.phase refl h.phase;
-      lead = lead_away x.lead h.lead;
+      lead = lead_away x.lead refl h.lead;
       replies = replies;
     }

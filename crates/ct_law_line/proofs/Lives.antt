@@ -113,7 +113,7 @@ HasTicket r g = (h : ℕ) × (r.leader g ≡ Some h)
 -- by its phase: nothing is kept, or its records are those of the worlds of its line, or it rests there
 unfoldable pub PhaseSays : Config → Rules → Callers → Cluster → Lines → Ages → ℕ → Node → Phase → Type 0
 PhaseSays c rules who w r a n x Idle = (r.line n ≡ 0) × ((db : ℕ) → (db_at db x).records ≡ []) × ((db : ℕ) → (db_at db x).commit ≡ None)
-PhaseSays c rules who w r a n x (Freezing g h) = HasTicket r g × (r.born g ≡ false) × (x.promise ≡ g) × (r.pline n < g) × (r.line n ≡ 0 → (db : ℕ) → (db_at db x).records ≡ []) × (r.line n ≢ 0 → (db : ℕ) (key : List ℕ) → Rests db key ((a.worlds (r.line n) db key).nodes n) x) × ((db : ℕ) → (db_at db x).commit ≡ None)
+PhaseSays c rules who w r a n x (Freezing g h) = HasTicket r g × (r.born g ≡ false) × (x.promise ≡ g) × (r.pline n < g) × (r.line n ≡ 0 → (db : ℕ) → (db_at db x).records ≡ []) × (r.line n ≢ 0 → (db : ℕ) (key : List ℕ) → Rests db key ((a.worlds (r.line n) db key).nodes n) x) × ((db : ℕ) → (db_at db x).commit ≡ None) × (is_among n (r.members g) ≡ true)
 PhaseSays c rules who w r a n x (Frozen g) = HasTicket r g × (x.promise ≡ g) × (r.pline n < g) × (r.line n ≡ 0 → (db : ℕ) → (db_at db x).records ≡ []) × (r.line n ≢ 0 → (db : ℕ) (key : List ℕ) → Rests db key ((a.worlds (r.line n) db key).nodes n) x) × ((db : ℕ) → (db_at db x).commit ≡ None) ×
     ((db : ℕ) (key : List ℕ) → (state_at db key x).locked ≡ None) ×
     -- where generation g was born, each world of it has the node as it will install it

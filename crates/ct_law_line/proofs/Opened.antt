@@ -71,7 +71,6 @@ first_line c rules is = record {
   low = λ db key n e. omega arith;
   rows_low = refl;
   order = refl;
-  kinds = refl;
 }
 
 opened_lines : (c : Config) (rules : Rules) → IsConfig c → LinesLive c rules (cluster.opening c) (Lines.opening c) (opened_ages c)

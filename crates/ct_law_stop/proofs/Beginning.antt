@@ -40,7 +40,7 @@ rests_led db key v x l h = record { state = h.state; next = h.next }
 phase_led : (c : Config) (rules : Rules) (who : Callers) (w : Cluster) (r : Lines) (a : Ages) (n : ℕ) (x : Node) (l : Lead) (p : Phase) → PhaseSays c rules who w r a n x p → PhaseSays c rules who w r a n (record x { lead = l }) p
 unfolding PhaseSays state_at db_at
 phase_led c rules who w r a n x l Idle h = h
-phase_led c rules who w r a n x l (Freezing g k) h = (h.0, h.1, h.2, h.3, h.4, λ some db key. rests_led db key _ x l (h.5 some db key), h.6)
+phase_led c rules who w r a n x l (Freezing g k) h = (h.0, h.1, h.2, h.3, h.4, λ some db key. rests_led db key _ x l (h.5 some db key), h.6, h.7)
 phase_led c rules who w r a n x l (Frozen g) h = (h.0, h.1, h.2, h.3, λ some db key. rests_led db key _ x l (h.4 some db key), h.5, h.6, h.7)
 phase_led c rules who w r a n x l p h = h
 
