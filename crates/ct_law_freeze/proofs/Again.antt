@@ -1,4 +1,4 @@
--- What a leader says again at a Retry, and the begin of a round.
+-- What a leader says again at a Retry.
 use Rattle.std.proofs.Common.{◌≡◌, ℕ, Bool, true, false, cond, List, [], ◌∷◌, ◌++◌, append-nil, append_assoc, refl, sym, ap, ◌∙◌, subst}
 use Rattle.std.specs.List.{AllByRecursion}
 use Rattle.ct_msg.specs.declared.config.Config.{Config}
@@ -128,17 +128,3 @@ retry_turned c rules w r h n there absent = lead_turned c rules w r h n (happens
     other : (b : Bool) (p q : Turn) → b ≡ false → cond b p q ≡ q
     other true p q e = absurd (cc)
     other false p q e = refl
-
--- ---- the begin of a round, once its ticket was given
-
-pub begin_turned : (c : Config) (rules : Rules) (w : Cluster) (r : Lines) (h : Lives c rules w r) (n g : ℕ) (members : List ℕ) → nat_lt n c.nodes ≡ true → IsTicket c r g n members → r.born g ≡ false →
-    Turned c rules h.who w r h.ages n (pending w) (happens c rules n (begins (node_at n w)) (event.BeginRound g members))
-unfolding happens begin_round with_lead makes LeadSays
-begin_turned c rules w r h n g members there ticket unborn = lead_turned c rules w r h n (happens c rules n (begins (node_at n w)) (event.BeginRound g members)) there (either (nat_lt (node_at n w).promise g))
-  where
-    t : Turn
-    t = with_lead (Freezes g members members) (makes g (begins (node_at n w)))
-
-    either : (b : Bool) → Led c w r h.ages n (cond b (posts_all g n members (msg.Freeze members) t) (begins (node_at n w)))
-    either true = more_led c w r h.ages n (Freezes g members members) t (posts_all g n members (msg.Freeze members) t) refl refl (ticket, unborn) (says_all c w r h.ages n g members (msg.Freeze members) t (λ k. freeze_says c w r h.ages n g k members ticket))
-    either false = idle_led c w r h.ages n (h.nodes n there).lead

@@ -6,7 +6,6 @@ use Rattle.ct_cluster.specs.Labels.{Answered, Label}
 use Rattle.ct_cluster.specs.Steps.{frames_of, put, with_node}
 use Rattle.ct_cluster.specs.declared.step.PendingCall.{PendingCall}
 use Rattle.ct_law_change.proofs.Markings.{goes_stays}
-use Rattle.ct_law_cluster.proofs.Called.{counted, called_by}
 use Rattle.ct_law_fact.proofs.Invariant.{span_of}
 use Rattle.ct_law_freeze.proofs.Freezing.{resent}
 use Rattle.ct_law_freeze.proofs.Stood.{lead_later}
@@ -41,7 +40,7 @@ use Rattle.ct_rules_node.specs.Turn.{makes, answers}
 use Rattle.ct_law_shown.specs.Shown.{is_telling}
 use Rattle.ct_law_freeze.proofs.Held.{outs_labels}
 use Rattle.ct_law_freeze.proofs.Leading.{node_lead}
-use Rattle.ct_law_freeze.proofs.Counted.{node_called}
+use Rattle.ct_law_line.proofs.Apart.{none_fresh}
 
 silent : (config : Config) (rules : Rules) (n : ℕ) (asked : ClientOp) (a : Answer) (r : Lines) → is_telling a ≡ false → AcceptsAnswer config rules n asked a r r
 unfolding is_telling
@@ -51,17 +50,17 @@ silent config rules n asked _ r e = absurd (cc)
 
 module _ (c : Config) (rules : Rules) (w : Cluster) (r : Lines) (h : Lives c rules w r) (n : ℕ) (asked : ClientOp) (reason : Why) (there : nat_lt n c.nodes ≡ true) (quiet : is_telling (answer.Refused reason) ≡ false) where
   abbrev u : Turn
-  u = answers (w.calls + 1) (answer.Refused reason) (makes (w.calls + 1) (begins (node_at n w)))
+  u = answers w.calls (answer.Refused reason) (makes w.calls (begins (node_at n w)))
 
   abbrev v : Cluster
-  v = (put n u [] (counted w)).cluster
+  v = (put n u [] w).cluster
 
   abbrev pend : List PendingCall
-  pend = own_pending n (w.calls + 1) asked ∷ pending (counted w)
+  pend = own_pending n w.calls asked ∷ pending w
 
   labels : labels_of n pend u.outs ≡ Answered n asked (answer.Refused reason) ∷ []
   unfolding answers does makes
-  labels = outs_labels n 0 0 (w.calls + 1) asked (answer.Refused reason) (pending (counted w)) u.outs [] refl (inl refl)
+  labels = outs_labels n 0 0 w.calls asked (answer.Refused reason) (pending w) u.outs [] refl (inl refl)
 
   frames : frames_of u.outs ≡ []
   unfolding answers does makes frames_of
@@ -74,7 +73,7 @@ module _ (c : Config) (rules : Rules) (w : Cluster) (r : Lines) (h : Lives c rul
   sent_same : v.sent ≡ w.sent
   sent_same = sent_is ∙ ap (λ (l : List Sent). w.sent ++ l) frames ∙ append-nil w.sent
 
-  calls_is : v.calls ≡ w.calls + 1
+  calls_is : v.calls ≡ w.calls
   unfolding put with_node
   calls_is = refl
 
@@ -82,18 +81,18 @@ module _ (c : Config) (rules : Rules) (w : Cluster) (r : Lines) (h : Lives c rul
   accepted true = (r, silent c rules n asked (answer.Refused reason) r quiet, refl)
   accepted false = refl
 
-  mine : NodeLives c rules (called_by n asked w h.who) v r h.ages n u.node
+  mine : NodeLives c rules h.who v r h.ages n u.node
   unfolding answers does makes
-  mine = node_lead c rules (called_by n asked w h.who) (counted w) v r h.ages n (node_at n w) (node_at n w).lead calls_is
+  mine = node_lead c rules h.who w v r h.ages n (node_at n w) (node_at n w).lead calls_is
       (lead_later c w v r h.ages r h.ages n (node_at n w).lead (later_none r h.ages) (λ g e. e) (λ q i. sent_still w v (frames_of u.outs) q sent_is i) (h.nodes n there).lead)
       (subst (λ (l : List Sent). AllByRecursion (λ s. ReplySays r h.ages n (node_at n w) s.frame s.frame.msg) l) (sym sent_same) (h.nodes n there).replies)
-      (node_called c rules h.who w r h.ages n (node_at n w) (n, asked) (h.nodes n there))
+      (h.nodes n there)
 
   unremoved : (m d : ℕ) (k : List ℕ) → is_removed r m d k (labels_of n pend u.outs) ≡ false
   unfolding is_removal
   unremoved m d k = ap (λ (z : List Label). is_removed r m d k z) labels
 
-  pub refused_turned : Turned c rules (called_by n asked w h.who) (counted w) r h.ages n pend u
+  pub refused_turned : Turned c rules h.who w r h.ages n pend u
   unfolding law_marked.is_removed
   refused_turned = record {
     lines = r;
@@ -106,7 +105,8 @@ module _ (c : Config) (rules : Rules) (w : Cluster) (r : Lines) (h : Lives c rul
     lives = resent c rules w v r h.ages (λ m db key. ap (λ (l : List Sent). mails m db key l) sent_same) h.lines;
     mine = mine;
     says = subst (λ (l : List Sent). AllByRecursion (λ s. MailSays c r h.ages s.frame) l) (sym frames) tt;
-    replies = λ k ne. subst (λ (l : List Sent). AllByRecursion (λ s. ReplySays r h.ages k (node_at k (counted w)) s.frame s.frame.msg) l) (sym frames) tt;
+    replies = λ k ne. subst (λ (l : List Sent). AllByRecursion (λ s. ReplySays r h.ages k (node_at k w) s.frame s.frame.msg) l) (sym frames) tt;
     marks = λ g born db key. subst (λ (t : Bool). MarksStep t (marks_of (h.ages.ghosts g db key)) (marks_of (h.ages.ghosts g db key))) (sym (unremoved g db key))
         (marks_go false (span_of (h.ages.ghosts g db key)) (span_of (h.ages.ghosts g db key)) ((h.lines.line g born).world db key).all.marks.under (goes_stays (span_of (h.ages.ghosts g db key))));
+    fresh = λ k ne lt. none_fresh c rules r r h.ages k (node_at k w) (λ g. refl);
   }

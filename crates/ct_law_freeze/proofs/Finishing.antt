@@ -37,7 +37,6 @@ use Rattle.ct_msg.specs.declared.client.ClientOp.{ClientOp}
 use Rattle.ct_register.specs.Legal.{AtRecord, AcceptsAnswer}
 use Rattle.ct_register.specs.Legal as legal
 use Rattle.ct_cluster.specs.Labels.{Answered}
-use Rattle.ct_law_cluster.proofs.Called.{counted, called_by}
 use Rattle.ct_law_node.proofs.Calling.{own_pending}
 use Rattle.ct_store.specs.Map.{look}
 use Rattle.ct_rules_node.specs.Node.{or_nothing}
@@ -177,34 +176,34 @@ module _ (c : Config) (rules : Rules) (w : Cluster) (r : Lines) (h : Lives c rul
   unfolding store reply keeps acts
   stored_formed v = formed_moves (scene c (era_of r a (r.line n)) rules db key) n (view db key x) (move_event.Store 0 v) (all_small c config db (has_place c db kind)) (own.formed db key) locked refl refl
 
-  pub store_held : (v : List ℕ) → Held_turn c rules w r a n g l db key (Stores n (w.calls + 1) v) (stored v there_state) (stored v (state_at db key x)) (op.Store db key v) answer.Stored (so_left n db key (stored v (state_at db key x)) answer.Stored x (w.calls + 1))
+  pub store_held : (v : List ℕ) → Held_turn c rules w r a n g l db key (Stores n w.calls v) (stored v there_state) (stored v (state_at db key x)) (op.Store db key v) answer.Stored (so_left n db key (stored v (state_at db key x)) answer.Stored x w.calls)
   unfolding frozen_state
   store_held v = record {
     freezing = freezing;
     locked = locked;
-    node = held_at c n x db key (stored v (state_at db key x)) g l (w.calls + 1) answer.Stored own.known.order has_db (formed_blank (scene c (era_of r a (r.line n)) rules db key) n (record (view db key x) { state = stored v (state_at db key x) }) (stored_formed v)) freezing;
+    node = held_at c n x db key (stored v (state_at db key x)) g l w.calls answer.Stored own.known.order has_db (formed_blank (scene c (era_of r a (r.line n)) rules db key) n (record (view db key x) { state = stored v (state_at db key x) }) (stored_formed v)) freezing;
     rests = ap (stored v) rested.state;
     wish = refl;
     formed = stored_formed v;
-    so = stores_so (scene c (era_of r a (r.line n)) rules db key) (a.worlds (r.line n) db key) n (w.calls + 1) v member joined world_locked;
+    so = stores_so (scene c (era_of r a (r.line n)) rules db key) (a.worlds (r.line n) db key) n w.calls v member joined world_locked;
     rsn = same_rsn v there_state.copy;
     more = [];
-    outs = left_outs n db key (stored v (state_at db key x)) answer.Stored x (w.calls + 1);
+    outs = left_outs n db key (stored v (state_at db key x)) answer.Stored x w.calls;
     acks = inl refl;
     kind = kind;
     speaks = spoken c n (op.Store db key v) answer.Stored kind;
     sort = λ s k. k;
   }
 
-  store_is : (v : List ℕ) → refusal c rules x (op.Store db key v) ≡ None → client c rules n (w.calls + 1) (op.Store db key v) (begins x) ≡ so_left n db key (stored v (state_at db key x)) answer.Stored x (w.calls + 1)
+  store_is : (v : List ℕ) → refusal c rules x (op.Store db key v) ≡ None → client c rules n w.calls (op.Store db key v) (begins x) ≡ so_left n db key (stored v (state_at db key x)) answer.Stored x w.calls
   unfolding at_record acted makes store reply keeps acts recs.view
-  store_is v free = client_serves c rules n (w.calls + 1) (op.Store db key v) x free ∙ serves_store c rules n (w.calls + 1) db key v (makes (w.calls + 1) (begins x))
+  store_is v free = client_serves c rules n w.calls (op.Store db key v) x free ∙ serves_store c rules n w.calls db key v (makes w.calls (begins x))
 
   pub store_turned : (v : List ℕ) → refusal c rules x (op.Store db key v) ≡ None →
-      Turned c rules (called_by n (op.Store db key v) w h.who) (counted w) r h.ages n (own_pending n (w.calls + 1) (op.Store db key v) ∷ pending (counted w)) (happens c rules n (begins x) (event.Client (w.calls + 1) (op.Store db key v)))
+      Turned c rules h.who w r h.ages n (own_pending n w.calls (op.Store db key v) ∷ pending w) (happens c rules n (begins x) (event.Client w.calls (op.Store db key v)))
   unfolding happens
-  store_turned v free = subst (λ (u : Turn). Turned c rules (called_by n (op.Store db key v) w h.who) (counted w) r h.ages n (own_pending n (w.calls + 1) (op.Store db key v) ∷ pending (counted w)) u) (sym (store_is v free))
-      (held_turned c rules w r h n g l db key (Stores n (w.calls + 1) v) (stored v there_state) (stored v (state_at db key x)) (op.Store db key v) answer.Stored (so_left n db key (stored v (state_at db key x)) answer.Stored x (w.calls + 1)) there (store_held v))
+  store_turned v free = subst (λ (u : Turn). Turned c rules h.who w r h.ages n (own_pending n w.calls (op.Store db key v) ∷ pending w) u) (sym (store_is v free))
+      (held_turned c rules w r h n g l db key (Stores n w.calls v) (stored v there_state) (stored v (state_at db key x)) (op.Store db key v) answer.Stored (so_left n db key (stored v (state_at db key x)) answer.Stored x w.calls) there (store_held v))
 
   -- ---- an unlock
 
@@ -219,10 +218,10 @@ module _ (c : Config) (rules : Rules) (w : Cluster) (r : Lines) (h : Lives c rul
       (frozen_formed (scene c (era_of r a (r.line n)) rules db key) n (view db key x) true (own.formed db key))
 
   abbrev u1 : Turn
-  u1 = so_left n db key freed answer.Unlocked x (w.calls + 1)
+  u1 = so_left n db key freed answer.Unlocked x w.calls
 
   node1 : Held_node x u1.node db key freed g l
-  node1 = held_at c n x db key freed g l (w.calls + 1) answer.Unlocked own.known.order has_db (formed_blank (scene c (era_of r a (r.line n)) rules db key) n (record (view db key x) { state = freed }) freed_formed) freezing
+  node1 = held_at c n x db key freed g l w.calls answer.Unlocked own.known.order has_db (formed_blank (scene c (era_of r a (r.line n)) rules db key) n (record (view db key x) { state = freed }) freed_formed) freezing
 
   node2 : ((d : ℕ) (k : List ℕ) → (state_at d k u1.node).locked ≡ None) → Held_node x (record u1.node { phase = Frozen g }) db key freed g l
   unfolding state_at db_at
@@ -250,8 +249,8 @@ module _ (c : Config) (rules : Rules) (w : Cluster) (r : Lines) (h : Lives c rul
   unfolding is_locked
   unlocked1 e d k = no_lock (state_at d k u1.node).locked ((sees_locks u1.node node1.order).all e d k)
 
-  unlock_of : (u : Turn) (more : List Out) → Held_node x u.node db key freed g l → u.outs ≡ out.Answer (w.calls + 1) answer.Unlocked ∷ more → (more ≡ []) ⊎ (more ≡ ack n g l ∷ []) →
-      Held_turn c rules w r a n g l db key (Releases n (w.calls + 1)) (record there_state { locked = None }) freed (op.Unlock db key) answer.Unlocked u
+  unlock_of : (u : Turn) (more : List Out) → Held_node x u.node db key freed g l → u.outs ≡ out.Answer w.calls answer.Unlocked ∷ more → (more ≡ []) ⊎ (more ≡ ack n g l ∷ []) →
+      Held_turn c rules w r a n g l db key (Releases n w.calls) (record there_state { locked = None }) freed (op.Unlock db key) answer.Unlocked u
   unfolding frozen_state
   unlock_of u more node outs acks = record {
     freezing = freezing;
@@ -260,7 +259,7 @@ module _ (c : Config) (rules : Rules) (w : Cluster) (r : Lines) (h : Lives c rul
     rests = ap (λ (s : RecState). record s { locked = None }) rested.state;
     wish = refl;
     formed = freed_formed;
-    so = releases_so (scene c (era_of r a (r.line n)) rules db key) (a.worlds (r.line n) db key) n (w.calls + 1) member joined world_locked;
+    so = releases_so (scene c (era_of r a (r.line n)) rules db key) (a.worlds (r.line n) db key) n w.calls member joined world_locked;
     rsn = refl;
     more = more;
     outs = outs;
@@ -270,24 +269,24 @@ module _ (c : Config) (rules : Rules) (w : Cluster) (r : Lines) (h : Lives c rul
     sort = λ s k. k;
   }
 
-  unlock_pick : (b : Bool) → any_locked u1.node.dbs ≡ b → Held_turn c rules w r a n g l db key (Releases n (w.calls + 1)) (record there_state { locked = None }) freed (op.Unlock db key) answer.Unlocked (cond b u1 (posts g n l msg.FreezeAck (with_phase (Frozen g) u1)))
+  unlock_pick : (b : Bool) → any_locked u1.node.dbs ≡ b → Held_turn c rules w r a n g l db key (Releases n w.calls) (record there_state { locked = None }) freed (op.Unlock db key) answer.Unlocked (cond b u1 (posts g n l msg.FreezeAck (with_phase (Frozen g) u1)))
   unfolding posts does with_phase
-  unlock_pick true e = unlock_of u1 [] node1 (left_outs n db key freed answer.Unlocked x (w.calls + 1)) (inl refl)
-  unlock_pick false e = unlock_of (posts g n l msg.FreezeAck (with_phase (Frozen g) u1)) (ack n g l ∷ []) (node2 (unlocked1 e)) (ap (λ (o : List Out). o ++ ack n g l ∷ []) (left_outs n db key freed answer.Unlocked x (w.calls + 1))) (inr refl)
+  unlock_pick true e = unlock_of u1 [] node1 (left_outs n db key freed answer.Unlocked x w.calls) (inl refl)
+  unlock_pick false e = unlock_of (posts g n l msg.FreezeAck (with_phase (Frozen g) u1)) (ack n g l ∷ []) (node2 (unlocked1 e)) (ap (λ (o : List Out). o ++ ack n g l ∷ []) (left_outs n db key freed answer.Unlocked x w.calls)) (inr refl)
 
-  pub unlock_held : Held_turn c rules w r a n g l db key (Releases n (w.calls + 1)) (record there_state { locked = None }) freed (op.Unlock db key) answer.Unlocked (frozen_if_unlocked n g l u1)
+  pub unlock_held : Held_turn c rules w r a n g l db key (Releases n w.calls) (record there_state { locked = None }) freed (op.Unlock db key) answer.Unlocked (frozen_if_unlocked n g l u1)
   unfolding frozen_if_unlocked
   unlock_held = unlock_pick (any_locked u1.node.dbs) refl
 
-  unlock_is : refusal c rules x (op.Unlock db key) ≡ None → client c rules n (w.calls + 1) (op.Unlock db key) (begins x) ≡ frozen_if_unlocked n g l u1
+  unlock_is : refusal c rules x (op.Unlock db key) ≡ None → client c rules n w.calls (op.Unlock db key) (begins x) ≡ frozen_if_unlocked n g l u1
   unfolding at_record acted makes release reply keeps acts recs.view unlocks serves
-  unlock_is free = client_serves c rules n (w.calls + 1) (op.Unlock db key) x free ∙ ap (unlocks c n (w.calls + 1) db key (makes (w.calls + 1) (begins x))) freezing
+  unlock_is free = client_serves c rules n w.calls (op.Unlock db key) x free ∙ ap (unlocks c n w.calls db key (makes w.calls (begins x))) freezing
 
   pub unlock_turned : refusal c rules x (op.Unlock db key) ≡ None →
-      Turned c rules (called_by n (op.Unlock db key) w h.who) (counted w) r h.ages n (own_pending n (w.calls + 1) (op.Unlock db key) ∷ pending (counted w)) (happens c rules n (begins x) (event.Client (w.calls + 1) (op.Unlock db key)))
+      Turned c rules h.who w r h.ages n (own_pending n w.calls (op.Unlock db key) ∷ pending w) (happens c rules n (begins x) (event.Client w.calls (op.Unlock db key)))
   unfolding happens
-  unlock_turned free = subst (λ (u : Turn). Turned c rules (called_by n (op.Unlock db key) w h.who) (counted w) r h.ages n (own_pending n (w.calls + 1) (op.Unlock db key) ∷ pending (counted w)) u) (sym (unlock_is free))
-      (held_turned c rules w r h n g l db key (Releases n (w.calls + 1)) (record there_state { locked = None }) freed (op.Unlock db key) answer.Unlocked (frozen_if_unlocked n g l u1) there unlock_held)
+  unlock_turned free = subst (λ (u : Turn). Turned c rules h.who w r h.ages n (own_pending n w.calls (op.Unlock db key) ∷ pending w) u) (sym (unlock_is free))
+      (held_turned c rules w r h n g l db key (Releases n w.calls) (record there_state { locked = None }) freed (op.Unlock db key) answer.Unlocked (frozen_if_unlocked n g l u1) there unlock_held)
 
   -- ---- a read
 
@@ -312,36 +311,36 @@ module _ (c : Config) (rules : Rules) (w : Cluster) (r : Lines) (h : Lives c rul
   abbrev value : Answer
   value = answer.Read (value_of there_state.copy)
 
-  pub read_held : Held_turn c rules w r a n g l db key (Wants n (w.calls + 1) (op.Read db key)) there_state (state_at db key x) (op.Read db key) value (so_left n db key (state_at db key x) value x (w.calls + 1))
+  pub read_held : Held_turn c rules w r a n g l db key (Wants n w.calls (op.Read db key)) there_state (state_at db key x) (op.Read db key) value (so_left n db key (state_at db key x) value x w.calls)
   read_held = record {
     freezing = freezing;
     locked = locked;
-    node = held_at c n x db key (state_at db key x) g l (w.calls + 1) value own.known.order has_db (formed_blank (scene c (era_of r a (r.line n)) rules db key) n (view db key x) (own.formed db key)) freezing;
+    node = held_at c n x db key (state_at db key x) g l w.calls value own.known.order has_db (formed_blank (scene c (era_of r a (r.line n)) rules db key) n (view db key x) (own.formed db key)) freezing;
     rests = rested.state;
     wish = refl;
     formed = own.formed db key;
-    so = reads_so (scene c (era_of r a (r.line n)) rules db key) (a.worlds (r.line n) db key) n (w.calls + 1) member joined (some_not_none there_state.locked world_locked) (ap is_none (sym wish_same) ∙ unwished) (ap (is_mastered n) (sym copy_same) ∙ mine);
+    so = reads_so (scene c (era_of r a (r.line n)) rules db key) (a.worlds (r.line n) db key) n w.calls member joined (some_not_none there_state.locked world_locked) (ap is_none (sym wish_same) ∙ unwished) (ap (is_mastered n) (sym copy_same) ∙ mine);
     rsn = refl;
     more = [];
-    outs = left_outs n db key (state_at db key x) value x (w.calls + 1);
+    outs = left_outs n db key (state_at db key x) value x w.calls;
     acks = inl refl;
     kind = kind;
     speaks = spoken c n (op.Read db key) value kind;
     sort = λ s k. inl k;
   }
 
-  read_left : left_by c n db key (λ at o. want at rules (w.calls + 1) (op.Read db key) o) (makes (w.calls + 1) (begins x)) ≡ left x db (state_at db key x) (w.calls + 1) value
+  read_left : left_by c n db key (λ at o. want at rules w.calls (op.Read db key) o) (makes w.calls (begins x)) ≡ left x db (state_at db key x) w.calls value
   unfolding makes reply keeps acts recs.view recs.place_of
-  read_left = locked_read (recs.place_of c n db key x) rules (w.calls + 1) db key (recs.view db key x) (some_not_none (state_at db key x).locked locked) mine
-      ∙ ap (λ (o : Option RecCopy). left x db (state_at db key x) (w.calls + 1) (answer.Read (value_of o))) copy_same
+  read_left = locked_read (recs.place_of c n db key x) rules w.calls db key (recs.view db key x) (some_not_none (state_at db key x).locked locked) mine
+      ∙ ap (λ (o : Option RecCopy). left x db (state_at db key x) w.calls (answer.Read (value_of o))) copy_same
 
-  read_is : refusal c rules x (op.Read db key) ≡ None → client c rules n (w.calls + 1) (op.Read db key) (begins x) ≡ so_left n db key (state_at db key x) value x (w.calls + 1)
+  read_is : refusal c rules x (op.Read db key) ≡ None → client c rules n w.calls (op.Read db key) (begins x) ≡ so_left n db key (state_at db key x) value x w.calls
   unfolding at_record
-  read_is free = client_serves c rules n (w.calls + 1) (op.Read db key) x free ∙ serves_read c rules n (w.calls + 1) db key (makes (w.calls + 1) (begins x)) (plain_kind (kind_at c db) kind)
-      ∙ ap (λ (o : Moving). acted n db key o (makes (w.calls + 1) (begins x))) read_left
+  read_is free = client_serves c rules n w.calls (op.Read db key) x free ∙ serves_read c rules n w.calls db key (makes w.calls (begins x)) (plain_kind (kind_at c db) kind)
+      ∙ ap (λ (o : Moving). acted n db key o (makes w.calls (begins x))) read_left
 
   pub read_turned : refusal c rules x (op.Read db key) ≡ None →
-      Turned c rules (called_by n (op.Read db key) w h.who) (counted w) r h.ages n (own_pending n (w.calls + 1) (op.Read db key) ∷ pending (counted w)) (happens c rules n (begins x) (event.Client (w.calls + 1) (op.Read db key)))
+      Turned c rules h.who w r h.ages n (own_pending n w.calls (op.Read db key) ∷ pending w) (happens c rules n (begins x) (event.Client w.calls (op.Read db key)))
   unfolding happens
-  read_turned free = subst (λ (u : Turn). Turned c rules (called_by n (op.Read db key) w h.who) (counted w) r h.ages n (own_pending n (w.calls + 1) (op.Read db key) ∷ pending (counted w)) u) (sym (read_is free))
-      (held_turned c rules w r h n g l db key (Wants n (w.calls + 1) (op.Read db key)) there_state (state_at db key x) (op.Read db key) value (so_left n db key (state_at db key x) value x (w.calls + 1)) there read_held)
+  read_turned free = subst (λ (u : Turn). Turned c rules h.who w r h.ages n (own_pending n w.calls (op.Read db key) ∷ pending w) u) (sym (read_is free))
+      (held_turned c rules w r h n g l db key (Wants n w.calls (op.Read db key)) there_state (state_at db key x) (op.Read db key) value (so_left n db key (state_at db key x) value x w.calls) there read_held)

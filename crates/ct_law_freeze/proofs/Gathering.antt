@@ -88,7 +88,7 @@ pullreply_led c w r a n g pull (Completed q members x) reply more own h = idle_l
 abbrev pub pull_of : Frame → ℕ → ℕ → List TableRow → List PTable → List Address → Pull
 pull_of f vbase pbase table ptables addresses = record { node = f.sender; vbase = vbase; pbase = pbase; table = table; ptables = ptables; addresses = addresses }
 
-reply_came : (w : Cluster) (n : ℕ) (f : Frame) (vbase pbase : ℕ) (table : List TableRow) (ptables : List PTable) (addresses : List Address) → f.msg ≡ msg.PullReply vbase pbase table ptables addresses → HasCome w n f → IsReply w n f.generation (pull_of f vbase pbase table ptables addresses)
+pub reply_came : (w : Cluster) (n : ℕ) (f : Frame) (vbase pbase : ℕ) (table : List TableRow) (ptables : List PTable) (addresses : List Address) → f.msg ≡ msg.PullReply vbase pbase table ptables addresses → HasCome w n f → IsReply w n f.generation (pull_of f vbase pbase table ptables addresses)
 reply_came w n f vbase pbase table ptables addresses is come = subst (WasSent w) (λ i. record { generation = f.generation; sender = f.sender; receiver = come.receiver i; msg = is i }) come.sent
 
 -- a PullReply, where others are missing after it

@@ -36,6 +36,7 @@ use Rattle.ct_law_shown.proofs.Weave.{true_or_false}
 use Rattle.ct_law_node.proofs.Pending.{Callers, Known, KnownAt, CommitFits, NodeKnown}
 use Rattle.ct_law_node.proofs.Staying.{Of_records}
 use Rattle.ct_law_node.proofs.Forming.{Is_formed}
+use Rattle.ct_law_line.proofs.Apart.{none_fresh}
 use Rattle.ct_law_line.proofs.Ages.{Ages, era_of, Rests}
 use Rattle.ct_law_line.proofs.Lives.{Lives, NodeLives, MailSays, RoundSays, ReplySays, LeadSays, PhaseSays}
 use Rattle.ct_law_line.proofs.Later.{Later}
@@ -61,7 +62,6 @@ use Rattle.ct_cluster.specs.Labels.{Answered}
 use Rattle.ct_cluster.specs.Traces.{answered}
 use Rattle.ct_promise.specs.Marked.{is_removal}
 use Rattle.ct_law_cluster.proofs.Counting.{with_caller}
-use Rattle.ct_law_cluster.proofs.Called.{counted, called_by}
 use Rattle.ct_law_node.proofs.Calling.{own_pending}
 use Rattle.ct_law_freeze.proofs.Turning.{Rest_after}
 use Rattle.ct_law_freeze.proofs.Holding
@@ -97,26 +97,15 @@ held_each P x y db key st g l z new old d k = ⊎_elim
     (λ (f : is_it d k db key ≡ false). subst (λ (s : RecState). P d k s) (sym (z.other d k f)) (old d k f))
     (true_or_false (is_it d k db key))
 
--- ---- one call more
+-- ---- the calls that wait
 
-pub old_caller : (calls k : ℕ) (x y : ℕ × ClientOp) (who : Callers) → k ≤ calls → who k ≡ y → with_caller (calls + 1) x who k ≡ y
-old_caller calls k x y who l e = ap (λ (b : Bool). cond b x (who k)) (ne_eqb k (calls + 1) (λ (is : k ≡ calls + 1). absurd (omega arith))) ∙ e
-
-pub more_wish : (calls n db : ℕ) (key : List ℕ) (x : ℕ × ClientOp) (who : Callers) (w : Option Wish) → Wishful (Known who calls n db key) w → Wishful (Known (with_caller (calls + 1) x who) (calls + 1) n db key) w
-unfolding Wishful Known
-more_wish calls n db key x who None h = tt
-more_wish calls n db key x who (Some w) h = (old_caller calls w.call x (n, w.op) who h.1 h.0, (let l = h.1 in omega arith), h.2, h.3)
-
-known_held : (who : Callers) (calls n : ℕ) (o : ℕ × ClientOp) (x y : Node) (db : ℕ) (key : List ℕ) (st : RecState) (g l : ℕ) → Held_node x y db key st g l → st.wish ≡ (state_at db key x).wish → ((d : ℕ) → (db_at d x).commit ≡ None) → NodeKnown who calls n x →
-    NodeKnown (with_caller (calls + 1) o who) (calls + 1) n y
+known_held : (who : Callers) (calls n : ℕ) (x y : Node) (db : ℕ) (key : List ℕ) (st : RecState) (g l : ℕ) → Held_node x y db key st g l → st.wish ≡ (state_at db key x).wish → ((d : ℕ) → (db_at d x).commit ≡ None) → NodeKnown who calls n x → NodeKnown who calls n y
 unfolding KnownAt CommitFits state_at
-known_held who calls n o x y db key st g l z wish calm k = record {
+known_held who calls n x y db key st g l z wish calm k = record {
   order = z.order;
   dbs = λ d. record {
-    records = λ q. held_each (λ d q s. Wishful (Known (with_caller (calls + 1) o who) (calls + 1) n d q) s.wish) x y db key st g l z
-        (subst (λ (w : Option Wish). Wishful (Known (with_caller (calls + 1) o who) (calls + 1) n db key) w) (sym wish) (more_wish calls n db key o who _ ((k.dbs db).records key)))
-        (λ d q f. more_wish calls n d q o who _ ((k.dbs d).records q)) d q;
-    commit = subst (λ (w : Option Committing). CommitFits (with_caller (calls + 1) o who) (calls + 1) n d w) (sym (z.commit d ∙ calm d)) tt;
+    records = λ q. held_each (λ d q s. Wishful (Known who calls n d q) s.wish) x y db key st g l z (subst (λ (w : Option Wish). Wishful (Known who calls n db key) w) (sym wish) ((k.dbs db).records key)) (λ d q f. (k.dbs d).records q) d q;
+    commit = subst (λ (w : Option Committing). CommitFits who calls n d w) (sym (z.commit d ∙ calm d)) tt;
   };
 }
 
@@ -177,7 +166,7 @@ pub record Held_turn (c : Config) (rules : Rules) (w : Cluster) (r : Lines) (a :
   pub so : Holding.Holds_so (scene c (era_of r a (r.line n)) rules db key) (a.worlds (r.line n) db key) n e left asked given
   pub rsn : rsn_of left.copy ≡ rsn_of ((a.worlds (r.line n) db key).nodes n).state.copy
   pub more : List Out
-  pub outs : u.outs ≡ out.Answer (w.calls + 1) given ∷ more
+  pub outs : u.outs ≡ out.Answer w.calls given ∷ more
   pub acks : (more ≡ []) ⊎ (more ≡ ack n g l ∷ [])
   pub kind : has_records (kind_at c db) ≡ true
   pub speaks : record_labels c (Answered n asked given ∷ []) ≡ Answered n asked given ∷ []
@@ -208,13 +197,13 @@ module _ (c : Config) (rules : Rules) (w : Cluster) (r : Lines) (h : Lives c rul
   y = u.node
 
   abbrev who : Callers
-  who = called_by n asked w h.who
+  who = h.who
 
   abbrev pend : List PendingCall
-  pend = own_pending n (w.calls + 1) asked ∷ pending (counted w)
+  pend = own_pending n w.calls asked ∷ pending w
 
   abbrev v : Cluster
-  v = (put n u [] (counted w)).cluster
+  v = (put n u [] w).cluster
 
   own : NodeLives c rules h.who w r a n x
   own = h.nodes n there
@@ -226,15 +215,15 @@ module _ (c : Config) (rules : Rules) (w : Cluster) (r : Lines) (h : Lives c rul
   unfolding put with_node
   sent_is = refl
 
-  calls_is : v.calls ≡ w.calls + 1
+  calls_is : v.calls ≡ w.calls
   unfolding put with_node
   calls_is = refl
 
   frames : frames_of u.outs ≡ frames_of t.more
-  frames = outs_frames (w.calls + 1) given u.outs t.more t.outs
+  frames = outs_frames w.calls given u.outs t.more t.outs
 
   labels : labels_of n pend u.outs ≡ Answered n asked given ∷ []
-  labels = outs_labels n g l (w.calls + 1) asked given (pending (counted w)) u.outs t.more t.outs t.acks
+  labels = outs_labels n g l w.calls asked given (pending w) u.outs t.more t.outs t.acks
 
   same_mails : (m d : ℕ) (k : List ℕ) → mails m d k v.sent ≡ mails m d k w.sent
   same_mails m d k = ap (λ (z : List Sent). mails m d k z) sent_is ∙ mails_more m d k w.sent (frames_of u.outs)
@@ -335,7 +324,7 @@ module _ (c : Config) (rules : Rules) (w : Cluster) (r : Lines) (h : Lives c rul
   mine : NodeLives c rules who v s b n y
   mine = record {
     size = t.node.size ∙ own.size;
-    known = subst (λ (k : ℕ). NodeKnown who k n y) (sym calls_is) (known_held h.who w.calls n (n, asked) x y db key st g l t.node t.wish calm own.known);
+    known = subst (λ (k : ℕ). NodeKnown who k n y) (sym calls_is) (known_held h.who w.calls n x y db key st g l t.node t.wish calm own.known);
     line = t.node.generation ∙ own.line;
     base = t.node.pbase ∙ own.base;
     older = (let o = own.older in let p = t.node.promise in omega arith);
@@ -355,15 +344,15 @@ module _ (c : Config) (rules : Rules) (w : Cluster) (r : Lines) (h : Lives c rul
   unfolding RoundSays record_in
   said = subst (λ (z : List Sent). AllByRecursion (λ q. MailSays c s b q.frame) z) (sym frames) (acks_all (MailSays c s b) n g l t.more t.acks (record { round = tt; sound = λ k i. absurd (cc) }))
 
-  others_say : (k : ℕ) → k ≢ n → AllByRecursion (λ q. ReplySays s b k (node_at k (counted w)) q.frame q.frame.msg) (frames_of u.outs)
+  others_say : (k : ℕ) → k ≢ n → AllByRecursion (λ q. ReplySays s b k (node_at k w) q.frame q.frame.msg) (frames_of u.outs)
   unfolding ReplySays
-  others_say k ne = subst (λ (z : List Sent). AllByRecursion (λ q. ReplySays s b k (node_at k (counted w)) q.frame q.frame.msg) z) (sym frames) (acks_all (λ q. ReplySays s b k (node_at k (counted w)) q q.msg) n g l t.more t.acks tt)
+  others_say k ne = subst (λ (z : List Sent). AllByRecursion (λ q. ReplySays s b k (node_at k w) q.frame q.frame.msg) z) (sym frames) (acks_all (λ q. ReplySays s b k (node_at k w) q q.msg) n g l t.more t.acks tt)
 
   unremoved : (m d : ℕ) (k : List ℕ) → is_removed r m d k (labels_of n pend u.outs) ≡ false
   unfolding is_removal
   unremoved m d k = ap (λ (z : List Label). is_removed r m d k z) labels
 
-  pub held_turned : Turned c rules who (counted w) r h.ages n pend u
+  pub held_turned : Turned c rules who w r h.ages n pend u
   held_turned = record {
     lines = s;
     ages = b;
@@ -378,4 +367,5 @@ module _ (c : Config) (rules : Rules) (w : Cluster) (r : Lines) (h : Lives c rul
     replies = others_say;
     marks = λ q born d k. subst (λ (z : Bool). MarksStep z (marks_of (a.ghosts q d k)) (marks_of (b.ghosts q d k))) (sym (unremoved q d k))
         (Holding.marks c rules w v r a n (r.line n) db key e left asked given h.lines holding q d k born);
+    fresh = λ k ne lt. none_fresh c rules r s b k (node_at k w) (λ q. refl);
   }

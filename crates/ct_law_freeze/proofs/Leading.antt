@@ -30,6 +30,7 @@ use Rattle.ct_law_node.proofs.Pending.{Callers, NodeKnown}
 use Rattle.ct_law_line.proofs.Ages.{Ages, era_of, Rests}
 use Rattle.ct_law_line.proofs.Lives.{Lives, NodeLives, MailSays, ReplySays, LeadSays, PhaseSays}
 use Rattle.ct_law_line.proofs.Later.{Later}
+use Rattle.ct_law_line.proofs.Apart.{none_fresh}
 use Rattle.ct_law_line.proofs.Faces.{Turned}
 use Rattle.ct_law_removal.proofs.Removing.{removed_in_records}
 use Rattle.ct_rules_node.specs.Node.{Idle, Serving, Installed, Nothing}
@@ -164,4 +165,5 @@ module _ (c : Config) (rules : Rules) (w : Cluster) (r : Lines) (h : Lives c rul
     replies = λ k ne. led.replies k;
     marks = λ g born db key. subst (λ (t : Bool). MarksStep t (marks_of (h.ages.ghosts g db key)) (marks_of (h.ages.ghosts g db key))) (sym (unremoved g db key))
         (marks_go false (span_of (h.ages.ghosts g db key)) (span_of (h.ages.ghosts g db key)) ((h.lines.line g born).world db key).all.marks.under (goes_stays (span_of (h.ages.ghosts g db key))));
+    fresh = λ k ne lt. none_fresh c rules r r h.ages k (node_at k w) (λ g. refl);
   }

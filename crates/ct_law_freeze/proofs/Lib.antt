@@ -14,5 +14,4 @@ pub mod Held
 pub mod Finishing
 pub mod Again
 pub mod Gathering
-pub mod Counted
 pub mod Declining

@@ -43,6 +43,7 @@ use Rattle.ct_law_node.proofs.Pending.{Callers, Known, KnownAt, CommitFits, Node
 use Rattle.ct_law_node.proofs.Staying.{Of_records}
 use Rattle.ct_law_node.proofs.Forming.{Is_formed}
 use Rattle.ct_law_beside.proofs.Committed.{waiting_untold}
+use Rattle.ct_law_line.proofs.Apart.{none_fresh}
 use Rattle.ct_law_line.proofs.Ages.{Ages, era_of, Rests}
 use Rattle.ct_law_line.proofs.Lives.{Lives, NodeLives, MailSays, RoundSays, ReplySays, LeadSays, PhaseSays, HasTicket, IsTicket, WasSent}
 use Rattle.ct_law_line.proofs.Later.{Later}
@@ -334,4 +335,5 @@ module _ (c : Config) (rules : Rules) (w : Cluster) (r : Lines) (h : Lives c rul
     replies = others_say;
     marks = λ g born db key. subst (λ (t : Bool). MarksStep t (marks_of (a.ghosts g db key)) (marks_of (b.ghosts g db key)))
         (sym (ap (λ (l : List Label). is_removed r g db key l) labels ∙ ends_remove c r g db key n 0 (pending w) x.dbs)) (freed.marks g db key born);
+    fresh = λ k ne lt. none_fresh c rules r s b k (node_at k w) (λ g. refl);
   }

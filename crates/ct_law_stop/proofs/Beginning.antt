@@ -123,7 +123,7 @@ freezes_wordless c rules who w r a n g members pend u ticket mine only = record 
 -- ---- the round begins
 
 pub begin_turned : (c : Config) (rules : Rules) (w : Cluster) (r : Lines) (h : Lives c rules w r) (n g : ℕ) (members : List ℕ) (pend : List PendingCall) → IsTicket c r g n members → r.born g ≡ false → nat_lt n c.nodes ≡ true →
-    (t : Turned c rules h.who w r h.ages n pend (begin_round n g members (begins (node_at n w)))) × ((k : ℕ) → t.lines.born k ≡ r.born k)
+    Turned c rules h.who w r h.ages n pend (begin_round n g members (begins (node_at n w)))
 unfolding begin_round labels_of frames_of with_lead makes LeadSays
 begin_turned c rules w r h n g members pend ticket unborn there =
     let x : Node = node_at n w in
@@ -132,6 +132,6 @@ begin_turned c rules w r h n g members pend ticket unborn there =
     let u : Turn = posts_all g n members (msg.Freeze members) t in
     let p = post_freezes g n members members pend t (record { silent = refl; sent = tt }) in
     let mine = subst (λ (y : Node). NodeLives c rules h.who w r h.ages n y) (sym p.1) (node_led c rules h.who w r h.ages n x (Freezes g members members) (ticket, unborn) l) in
-    cond_both (nat_lt x.promise g) u (begins x) (λ (y : Turn). (d : Turned c rules h.who w r h.ages n pend y) × ((k : ℕ) → d.lines.born k ≡ r.born k))
+    cond_both (nat_lt x.promise g) u (begins x) (λ (y : Turn). Turned c rules h.who w r h.ages n pend y)
     (λ _. wordless_turned c rules h.who w r h.ages n pend u h.lines (freezes_wordless c rules h.who w r h.ages n g members pend u ticket mine p.0))
     (λ _. wordless_turned c rules h.who w r h.ages n pend (begins x) h.lines (freezes_wordless c rules h.who w r h.ages n g members pend (begins x) ticket l (record { silent = refl; sent = tt })))

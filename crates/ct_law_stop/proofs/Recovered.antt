@@ -32,7 +32,6 @@ use Rattle.ct_law_shown.specs.Shown.{labels_of}
 use Rattle.ct_law_shown.proofs.Hearing.{labels_are}
 use Rattle.ct_law_cluster.proofs.Configured.{at_most_sixteen_nodes}
 use Rattle.ct_law_line.proofs.Lives.{Lives}
-use Rattle.ct_law_line.proofs.Apart.{none_fresh}
 use Rattle.ct_law_line.proofs.Faces.{After}
 use Rattle.ct_law_stop.proofs.Quiet.{idle_after, after_taken}
 use Rattle.ct_law_stop.proofs.Ticketed.{ticketed_cluster, accepted, ticketed_lives, is_ticket, unborn}
@@ -129,10 +128,10 @@ begun_after c rules w r h n members order k =
     let t = begin_turned c rules v (ticketed g n members r) lives n g members (pending w) (is_ticket c rules w r h n members free k.real order k.nodes k.own) (unborn c rules w r h n members free) k.there in
     let own : List Line = line.Ticket g n ∷ [] in
     subst (λ (ls : List Label). After c rules r h.ages (record { cluster = (put n u own v).cluster; lines = (put n u own v).lines; trace = Ticket g n members ∷ ls })) (sym (labels_are (step.Recover n members) n (length v.sent + 1) (pending w) u.outs))
-    (turned_after c rules v (ticketed g n members r) lives n (pending w) u own t.0 k.there k.up (λ j ne lt. none_fresh c rules (ticketed g n members r) t.0.lines t.0.ages j (node_at j v) t.1)
+    (turned_after c rules v (ticketed g n members r) lives n (pending w) u own t k.there k.up
     r h.ages (put n u own v).lines (Ticket g n members ∷ labels_of n (pending w) u.outs)
-    (ticketed g n members r, accepted c rules w r h n members free, t.0.accepts)
-    t.0.marks)
+    (ticketed g n members r, accepted c rules w r h n members free, t.accepts)
+    t.marks)
 
 pub recover_after : (c : Config) (rules : Rules) (w : Cluster) (r : Lines) (h : Lives c rules w r) (n : ℕ) (members : List ℕ) → IsConfig c → After c rules r h.ages (ran_one c rules w (step.Recover n members))
 unfolding is_allowed steps recover

@@ -76,10 +76,10 @@ releases_wordless c rules who w r a n pend u mine only = record {
 
 -- by what it leads
 pub takeover_turned : (c : Config) (rules : Rules) (w : Cluster) (r : Lines) (h : Lives c rules w r) (n : ℕ) (able : List ℕ) (pend : List PendingCall) (l : Lead) → LeadSays c w r h.ages n l → nat_lt n c.nodes ≡ true →
-    (t : Turned c rules h.who w r h.ages n pend (begin_takeover n able (begins (node_at n w)) l)) × ((k : ℕ) → t.lines.born k ≡ r.born k)
+    Turned c rules h.who w r h.ages n pend (begin_takeover n able (begins (node_at n w)) l)
 unfolding begin_takeover runs labels_of frames_of with_lead makes LeadSays
 takeover_turned c rules w r h n able pend (Completed g members x) says there =
-    cond_both (is_serving (node_at n w).phase && nat_eq (node_at n w).generation g) _ (begins (node_at n w)) (λ (y : Turn). (d : Turned c rules h.who w r h.ages n pend y) × ((k : ℕ) → d.lines.born k ≡ r.born k))
+    cond_both (is_serving (node_at n w).phase && nat_eq (node_at n w).generation g) _ (begins (node_at n w)) (λ (y : Turn). Turned c rules h.who w r h.ages n pend y)
     (λ _. (let p = send_only g n _ _ members pend _ (record { silent = refl; sent = tt }) in
     wordless_turned c rules h.who w r h.ages n pend _ h.lines (releases_wordless c rules h.who w r h.ages n pend _ (subst (λ (y : Node). NodeLives c rules h.who w r h.ages n y) (sym p.1) (node_led c rules h.who w r h.ages n (node_at n w) _ says (h.nodes n there))) p.0)))
     (λ _. nothing_turned c rules w r h n pend there)

@@ -25,7 +25,7 @@ use Rattle.ct_law_node.proofs.Putting.{own_node, other_node}
 use Rattle.ct_law_line.proofs.Ages.{Ages}
 use Rattle.ct_law_line.proofs.Lives.{ReplySays, MailSays, NodeLives, Lives}
 use Rattle.ct_law_line.proofs.Framing.{mail_later}
-use Rattle.ct_law_line.proofs.Apart.{AllFresh, each_then, replies_away, node_away}
+use Rattle.ct_law_line.proofs.Apart.{each_then, replies_away, node_away}
 use Rattle.ct_law_line.proofs.Faces.{Turned, After, marks_in_all}
 use Rattle.ct_law_stop.proofs.Bare.{labels_bare}
 
@@ -40,7 +40,7 @@ sent_more f [] ts h = absurd h
 sent_more f (s ∷ ss) ts h = ⊎_elim (λ (e : s.frame ≡ f). inl e) (λ (k : In f (map (λ (s : Sent). s.frame) ss)). inr (sent_more f ss ts k)) h
 
 module _ (c : Config) (rules : Rules) (w : Cluster) (r : Lines) (h : Lives c rules w r) (n : ℕ) (pend : List PendingCall) (u : Turn) (own : List Line) (t : Turned c rules h.who w r h.ages n pend u)
-    (there : nat_lt n c.nodes ≡ true) (up : is_up n w ≡ true) (fresh : (k : ℕ) → k ≢ n → nat_lt k c.nodes ≡ true → AllFresh c rules r t.lines t.ages k (node_at k w)) where
+    (there : nat_lt n c.nodes ≡ true) (up : is_up n w ≡ true) where
   abbrev v : Cluster
   v = (put n u own w).cluster
 
@@ -48,7 +48,7 @@ module _ (c : Config) (rules : Rules) (w : Cluster) (r : Lines) (h : Lives c rul
   unfolding put with_node node_at
   others_live k ne lt = (let l = h.nodes k lt in
       subst (λ (x : Node). NodeLives c rules h.who v t.lines t.ages k x) (sym (other_node n k u.node w ne))
-      (node_away c rules h.who h.who w v r h.ages t.lines t.ages k (node_at k w) t.later (t.away k ne) (fresh k ne lt) l.known (λ f was. sent_more f w.sent (frames_of u.outs) was) (λ some. (l.named some).0)
+      (node_away c rules h.who h.who w v r h.ages t.lines t.ages k (node_at k w) t.later (t.away k ne) (t.fresh k ne lt) l.known (λ f was. sent_more f w.sent (frames_of u.outs) was) (λ some. (l.named some).0)
       (all_append (λ q. ReplySays t.lines t.ages k (node_at k w) q.frame q.frame.msg) w.sent (frames_of u.outs)
       (replies_away c rules h.who h.who w v r h.ages t.lines t.ages k (node_at k w) t.later (t.away k ne) w.sent l.replies)
       (t.replies k ne)) l))

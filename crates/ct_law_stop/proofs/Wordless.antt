@@ -105,8 +105,8 @@ module _ (c : Config) (rules : Rules) (who : Callers) (w : Cluster) (r : Lines) 
   own_lives = node_away c rules who who w v r a r a n u.node stays (away n) (none_fresh c rules r r a n u.node (λ k. refl)) h.mine.known (λ f was. sent_more f w.sent (frames_of u.outs) was) (λ some. (h.mine.named some).0)
       (all_append (λ q. ReplySays r a n u.node q.frame q.frame.msg) w.sent (frames_of u.outs) h.mine.replies h.own) h.mine
 
-  turned : Turned c rules who w r a n pend u
-  turned = record {
+  pub wordless_turned : Turned c rules who w r a n pend u
+  wordless_turned = record {
     lines = r;
     ages = a;
     accepts = subst (λ (ls : List Label). AcceptsLabels c rules r ls r) (sym h.untold) refl;
@@ -119,15 +119,11 @@ module _ (c : Config) (rules : Rules) (who : Callers) (w : Cluster) (r : Lines) 
     says = h.says;
     replies = h.replies;
     marks = λ k e db key. subst (λ (b : Bool). MarksStep b (marks_of (a.ghosts k db key)) (marks_of (a.ghosts k db key))) (sym (untold_kept c r k db key (labels_of n pend u.outs) h.untold)) (marks_stay _);
+    fresh = λ k ne lt. none_fresh c rules r r a k (node_at k w) (λ g. refl);
   }
-
-  -- and it bears no line
-  pub wordless_turned : (t : Turned c rules who w r a n pend u) × ((k : ℕ) → t.lines.born k ≡ r.born k)
-  unfolding turned
-  wordless_turned = (turned, λ k. refl)
 
 -- a message that is dropped, and an event of which nothing comes
 pub nothing_turned : (c : Config) (rules : Rules) (w : Cluster) (r : Lines) (h : Lives c rules w r) (n : ℕ) (pend : List PendingCall) → nat_lt n c.nodes ≡ true →
-    (t : Turned c rules h.who w r h.ages n pend (begins (node_at n w))) × ((k : ℕ) → t.lines.born k ≡ r.born k)
+    Turned c rules h.who w r h.ages n pend (begins (node_at n w))
 unfolding labels_of frames_of
 nothing_turned c rules w r h n pend there = wordless_turned c rules h.who w r h.ages n pend (begins (node_at n w)) h.lines (record { untold = refl; wordless = tt; says = tt; replies = λ k ne. tt; own = tt; mine = h.nodes n there })

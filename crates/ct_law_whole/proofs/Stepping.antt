@@ -44,7 +44,6 @@ use Rattle.ct_law_cluster.proofs.Faulting.{vacuum_kind}
 use Rattle.ct_law_line.specs.Records.{LawOfRecords}
 use Rattle.ct_law_line.proofs.Ages.{Ages}
 use Rattle.ct_law_line.proofs.Lives.{WasSent, Lives}
-use Rattle.ct_law_line.proofs.Apart.{AllFresh, none_fresh}
 use Rattle.ct_law_line.proofs.Faces.{EntriesAtHome, Turned, After, StepLives, marks_in_all}
 use Rattle.ct_law_whole.proofs.Ending.{law_of_records}
 use Rattle.ct_law_stop.proofs.Quiet.{Quiet, quiet_lives, quiet_after, same_node, idle_after, after_taken}
@@ -66,11 +65,11 @@ Comes c who w n pend (event.Vacuum db) = (has_records (kind_at c db) ≡ true) �
 Comes c who w n pend (event.BeginRound g members) = ⊥
 Comes c who w n pend (event.BeginTakeover able) = pend ≡ pending w
 
--- the parts of the turn hold, and of a line that it bears every other node is as it will install it
+-- the parts of the turn hold
 abbrev pub AllTurned : Type 0
 AllTurned = (c : Config) (rules : Rules) (w : Cluster) (r : Lines) (h : Lives c rules w r) (n : ℕ) (pend : List PendingCall) (e : Event) → IsConfig c → EntriesAtHome w → nat_lt n c.nodes ≡ true → is_up n w ≡ true →
     Comes c h.who w n pend e → (happens c rules n (begins (node_at n w)) e).spent ≡ false →
-    (t : Turned c rules h.who w r h.ages n pend (happens c rules n (begins (node_at n w)) e)) × ((k : ℕ) → k ≢ n → nat_lt k c.nodes ≡ true → AllFresh c rules r t.lines t.ages k (node_at k w))
+    Turned c rules h.who w r h.ages n pend (happens c rules n (begins (node_at n w)) e)
 
 -- the turns that are owed still: all but the begin of a takeover run
 unfoldable pub IsOwed : Event → Type 0
@@ -80,13 +79,11 @@ IsOwed e = Unit {0}
 abbrev pub AllOwed : Type 0
 AllOwed = (c : Config) (rules : Rules) (w : Cluster) (r : Lines) (h : Lives c rules w r) (n : ℕ) (pend : List PendingCall) (e : Event) → IsConfig c → EntriesAtHome w → nat_lt n c.nodes ≡ true → is_up n w ≡ true →
     Comes c h.who w n pend e → (happens c rules n (begins (node_at n w)) e).spent ≡ false → IsOwed e →
-    (t : Turned c rules h.who w r h.ages n pend (happens c rules n (begins (node_at n w)) e)) × ((k : ℕ) → k ≢ n → nat_lt k c.nodes ≡ true → AllFresh c rules r t.lines t.ages k (node_at k w))
+    Turned c rules h.who w r h.ages n pend (happens c rules n (begins (node_at n w)) e)
 
 pub owed_turned : AllOwed → AllTurned
 unfolding happens IsOwed
-owed_turned owed c rules w r h n pend (event.BeginTakeover able) is home there up comes whole =
-    let t = takeover_turned c rules w r h n able pend (node_at n w).lead (h.nodes n there).lead there in
-    (t.0, λ k ne lt. none_fresh c rules r t.0.lines t.0.ages k (node_at k w) t.1)
+owed_turned owed c rules w r h n pend (event.BeginTakeover able) is home there up comes whole = takeover_turned c rules w r h n able pend (node_at n w).lead (h.nodes n there).lead there
 owed_turned owed c rules w r h n pend e is home there up comes whole = owed c rules w r h n pend e is home there up comes whole tt
 
 -- ---- a step with a turn
@@ -113,12 +110,12 @@ turn_after all c rules w v r a refused h same s n e aside is home there up comes
     let ls : List Line = lines_of n (length v.sent + 1) u.outs in
     let more : List Label = labels_of n (calls_of w s) u.outs in
     let told : labels w s ls ≡ own_labels w s ls ++ more = ap (λ (l : List Label). own_labels w s ls ++ l) (labels_are s n (length v.sent + 1) (calls_of w s) u.outs) in
-    turned_after c rules v r h n (calls_of w s) u [] t.0 there up t.1 r a ls (labels w s ls)
-    (subst (λ (l : List Label). AcceptsLabels c rules r (record_labels c l) t.0.lines) (sym told)
-    (subst (λ (l : List Label). AcceptsLabels c rules r l t.0.lines) (sym (filter_more (speaks_of_records c) (own_labels w s ls) more ∙ ap (λ (l : List Label). l ++ record_labels c more) (aside ls).untold)) t.0.accepts))
-    (subst (λ (l : List Label). MarksGoOn r l (marks_in_all a) (marks_in_all t.0.ages)) (sym told)
-    (subst (λ (b : Ages). MarksGoOn r (own_labels w s ls ++ more) (marks_in_all b) (marks_in_all t.0.ages)) same
-    (λ g b db key. subst (λ (x : Bool). MarksStep x (marks_of (h.ages.ghosts g db key)) (marks_of (t.0.ages.ghosts g db key))) (sym (any_more (is_removal r g db key) (own_labels w s ls) more ((aside ls).kept g db key))) (t.0.marks g b db key)))))
+    turned_after c rules v r h n (calls_of w s) u [] t there up r a ls (labels w s ls)
+    (subst (λ (l : List Label). AcceptsLabels c rules r (record_labels c l) t.lines) (sym told)
+    (subst (λ (l : List Label). AcceptsLabels c rules r l t.lines) (sym (filter_more (speaks_of_records c) (own_labels w s ls) more ∙ ap (λ (l : List Label). l ++ record_labels c more) (aside ls).untold)) t.accepts))
+    (subst (λ (l : List Label). MarksGoOn r l (marks_in_all a) (marks_in_all t.ages)) (sym told)
+    (subst (λ (b : Ages). MarksGoOn r (own_labels w s ls ++ more) (marks_in_all b) (marks_in_all t.ages)) same
+    (λ g b db key. subst (λ (x : Bool). MarksStep x (marks_of (h.ages.ghosts g db key)) (marks_of (t.ages.ghosts g db key))) (sym (any_more (is_removal r g db key) (own_labels w s ls) more ((aside ls).kept g db key))) (t.marks g b db key)))))
 
 -- ---- why it is not refused
 

@@ -1,0 +1,4 @@
+pub mod Drawn
+pub mod Low
+pub mod Newly
+pub mod Last

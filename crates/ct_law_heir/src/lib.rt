@@ -1,0 +1,2 @@
+//! The last reply of a round: its line is born, and every node lives on.
+#![tactic(auto)]
