@@ -10,6 +10,8 @@ use Rattle.ct_frame.specs.declared.frame.Assigned.{Assigned}
 pub data Label : Type 0 where
   -- a client of this node asked for this, and was answered this
   Answered : (node : ℕ) (asked : ClientOp) (answer : Answer) → Label
+  -- this was answered to a call that is not open: it was never asked, or was answered before, or ended with its node
+  Unasked : (call : ℕ) (answer : Answer) → Label
   -- a commit of these writes began at this node
   Begun : (node db : ℕ) (writes : List Pair) → Label
   -- the node noted this

@@ -19,7 +19,8 @@ use Rattle.ct_promise.specs.Born.{has_pushed}
 use Rattle.ct_promise.specs.Generation.{is_note_of_records, speaks_of_records, record_labels}
 use Rattle.ct_cluster.specs.Labels.{Label, Noted}
 use Rattle.ct_cluster.specs.Steps.{frames_of}
-use Rattle.ct_cluster.specs.Traces.{answered, sent_label}
+use Rattle.ct_cluster.specs.Traces.{sent_label}
+use Rattle.ct_law_shown.specs.Waiting.{answered}
 use Rattle.ct_cluster.specs.declared.step.PendingCall.{PendingCall}
 use Rattle.ct_law_world.specs.World.{Mail}
 use Rattle.ct_frame.specs.declared.frame.Frame.{Frame}

@@ -34,7 +34,8 @@ use Rattle.ct_rules_node.proofs.AtRecord.{at_set, at_other, set_past, all_set, a
 use Rattle.ct_cluster.specs.Cluster.{Cluster, Sent, is_up, node_at, pending}
 use Rattle.ct_cluster.specs.Labels.{Label, Answered}
 use Rattle.ct_cluster.specs.Steps.{frames_of, put}
-use Rattle.ct_cluster.specs.Traces.{answered, sent_label}
+use Rattle.ct_cluster.specs.Traces.{sent_label}
+use Rattle.ct_law_shown.specs.Waiting.{answered}
 use Rattle.ct_cluster.specs.declared.step.PendingCall.{PendingCall}
 use Rattle.ct_register.specs.Legal.{db_of}
 use Rattle.ct_promise.specs.Generation.{speaks_of_records, record_labels}

@@ -8,7 +8,8 @@ use Rattle.ct_cluster.specs.Cluster.{Cluster, is_up}
 use Rattle.ct_cluster.specs.Faults.{no_such_node, node_down, is_holder, not_holder, fault_of, is_allowed}
 use Rattle.ct_cluster.specs.Labels.{Yielded}
 use Rattle.ct_cluster.specs.Steps.{done, steps, steps_or, applied}
-use Rattle.ct_cluster.specs.Traces.{label_of, line_labels, own_labels, labels, taken, ran_one}
+use Rattle.ct_cluster.specs.Traces.{own_labels}
+use Rattle.ct_law_shown.specs.Waiting.{told_line, told_lines, told_step, came_of, outcome}
 use Rattle.ct_cluster.specs.declared.step.Line.TheVariants as line
 use Rattle.ct_cluster.specs.declared.step.Step.TheVariants as step
 use Rattle.ct_cluster.specs.declared.step.StepFault.{StepFault}
@@ -44,9 +45,9 @@ yields c w n e = (let there = first_none _ _ e in let up = first_none _ _ there.
 -- ---- what it becomes
 
 -- so it runs
-pub yield_runs : (c : Config) (rules : Rules) (w : Cluster) (n : ℕ) → fault_of c w (step.Yield n) ≡ None → ran_one c rules w (step.Yield n) ≡ record { cluster = yielded w; lines = line.Yielded n ∷ []; trace = Yielded n ∷ [] }
-unfolding ran_one is_allowed applied steps_or steps done taken labels own_labels line_labels label_of
-yield_runs c rules w n e = ap (λ (f : Option StepFault). taken w (step.Yield n) (steps_or c rules w (step.Yield n) f)) e
+pub yield_runs : (c : Config) (rules : Rules) (w : Cluster) (n : ℕ) → fault_of c w (step.Yield n) ≡ None → outcome c rules w (step.Yield n) ≡ record { cluster = yielded w; trace = Yielded n ∷ [] }
+unfolding outcome is_allowed applied steps_or steps done came_of told_step own_labels told_lines told_line
+yield_runs c rules w n e = ap (λ (f : Option StepFault). came_of w (step.Yield n) (steps_or c rules w (step.Yield n) f)) e
 
 -- ---- what is told of it
 

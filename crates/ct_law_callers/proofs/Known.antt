@@ -16,7 +16,7 @@ use Rattle.ct_rules_node.specs.Node.{Node, Database, Committing, untouched, or_u
 use Rattle.ct_rules_node.proofs.Numbered.{numbered_all, numbered_any}
 use Rattle.ct_cluster.specs.Cluster.{Cluster, node_at, or_absent, absent, wished, wished_in, committing, pending_in, pending_from, pending}
 use Rattle.ct_cluster.specs.Labels.{Answered}
-use Rattle.ct_cluster.specs.Traces.{answered}
+use Rattle.ct_law_shown.specs.Waiting.{answered}
 use Rattle.ct_cluster.specs.declared.step.PendingCall.{PendingCall}
 use Rattle.ct_law_shown.proofs.Wishing.{Wishful}
 use Rattle.ct_law_node.proofs.Pending.{Callers, Fits, is_call, answered_as, Known}

@@ -1,9 +1,9 @@
 -- Where a generation began with rows, the calls that wait are exactly the open ones of their log.
-use Rattle.std.proofs.Common.{◌≡◌, ◌≢◌, ℕ, zero, suc, ◌+◌, ◌<◌, ◌≤◌, Bool, true, false, cond, ◌||◌, List, [], ◌∷◌, ◌++◌, length, Option, Some, None, refl, sym, ◌∙◌, ap, subst, arith, ⊎_elim}
+use Rattle.std.proofs.Common.{◌≡◌, ◌≢◌, ℕ, suc, ◌+◌, ◌<◌, ◌≤◌, Bool, true, false, cond, ◌||◌, List, [], ◌∷◌, ◌++◌, length, Option, Some, None, refl, sym, ◌∙◌, ap, subst, arith, ⊎_elim}
 use Rattle.std.specs.Prelude.{slice_get, nat_eq, nat_lt, not}
 use Rattle.std.specs.List.{AllByRecursion, list_any, list_all}
 use Rattle.std.specs.List.Sorted.{IsStrictlySortedBy}
-use Rattle.std.proofs.lemmas.Bool.{cases_eq, eqb-true, eq-eqb, ltb-true, ltb-false, and_parts}
+use Rattle.std.proofs.lemmas.Bool.{eqb-true, eq-eqb, ltb-true, ltb-false, and_parts}
 use Rattle.ct_msg.specs.declared.client.ClientOp.{ClientOp}
 use Rattle.ct_msg.specs.declared.client.ClientOp.TheVariants as op
 use Rattle.ct_msg.specs.declared.config.Config.{Config}
@@ -14,19 +14,19 @@ use Rattle.ct_rules.specs.declared.state.Wish.{Wish}
 use Rattle.ct_rules_node.specs.Clients as clients
 use Rattle.ct_rules_node.specs.Node.{Node, Database, Committing, or_untouched, state_at, db_at, or_nothing, is_among, has_records, kind_at}
 use Rattle.ct_register.specs.Legal as legal
-use Rattle.ct_cluster.specs.Cluster.{Cluster, is_up, node_at, or_absent, wished, wished_in, committing, pending_in, pending_from, pending}
+use Rattle.ct_cluster.specs.Cluster.{Cluster, node_at, or_absent, wished, wished_in, committing, pending_in, pending_from, pending}
 use Rattle.ct_cluster.specs.declared.step.PendingCall.{PendingCall}
-use Rattle.ct_promise.specs.Born.{Rows, WishIsSound, MayWait, IsBornWith}
+use Rattle.ct_promise.specs.Born.{Rows, WishIsSound, IsBornWith, log_of}
 use Rattle.ct_law_shown.proofs.Weave.{true_or_false}
 use Rattle.ct_law_shown.proofs.Wishing.{Wishful}
 use Rattle.ct_law_node.proofs.Pending.{Callers, Known, KnownAt, CommitFits, is_call, pending_has}
 use Rattle.ct_law_birth.proofs.BornCalls.{caller_in, callers_in, born_known}
-use Rattle.ct_law_calls.specs.Log.{asked_in, log_of}
-use Rattle.ct_law_calls.specs.Rows.{CallsFromRows}
+use Rattle.ct_cluster.specs.Traces.{asked_in}
+use Rattle.ct_law_calls.specs.Law.{CallsFromRows}
 use Rattle.ct_law_calls.proofs.Running.{calls_run}
 use Rattle.ct_rules_node.specs.Laws.{AllAscend}
 use Rattle.ct_lcp2.proofs.Choices.{all_append}
-use Rattle.ct_law_calls.proofs.Accounts.{Wished, Committed, wish_call, commit_call, place_call, place_commit, place_wish, Stands}
+use Rattle.ct_law_calls.proofs.Accounts.{Wished, Committed, wish_call, commit_call, place_call, place_commit, place_wish}
 use Rattle.ct_rules_node.proofs.Numbered.{numbered_all, numbered_any}
 use Rattle.ct_law_calls.proofs.Records.{wants_place}
 use Rattle.ct_law_calls.proofs.Clusters.{Calls}
@@ -221,12 +221,16 @@ unfolding IsPlace
 waits_in config g members row w h k n o e = (let p = entry (IsPlace w) (pending w) k (n, o) (all_places config g members row w h) e in
     subst (λ (z : ℕ × ClientOp). place_call z.1 (node_at z.0 w) ≡ Some k) p.3 (p.1 ∙ ap (λ (j : ℕ). Some j) p.2))
 
--- Where every node has a state for each database, the calls that wait are exactly the open ones of their log.
-pub born_calls : (config : Config) (g : ℕ) (members : List ℕ) (row : Rows) (w : Cluster) → ((n : ℕ) → n < config.nodes → length (node_at n w).dbs ≡ length config.dbs) → IsBornWith config g members row w → Calls config w (by_log (log_of (pending w)))
-born_calls config g members row w sized h = record {
+-- every node of the configuration has a state for each database
+born_sized : (config : Config) (g : ℕ) (members : List ℕ) (row : Rows) (w : Cluster) → IsBornWith config g members row w → (n : ℕ) → n < config.nodes → length (node_at n w).dbs ≡ length config.dbs
+born_sized config g members row w h n l = ⊎_elim (λ (t : is_among n members ≡ true). (h.born n t).dbs) (λ (f : is_among n members ≡ false). (h.left n f).dbs l) (true_or_false (is_among n members))
+
+-- the calls that wait are exactly the open ones of their log
+pub born_calls : (config : Config) (g : ℕ) (members : List ℕ) (row : Rows) (w : Cluster) → IsBornWith config g members row w → Calls config w (by_log (log_of (pending w)))
+born_calls config g members row w h = record {
   size = h.size;
   there = λ n up. ⊎_elim (λ (t : is_among n members ≡ true). ltb-true n config.nodes (h.there n t)) (λ (f : is_among n members ≡ false). absurd (let k = sym up ∙ h.down n f in cc)) (true_or_false (is_among n members));
-  sized = sized;
+  sized = born_sized config g members row w h;
   nodes = λ n. (let known = born_known config g members row w h n in record {
     order = known.order;
     wishes = λ db key. wished_born w n db key (state_at db key (node_at n w)).wish refl (λ x e. all_wanting config g members row w h n db key x e) (known_wish_at config g members row w h n db key);
@@ -237,4 +241,4 @@ born_calls config g members row w sized h = record {
 }
 
 pub calls_from_rows : CallsFromRows
-calls_from_rows config rules g members row w steps sized h = calls_run config rules w (log_of (pending w)) steps (born_calls config g members row w sized h)
+calls_from_rows config rules g members row w steps h = calls_run config rules w (log_of (pending w)) steps (born_calls config g members row w h)

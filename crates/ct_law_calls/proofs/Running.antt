@@ -1,5 +1,5 @@
 -- Through every list of steps the calls that wait are exactly the open ones, and no answer is unasked.
-use Rattle.std.proofs.Common.{◌≡◌, ℕ, zero, suc, ◌<◌, true, false, List, [], ◌∷◌, ◌++◌, length, replicate, Option, Some, None, refl, sym, ap, ◌∙◌, subst, arith, ⊎_elim}
+use Rattle.std.proofs.Common.{◌≡◌, ℕ, zero, suc, ◌<◌, true, false, List, [], ◌∷◌, length, replicate, Option, Some, None, refl, sym, ap, ◌∙◌, subst, arith, ⊎_elim}
 use Rattle.std.specs.Prelude.{slice_get, Result, Ok, Err}
 use Rattle.ct_msg.specs.declared.config.Config.{Config}
 use Rattle.ct_call.specs.Rules.{Rules}
@@ -13,44 +13,51 @@ use Rattle.ct_cluster.specs.Cluster as cluster
 use Rattle.ct_cluster.specs.Cluster.{Cluster, everyone, or_absent, node_at}
 use Rattle.ct_cluster.specs.Faults.{fault_of, is_allowed}
 use Rattle.ct_cluster.specs.Steps.{Stepped, steps_or, applied}
-use Rattle.ct_cluster.specs.Traces.{idle, taken, ran_one, after, ran}
+use Rattle.ct_cluster.specs.Traces.{OpenCall, asked_in, Ran, idle, taken, ran_one, after, ran}
 use Rattle.ct_cluster.specs.Labels.{Label}
 use Rattle.ct_cluster.specs.declared.step.Step.{Step}
 use Rattle.ct_cluster.specs.declared.step.StepFault.{StepFault}
 use Rattle.ct_law_shown.proofs.Weave.{true_or_false}
 use Rattle.ct_law_shown.proofs.Wishing.{Wishful}
-use Rattle.ct_law_calls.specs.Log.{OpenCall, asked_in, CallsStand, heard, Logged, logged, logged_one, CallsRun, LawOfCalls, logged_all, PromiseOfCalls, Told}
+use Rattle.ct_promise.specs.Promises.{CallsStand}
+use Rattle.ct_law_shown.specs.Waiting.{Outcome, unchanged, came_of, outcome, outcome_of}
+use Rattle.ct_law_calls.specs.Law.{NoneUnasked, CallsRun, LawOfCalls, PromiseOfCalls}
+use Rattle.ct_law_calls.proofs.Asked.{asked_more, outcome_asked}
 use Rattle.ct_law_calls.proofs.Accounts.{Wished, Committed, Stands}
 use Rattle.ct_law_calls.proofs.Clusters.{Calls}
-use Rattle.ct_law_calls.proofs.Telling.{by_log, calls_stand, heard_more, step_logs}
+use Rattle.ct_law_calls.proofs.Telling.{by_log, calls_stand, step_logs}
 
 -- ---- one step
 
--- what one step tells, and the open calls after it
-pub record One_logs (c : Config) (w : Cluster) (s : Step) (log : List OpenCall) (v : Cluster) (told : List Label) (kept : Logged) : Type 0 where
-  pub trace : kept.trace ≡ heard told
-  pub calls : Calls c v (by_log kept.log)
+-- by the log a step tells what it tells by the calls that wait, and these are the open ones again
+pub record One_logs (c : Config) (run : Ran) (out : Outcome) : Type 0 where
+  pub same : outcome_of run ≡ out
+  pub calls : Calls c run.cluster (by_log run.log)
 
-result_logs : (c : Config) (rules : Rules) (w : Cluster) (s : Step) (log : List OpenCall) (f : Option StepFault) (r : Result Stepped StepFault) → Calls c w (by_log log) → fault_of c w s ≡ f → steps_or c rules w s f ≡ r →
-    One_logs c w s log (taken w s r).cluster (taken w s r).trace (logged w s log r)
-unfolding taken logged steps_or idle heard
-result_logs c rules w s log (Some f) (Ok x) h e is = absurd (cc)
-result_logs c rules w s log None (Ok x) h e is = (let l = step_logs c rules w s x log h e is in record { trace = l.trace; calls = l.calls })
-result_logs c rules w s log f (Err g) h e is = record { trace = refl; calls = h }
+result_logs : (c : Config) (rules : Rules) (w : Cluster) (log : List OpenCall) (s : Step) (f : Option StepFault) (r : Result Stepped StepFault) → Calls c w (by_log log) → fault_of c w s ≡ f → steps_or c rules w s f ≡ r →
+    One_logs c (taken w log s r) (came_of w s r)
+unfolding taken idle steps_or came_of unchanged
+result_logs c rules w log s (Some f) (Ok x) h e is = absurd (cc)
+result_logs c rules w log s None (Ok x) h e is = (let l = step_logs c rules w s x log h e is in record { same = ap (λ (t : List Label). record { cluster = x.cluster; trace = t }) l.trace; calls = l.calls })
+result_logs c rules w log s f (Err g) h e is = record { same = refl; calls = h }
 
-one_logs : (c : Config) (rules : Rules) (w : Cluster) (s : Step) (log : List OpenCall) → Calls c w (by_log log) → One_logs c w s log (ran_one c rules w s).cluster (ran_one c rules w s).trace (logged_one c rules w s log)
-unfolding ran_one logged_one applied idle heard
-one_logs c rules w s log h = ⊎_elim
-    (λ (t : is_allowed s ≡ true). rw t (result_logs c rules w s log (fault_of c w s) (steps_or c rules w s (fault_of c w s)) h refl refl))
-    (λ (f : is_allowed s ≡ false). rw f (record { trace = refl; calls = h }))
+pub one_logs : (c : Config) (rules : Rules) (w : Cluster) (log : List OpenCall) (s : Step) → Calls c w (by_log log) → One_logs c (ran_one c rules w log s) (outcome c rules w s)
+unfolding ran_one applied idle outcome unchanged
+one_logs c rules w log s h = ⊎_elim
+    (λ (t : is_allowed s ≡ true). rw t (result_logs c rules w log s (fault_of c w s) (steps_or c rules w s (fault_of c w s)) h refl refl))
+    (λ (f : is_allowed s ≡ false). rw f (record { same = refl; calls = h }))
     (true_or_false (is_allowed s))
+
+asked_one : (c : Config) (rules : Rules) (w : Cluster) (s : Step) (run : Ran) → outcome_of run ≡ outcome c rules w s → NoneUnasked run.trace
+asked_one c rules w s run e = subst (λ (o : Outcome). NoneUnasked o.trace) (sym e) (outcome_asked c rules w s)
 
 -- ---- every list of steps
 
 pub calls_run : (c : Config) (rules : Rules) (w : Cluster) (log : List OpenCall) (ss : List Step) → Calls c w (by_log log) → CallsRun c rules w log ss
 unfolding CallsRun
 calls_run c rules w log [] h = tt
-calls_run c rules w log (s ∷ ss) h = (let l = one_logs c rules w s log h in (l.trace, calls_stand c (ran_one c rules w s).cluster (logged_one c rules w s log).log l.calls, calls_run c rules (ran_one c rules w s).cluster (logged_one c rules w s log).log ss l.calls))
+calls_run c rules w log (s ∷ ss) h = (let run = ran_one c rules w log s in let l = one_logs c rules w log s h in
+    (asked_one c rules w s run l.same, calls_stand c run.cluster run.log l.calls, calls_run c rules run.cluster run.log ss l.calls))
 
 -- ---- the opening
 
@@ -98,7 +105,7 @@ absent_order : NodeAscends cluster.absent
 unfolding cluster.absent AllAscend
 absent_order = tt
 
-opened_calls : (c : Config) → Calls c (cluster.opening c) (by_log [])
+pub opened_calls : (c : Config) → Calls c (cluster.opening c) (by_log [])
 unfolding cluster.opening node_at cluster.is_up asked_in
 opened_calls c = record {
   size = many c.nodes (node.opening c (everyone c));
@@ -113,17 +120,13 @@ law_of_calls c rules ss = calls_run c rules (cluster.opening c) [] ss (opened_ca
 
 -- ---- a whole run
 
-all_logs : (c : Config) (rules : Rules) (w : Cluster) (log : List OpenCall) (ss : List Step) → Calls c w (by_log log) → ((logged_all c rules w log ss).trace ≡ heard (ran c rules w ss).trace) × CallsStand (ran c rules w ss).cluster (logged_all c rules w log ss).log
-unfolding logged_all ran after idle heard
-all_logs c rules w log [] h = (refl, calls_stand c w log h)
+all_logs : (c : Config) (rules : Rules) (w : Cluster) (log : List OpenCall) (ss : List Step) → Calls c w (by_log log) → let run = ran c rules w log ss in NoneUnasked run.trace × CallsStand run.cluster run.log
+unfolding ran after idle NoneUnasked
+all_logs c rules w log [] h = (tt, calls_stand c w log h)
 all_logs c rules w log (s ∷ ss) h =
-    let l = one_logs c rules w s log h in
-    let rest = all_logs c rules (ran_one c rules w s).cluster (logged_one c rules w s log).log ss l.calls in (
-      ap (λ (x : List Told). x ++ (logged_all c rules (ran_one c rules w s).cluster (logged_one c rules w s log).log ss).trace) l.trace
-          ∙ ap (λ (x : List Told). heard (ran_one c rules w s).trace ++ x) rest.0
-          ∙ sym (heard_more (ran_one c rules w s).trace (ran c rules (ran_one c rules w s).cluster ss).trace),
-      rest.1,
-    )
+    let run = ran_one c rules w log s in
+    let l = one_logs c rules w log s h in
+    let rest = all_logs c rules run.cluster run.log ss l.calls in (asked_more run.trace (ran c rules run.cluster run.log ss).trace (asked_one c rules w s run l.same) rest.0, rest.1)
 
 pub promise_of_calls : PromiseOfCalls
 promise_of_calls c rules ss = all_logs c rules (cluster.opening c) [] ss (opened_calls c)

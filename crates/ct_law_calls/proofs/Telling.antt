@@ -13,8 +13,7 @@ use Rattle.ct_cluster.specs.Cluster.{Cluster, absent, or_absent, node_at, pendin
 use Rattle.ct_cluster.specs.Faults.{fault_of}
 use Rattle.ct_cluster.specs.Labels.{Label, Answered}
 use Rattle.ct_cluster.specs.Steps.{Stepped, steps}
-use Rattle.ct_cluster.specs.Traces as traces
-use Rattle.ct_cluster.specs.Traces.{answered, label_of, line_labels, own_labels, labels}
+use Rattle.ct_cluster.specs.Traces.{OpenCall, asked_in, closed, opened, closed_by, closed_by_all, answer_label, label_of, line_labels, own_labels, labels}
 use Rattle.ct_cluster.specs.declared.step.Line.{Line}
 use Rattle.ct_cluster.specs.declared.step.Line.TheVariants as line
 use Rattle.ct_cluster.specs.declared.step.PendingCall.{PendingCall}
@@ -23,7 +22,8 @@ use Rattle.ct_cluster.specs.declared.step.Step.TheVariants as step
 use Rattle.ct_law_shown.proofs.Weave.{true_or_false}
 use Rattle.ct_law_node.proofs.Pending.{is_call}
 use Rattle.ct_lcp2.proofs.Choices.{all_append}
-use Rattle.ct_law_calls.specs.Log.{OpenCall, asked_in, closed, opened, closed_by, CallsStand, Told, Heard, told_answer, heard, told_lines, told}
+use Rattle.ct_promise.specs.Promises.{CallsStand}
+use Rattle.ct_law_shown.specs.Waiting.{answerable, answered, told_line, told_lines, told_step}
 use Rattle.ct_law_calls.proofs.Opened.{Opened, without, case_open, some_none}
 use Rattle.ct_law_calls.proofs.Accounts.{Stands, with_call, own_call, other_call, like_stands}
 use Rattle.ct_law_calls.proofs.Waiting.{Fits, stands_fit, stands_any}
@@ -81,8 +81,8 @@ like_without : (call : ℕ) (f g : Opened) → ((k : ℕ) → f k ≡ g k) → (
 unfolding without
 like_without call f g like k = ap (λ (y : Option (ℕ × ClientOp)). cond (nat_eq k call) None y) (like k)
 
-closes_is : (xs : List Line) (f : Opened) (log : List OpenCall) → ((k : ℕ) → f k ≡ asked_in k log) → (k : ℕ) → closes xs f k ≡ asked_in k (closed_by xs log)
-unfolding closes closed_by
+closes_is : (xs : List Line) (f : Opened) (log : List OpenCall) → ((k : ℕ) → f k ≡ asked_in k log) → (k : ℕ) → closes xs f k ≡ asked_in k (closed_by_all xs log)
+unfolding closes closed_by closed_by_all
 closes_is [] f log like k = like k
 closes_is (line.Answered call a ∷ xs) f log like k = closes_is xs (without call f) (closed call log) (λ j. like_without call f (by_log log) like j ∙ sym (closed_is call j log)) k
 closes_is (line.Gone call ∷ xs) f log like k = closes_is xs (without call f) (closed call log) (λ j. like_without call f (by_log log) like j ∙ sym (closed_is call j log)) k
@@ -161,11 +161,6 @@ calls_stand c w log h = record { waiting = pending_open c w (by_log log) h; kept
 
 -- ---- the labels
 
-pub heard_more : (xs ys : List Label) → heard (xs ++ ys) ≡ heard xs ++ heard ys
-unfolding heard
-heard_more [] ys = refl
-heard_more (x ∷ xs) ys = ap (λ (l : List Told). Heard x ∷ l) (heard_more xs ys)
-
 -- an answer to an open call has its label in this list of calls
 abbrev Right : List PendingCall → Opened → Type 0
 Right calls who = (k : ℕ) (a : Answer) (v : ℕ × ClientOp) → who k ≡ Some v → answered k a calls ≡ Answered v.0 v.1 a ∷ []
@@ -191,8 +186,8 @@ answered_right who k a v (x ∷ xs) h any e = ⊎_elim
 right_pending : (c : Config) (w : Cluster) (who : Opened) → Calls c w who → Right (pending w) who
 right_pending c w who h k a v e = answered_right who k a v (pending w) (pending_open c w who h) (pending_any c w who k v.0 v.1 h e) e
 
-right_calls : (c : Config) (w : Cluster) (s : Step) (who : Opened) → Calls c w who → Right (traces.calls_of w s) (opened_by w s who)
-unfolding traces.calls_of opened_by answered
+right_calls : (c : Config) (w : Cluster) (s : Step) (who : Opened) → Calls c w who → Right (answerable w s) (opened_by w s who)
+unfolding answerable opened_by answered
 right_calls c w (step.Client n o) who h k a v e = ⊎_elim
     (λ (is : k ≡ w.calls + 1). ap (λ (b : Bool). cond b (Answered n o a ∷ []) (answered k a (pending w))) (eq-eqb (w.calls + 1) k (sym is))
     ∙ ap (λ (z : ℕ × ClientOp). Answered z.0 z.1 a ∷ []) (same_some (n, o) v (sym (own_call (w.calls + 1) (n, o) who) ∙ ap (with_call (w.calls + 1) (n, o) who) (sym is) ∙ e)))
@@ -228,36 +223,36 @@ still_right : (calls : List PendingCall) (call : ℕ) (log : List OpenCall) → 
 unfolding without
 still_right calls call log h k a v e = h k a v (case_open (nat_eq k call) (asked_in k log) (Some v) (sym (closed_is call k log) ∙ e) (some_none v)).1
 
-lines_as : (s : Step) (calls : List PendingCall) (xs : List Line) (log : List OpenCall) → Right calls (by_log log) → AllAnswered xs (by_log log) → told_lines s log xs ≡ heard (line_labels s calls xs)
-unfolding told_lines line_labels label_of AllAnswered heard told_answer
+lines_as : (s : Step) (calls : List PendingCall) (xs : List Line) (log : List OpenCall) → Right calls (by_log log) → AllAnswered xs (by_log log) → line_labels s log xs ≡ told_lines s calls xs
+unfolding line_labels label_of closed_by answer_label told_lines told_line AllAnswered
 lines_as s calls [] log r h = refl
 lines_as s calls (line.Answered call a ∷ xs) log r h =
-    ap (λ (l : List Told). told_answer call a (asked_in call log) ++ l) (lines_as s calls xs (closed call log) (still_right calls call log r) (like_answered xs (without call (by_log log)) (by_log (closed call log)) (λ k. sym (closed_is call k log)) h.1))
-    ∙ ap (λ (y : Option (ℕ × ClientOp)). told_answer call a y ++ heard (line_labels s calls xs)) h.0.1
-    ∙ ap (λ (l : List Label). heard (l ++ line_labels s calls xs)) (sym (r call a h.0.0 h.0.1))
+    ap (λ (l : List Label). answer_label call a (asked_in call log) ∷ l) (lines_as s calls xs (closed call log) (still_right calls call log r) (like_answered xs (without call (by_log log)) (by_log (closed call log)) (λ k. sym (closed_is call k log)) h.1))
+    ∙ ap (λ (y : Option (ℕ × ClientOp)). answer_label call a y ∷ told_lines s calls xs) h.0.1
+    ∙ ap (λ (l : List Label). l ++ told_lines s calls xs) (sym (r call a h.0.0 h.0.1))
 lines_as s calls (line.Gone call ∷ xs) log r h = lines_as s calls xs (closed call log) (still_right calls call log r) (like_answered xs (without call (by_log log)) (by_log (closed call log)) (λ k. sym (closed_is call k log)) h)
-lines_as s calls (line.Sent i x ∷ xs) log r h = ap (λ (l : List Told). heard (label_of s [] (line.Sent i x)) ++ l) (lines_as s calls xs log r h) ∙ sym (heard_more (label_of s [] (line.Sent i x)) (line_labels s calls xs))
-lines_as s calls (line.Noted n x ∷ xs) log r h = ap (λ (l : List Told). heard (label_of s [] (line.Noted n x)) ++ l) (lines_as s calls xs log r h)
-lines_as s calls (line.Ticket t n ∷ xs) log r h = ap (λ (l : List Told). heard (label_of s [] (line.Ticket t n)) ++ l) (lines_as s calls xs log r h)
-lines_as s calls (line.Yielded n ∷ xs) log r h = ap (λ (l : List Told). heard (label_of s [] (line.Yielded n)) ++ l) (lines_as s calls xs log r h)
-lines_as s calls (line.Stopped n ∷ xs) log r h = ap (λ (l : List Told). heard (label_of s [] (line.Stopped n)) ++ l) (lines_as s calls xs log r h)
-lines_as s calls (line.Started n ∷ xs) log r h = ap (λ (l : List Told). heard (label_of s [] (line.Started n)) ++ l) (lines_as s calls xs log r h)
+lines_as s calls (line.Sent i x ∷ xs) log r h = ap (λ (l : List Label). label_of s log (line.Sent i x) ++ l) (lines_as s calls xs log r h)
+lines_as s calls (line.Noted n x ∷ xs) log r h = ap (λ (l : List Label). label_of s log (line.Noted n x) ++ l) (lines_as s calls xs log r h)
+lines_as s calls (line.Ticket t n ∷ xs) log r h = ap (λ (l : List Label). label_of s log (line.Ticket t n) ++ l) (lines_as s calls xs log r h)
+lines_as s calls (line.Yielded n ∷ xs) log r h = ap (λ (l : List Label). label_of s log (line.Yielded n) ++ l) (lines_as s calls xs log r h)
+lines_as s calls (line.Stopped n ∷ xs) log r h = ap (λ (l : List Label). label_of s log (line.Stopped n) ++ l) (lines_as s calls xs log r h)
+lines_as s calls (line.Started n ∷ xs) log r h = ap (λ (l : List Label). label_of s log (line.Started n) ++ l) (lines_as s calls xs log r h)
 lines_as s calls (line.Lost i ∷ xs) log r h = lines_as s calls xs log r h
 
 -- ---- a step
 
 -- What a step tells with the log is what it tells with the calls that wait, and these are the open ones again.
 pub record Logs (c : Config) (w : Cluster) (s : Step) (log : List OpenCall) (x : Stepped) : Type 0 where
-  pub trace : told w s log x.lines ≡ heard (labels w s x.lines)
-  pub calls : Calls c x.cluster (by_log (closed_by x.lines (opened w s log)))
+  pub trace : labels w s log x.lines ≡ told_step w s x.lines
+  pub calls : Calls c x.cluster (by_log (closed_by_all x.lines (opened w s log)))
 
 pub step_logs : (c : Config) (rules : Rules) (w : Cluster) (s : Step) (x : Stepped) (log : List OpenCall) → Calls c w (by_log log) → fault_of c w s ≡ None → steps c rules w s ≡ Ok x → Logs c w s log x
-unfolding told labels
+unfolding labels told_step
 step_logs c rules w s x log h e ok =
     let a : Calls_after c (opened_by w s (by_log log)) x = every_step c rules w s x (by_log log) h e ok in
     record {
-      trace = ap (λ (l : List Told). heard (own_labels w s x.lines) ++ l) (lines_as s (traces.calls_of w s) x.lines (opened w s log)
-          (subst (λ (f : Opened). Right (traces.calls_of w s) f) (opened_is w s log) (right_calls c w s (by_log log) h))
-          (subst (λ (f : Opened). AllAnswered x.lines f) (opened_is w s log) a.answered)) ∙ sym (heard_more (own_labels w s x.lines) (line_labels s (traces.calls_of w s) x.lines));
-      calls = like_calls c x.cluster _ (by_log (closed_by x.lines (opened w s log))) (closes_is x.lines (opened_by w s (by_log log)) (opened w s log) (λ k. ap (λ (f : Opened). f k) (opened_is w s log))) a.calls;
+      trace = ap (λ (l : List Label). own_labels w s x.lines ++ l) (lines_as s (answerable w s) x.lines (opened w s log)
+          (subst (λ (f : Opened). Right (answerable w s) f) (opened_is w s log) (right_calls c w s (by_log log) h))
+          (subst (λ (f : Opened). AllAnswered x.lines f) (opened_is w s log) a.answered));
+      calls = like_calls c x.cluster _ (by_log (closed_by_all x.lines (opened w s log))) (closes_is x.lines (opened_by w s (by_log log)) (opened w s log) (λ k. ap (λ (f : Opened). f k) (opened_is w s log))) a.calls;
     }

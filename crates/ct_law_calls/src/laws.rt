@@ -1,6 +1,5 @@
 //! What holds of the calls of every run.
-ghost use Rattle.ct_law_calls.specs.Log.{LawOfCalls, PromiseOfCalls, OnceIsEnough};
-ghost use Rattle.ct_law_calls.specs.Rows.{CallsFromRows};
+ghost use Rattle.ct_law_calls.specs.Law.{LawOfCalls, PromiseOfCalls, OnceIsEnough, CallsFromRows};
 
 /// Step by step no answer is unasked, and the calls that wait are exactly the open ones, each at its node and with what its
 /// client asked.
@@ -10,7 +9,6 @@ pub fn keeps_calls()
 {}
 
 /// So of a whole run: it tells no unasked answer, and the calls that wait at its end are exactly the open ones.
-#[tactic(auto, using(crate::proofs::Running::promise_of_calls))]
 pub fn keeps_calls_of_runs()
     ensures { PromiseOfCalls }
 {}

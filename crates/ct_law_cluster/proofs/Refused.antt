@@ -10,7 +10,7 @@ use Rattle.ct_rules_node.specs.Turn.{does, answers, makes, begins}
 use Rattle.ct_cluster.specs.Cluster.{Cluster, node_at, pending}
 use Rattle.ct_cluster.specs.Labels.{Answered}
 use Rattle.ct_cluster.specs.Steps.{frames_of}
-use Rattle.ct_cluster.specs.Traces.{answered}
+use Rattle.ct_law_shown.specs.Waiting.{answered}
 use Rattle.ct_register.specs.Legal.{db_of, key_of}
 use Rattle.ct_law_world.specs.Labels as law
 use Rattle.ct_law_shown.specs.Shown.{Era, is_it, mails, is_telling, told_of, told_by, told_by_all, heard, labels_of}

@@ -28,7 +28,7 @@ use Rattle.ct_rules_node.specs.Steps.{vacuum_all, vacuums}
 use Rattle.ct_cluster.specs.Cluster.{Cluster, is_up, node_at, pending}
 use Rattle.ct_cluster.specs.Labels.{Label, Answered}
 use Rattle.ct_cluster.specs.Steps as steps
-use Rattle.ct_cluster.specs.Traces.{answered}
+use Rattle.ct_law_shown.specs.Waiting.{answered}
 use Rattle.ct_cluster.specs.declared.step.PendingCall.{PendingCall}
 use Rattle.ct_register.specs.Legal.{db_of, key_of}
 use Rattle.ct_law_world.specs.World.{Scene, View, World, Vacuums, happens, put, last, trace, place, starts, own_call, waiting_call}

@@ -33,7 +33,7 @@ use Rattle.ct_rules_node.proofs.Whole.{restarts_each}
 use Rattle.ct_cluster.specs.Cluster.{Cluster, Sent, Fate, Delivered, Dropped, absent, is_up, node_at, sent_at, able_from}
 use Rattle.ct_cluster.specs.Faults.{fault_of, is_allowed}
 use Rattle.ct_cluster.specs.Steps.{Stepped, with_node, put, fed, done, with_fate, deliver, drop, repeat, stop, recover, steps, steps_or, applied}
-use Rattle.ct_cluster.specs.Traces.{idle, taken, ran_one}
+use Rattle.ct_law_shown.specs.Waiting.{unchanged, came_of, outcome}
 use Rattle.ct_cluster.specs.declared.step.Line.{Line}
 use Rattle.ct_cluster.specs.declared.step.Line.TheVariants as line
 use Rattle.ct_cluster.specs.declared.step.Step.{Step}
@@ -267,14 +267,14 @@ unfolding steps_or
 applied_home c rules w s x (Some f) all ok = absurd (cc)
 applied_home c rules w s x None all ok = steps_home c rules w s x all ok
 
-taken_home : (c : Config) (rules : Rules) (w : Cluster) (s : Step) (y : Result Stepped StepFault) → AllAtHome w → applied c rules w s ≡ y → AllAtHome (taken w s y).cluster
-unfolding taken idle applied
+taken_home : (c : Config) (rules : Rules) (w : Cluster) (s : Step) (y : Result Stepped StepFault) → AllAtHome w → applied c rules w s ≡ y → AllAtHome (came_of w s y).cluster
+unfolding came_of unchanged applied
 taken_home c rules w s (Ok x) all is = applied_home c rules w s x (fault_of c w s) all is
 taken_home c rules w s (Err f) all is = all
 
 -- every step of the cluster leaves it so
-pub step_home : (c : Config) (rules : Rules) (w : Cluster) (s : Step) → AllAtHome w → AllAtHome (ran_one c rules w s).cluster
-unfolding ran_one idle
+pub step_home : (c : Config) (rules : Rules) (w : Cluster) (s : Step) → AllAtHome w → AllAtHome (outcome c rules w s).cluster
+unfolding outcome unchanged
 step_home c rules w s all = ⊎_elim
     (λ (t : is_allowed s ≡ true). rw t (taken_home c rules w s (applied c rules w s) all refl))
     (λ (f : is_allowed s ≡ false). rw f all)

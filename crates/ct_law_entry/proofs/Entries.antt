@@ -52,15 +52,15 @@ born_node_home config g members row n x h = record {
       (true_or_false (has_records (kind_at config db)));
 }
 
-left_home : (n : ℕ) (x : Node) → HasLeft x → AtHome n (record { node = x; outs = []; spent = false })
+left_home : (config : Config) (n : ℕ) (x : Node) → HasLeft config n x → AtHome n (record { node = x; outs = []; spent = false })
 unfolding db_at
-left_home n x h = empty_home n x (all_ascend x.dbs (λ i. subst Ascends (sym (h.records i)) (empty_ascends RecState))) h.records
+left_home config n x h = empty_home n x (all_ascend x.dbs (λ i. subst Ascends (sym (h.records i)) (empty_ascends RecState))) h.records
 
 -- in a cluster whose generation was born with rows
 pub born_home : (config : Config) (g : ℕ) (members : List ℕ) (row : Rows) (w : Cluster) → IsBornWith config g members row w → AllAtHome w
 born_home config g members row w h n = ⊎_elim
     (λ (t : is_among n members ≡ true). born_node_home config g members row n (node_at n w) (h.born n t))
-    (λ (f : is_among n members ≡ false). left_home n (node_at n w) (h.left n f))
+    (λ (f : is_among n members ≡ false). left_home config n (node_at n w) (h.left n f))
     (true_or_false (is_among n members))
 
 -- ---- while the generation goes on

@@ -59,7 +59,7 @@ use Rattle.ct_law_shown.proofs.Weave.{it_is}
 use Rattle.ct_register.specs.Register as register
 use Rattle.ct_register.specs.Legal.{AtRecord, AcceptsAnswer}
 use Rattle.ct_cluster.specs.Labels.{Answered}
-use Rattle.ct_cluster.specs.Traces.{answered}
+use Rattle.ct_law_shown.specs.Waiting.{answered}
 use Rattle.ct_promise.specs.Marked.{is_removal}
 use Rattle.ct_law_cluster.proofs.Counting.{with_caller}
 use Rattle.ct_law_node.proofs.Calling.{own_pending}

@@ -15,7 +15,7 @@ use Rattle.ct_rules_node.specs.Node.{Database, Committing, or_untouched, name_of
 use Rattle.ct_cluster.specs.Cluster.{Sent}
 use Rattle.ct_cluster.specs.Labels.{Label, Answered, Noted}
 use Rattle.ct_cluster.specs.Steps.{frames_of}
-use Rattle.ct_cluster.specs.Traces.{answered}
+use Rattle.ct_law_shown.specs.Waiting.{answered}
 use Rattle.ct_cluster.specs.declared.step.PendingCall.{PendingCall}
 use Rattle.ct_register.specs.Legal.{AcceptsLabels}
 use Rattle.ct_register.specs.Lines.{Lines, with_record}

@@ -6,7 +6,7 @@ use Rattle.ct_frame.specs.Fields.{is_node}
 use Rattle.ct_call.specs.Rules.{Rules}
 use Rattle.ct_rules_node.specs.Node.{master_of, state_at}
 use Rattle.ct_cluster.specs.Cluster.{Cluster, is_up, node_at}
-use Rattle.ct_cluster.specs.Traces.{Ran, ran_one}
+use Rattle.ct_law_shown.specs.Waiting.{Outcome, outcome}
 use Rattle.ct_cluster.specs.declared.step.Step.{Step}
 use Rattle.ct_register.specs.Register.{Register}
 use Rattle.ct_register.specs.Lines.{Lines}
@@ -70,7 +70,7 @@ abbrev pub era_from : Era → Cluster → Era
 era_from era w = record era { start = λ db key. project era.number db key w }
 
 -- registers that accept what a step tells of records, and ghosts with which the worlds after it are in order; the marks go on
-pub record Goes_to (c : Config) (era : Era) (rules : Rules) (r : Lines) (ghosts : Ghosts) (run : Ran) : Type 0 where
+pub record Goes_to (c : Config) (era : Era) (rules : Rules) (r : Lines) (ghosts : Ghosts) (run : Outcome) : Type 0 where
   pub lines : Lines
   pub ghosts_after : Ghosts
   pub accepts : AcceptsLabels c rules r (record_labels c run.trace) lines
@@ -79,17 +79,17 @@ pub record Goes_to (c : Config) (era : Era) (rules : Rules) (r : Lines) (ghosts 
   pub marks : MarksGoOnIn era.number r run.trace (marks_of_all ghosts) (marks_of_all ghosts_after)
 
 -- what is asked of a step: the nodes' records are in order, those that run know the members, and its labels are of the line
-pub record May_go (c : Config) (era : Era) (rules : Rules) (w : Cluster) (r : Lines) (run : Ran) : Type 0 where
+pub record May_go (c : Config) (era : Era) (rules : Rules) (w : Cluster) (r : Lines) (run : Outcome) : Type 0 where
   pub real : list_all is_node era.members ≡ true
   pub positive : 1 ≤ era.number
   pub order : AllAscend w
   pub knows : (n : ℕ) → is_up n w ≡ true → (node_at n w).members ≡ era.members
   pub line : AllByRecursion (IsOfLine c era.number r) (record_labels c run.trace)
 
-pub step_goes : (c : Config) (era : Era) (rules : Rules) (w : Cluster) (r : Lines) (ghosts : Ghosts) (s : Step) (es : ℕ → List ℕ → List Event) → May_go c era rules w r (ran_one c rules w s) → Followed c era rules w r ghosts →
-    Schedules c (era_from era w) rules (ran_one c rules w s).cluster (record_labels c (ran_one c rules w s).trace) es → Goes_to c era rules r ghosts (ran_one c rules w s)
+pub step_goes : (c : Config) (era : Era) (rules : Rules) (w : Cluster) (r : Lines) (ghosts : Ghosts) (s : Step) (es : ℕ → List ℕ → List Event) → May_go c era rules w r (outcome c rules w s) → Followed c era rules w r ghosts →
+    Schedules c (era_from era w) rules (outcome c rules w s).cluster (record_labels c (outcome c rules w s).trace) es → Goes_to c era rules r ghosts (outcome c rules w s)
 step_goes c era rules w r ghosts s es may f sched =
-    let run = ran_one c rules w s in
+    let run = outcome c rules w s in
     let told = record_labels c run.trace in
     let q = weave era.number c rules told r (λ db key. (went db key).0) may.positive may.line
     (λ db key. subst (λ (l : List law.Label). AcceptsAll rules (r.records era.number db key) l (went db key).0) (sched db key).1 (accepts_heard rules (trace (at db key) (now db key) (es db key)) (r.records era.number db key) (went db key).0 (went db key).2)) in
@@ -113,15 +113,15 @@ step_goes c era rules w r ghosts s es may f sched =
         Through (law_marked.is_removed (trace (at db key) (now db key) (es db key))) (marks_of (ghosts db key)) (marks_of g)
     went db key = run_marks (at db key) (es db key) (now db key) (r.records era.number db key) (ghosts db key) may.real (f db key)
 
-    arrived : (db : ℕ) (key : List ℕ) → WorldInv (at db key) (project era.number db key (ran_one c rules w s).cluster) (went db key).0 (went db key).1
+    arrived : (db : ℕ) (key : List ℕ) → WorldInv (at db key) (project era.number db key (outcome c rules w s).cluster) (went db key).0 (went db key).1
     arrived db key = subst (λ (x : World). WorldInv (at db key) x (went db key).0 (went db key).1) (sched db key).0 (went db key).3
 
-    same : (db : ℕ) (key : List ℕ) → is_removed r era.number db key (ran_one c rules w s).trace ≡ law_marked.is_removed (trace (at db key) (now db key) (es db key))
-    same db key = sym (removed_in_records c r era.number db key (ran_one c rules w s).trace) ∙ removed_as_told c r era.number db key (record_labels c (ran_one c rules w s).trace) may.line
+    same : (db : ℕ) (key : List ℕ) → is_removed r era.number db key (outcome c rules w s).trace ≡ law_marked.is_removed (trace (at db key) (now db key) (es db key))
+    same db key = sym (removed_in_records c r era.number db key (outcome c rules w s).trace) ∙ removed_as_told c r era.number db key (record_labels c (outcome c rules w s).trace) may.line
         ∙ sym (ap law_marked.is_removed (sched db key).1) ∙ removed_heard (trace (at db key) (now db key) (es db key))
 
-    emptied : (db : ℕ) (key : List ℕ) → is_removed r era.number db key (ran_one c rules w s).trace ≡ true → (marks_of (went db key).1).marks ≡ []
+    emptied : (db : ℕ) (key : List ℕ) → is_removed r era.number db key (outcome c rules w s).trace ≡ true → (marks_of (went db key).1).marks ≡ []
     emptied db key t =
         let k = step_clears c rules r era.number db key w s may.order t in
         let home : k.node ≡ master_of era.members key = k.master ∙ ap (λ (ms : List ℕ). master_of ms key) (may.knows k.node k.up) in
-        unmarked (at db key) (project era.number db key (ran_one c rules w s).cluster) (went db key).0 (went db key).1 (arrived db key) (subst (λ (m : ℕ). (state_at db key (node_at m (ran_one c rules w s).cluster)).entry ≡ None) home k.entry)
+        unmarked (at db key) (project era.number db key (outcome c rules w s).cluster) (went db key).0 (went db key).1 (arrived db key) (subst (λ (m : ℕ). (state_at db key (node_at m (outcome c rules w s).cluster)).entry ≡ None) home k.entry)

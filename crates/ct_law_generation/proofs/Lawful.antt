@@ -5,11 +5,11 @@ use Rattle.ct_msg.specs.declared.config.Config.{Config}
 use Rattle.ct_call.specs.Rules.{Rules}
 use Rattle.ct_rules_node.specs.Node.{master_of, is_among}
 use Rattle.ct_rules_node.specs.Rounds.{row_master, or_nobody}
-use Rattle.ct_cluster.specs.Cluster.{Cluster, everyone, opening}
+use Rattle.ct_cluster.specs.Cluster.{Cluster, everyone, opening, pending}
 use Rattle.ct_register.specs.Register.{newborn}
 use Rattle.ct_register.specs.Lines
 use Rattle.ct_promise.specs.Promises.{IsConfig}
-use Rattle.ct_promise.specs.Born.{Rows, IsBornWith, BornRegisters, PromiseFromRows}
+use Rattle.ct_promise.specs.Born.{Rows, IsBornWith, log_of, BornRegisters, PromiseFromRows}
 use Rattle.ct_promise.specs.Marked.{LineMarks}
 use Rattle.ct_promise.specs.Kept.{RunsFrom, LawOfOneGeneration, LawFromRows}
 use Rattle.ct_promise.specs.Generation.{PromiseOfOneGeneration}
@@ -29,6 +29,8 @@ use Rattle.ct_law_birth.proofs.BornWorlds.{era_from}
 use Rattle.ct_law_birth.proofs.BornStarts.{born_real, each_begins, born_line, born_installed, born_holder}
 use Rattle.ct_law_birth.proofs.BornCalls.{callers_in}
 use Rattle.ct_law_birth.proofs.BornStays.{born_stays}
+use Rattle.ct_law_calls.proofs.Running.{opened_calls}
+use Rattle.ct_law_calls.proofs.Born.{born_calls}
 use Rattle.ct_law_generation.proofs.Going.{Ghosts, marks_of_all, Followed}
 use Rattle.ct_law_entry.proofs.Entries.{opening_home, born_home}
 use Rattle.ct_law_generation.proofs.Running.{IsGeneration, Lives, restart, runs_from}
@@ -62,8 +64,8 @@ opened_lives c rules = record {
 
 pub law_of_one_generation : LawOfOneGeneration
 law_of_one_generation config rules steps is all =
-    subst (λ (marks : LineMarks). RunsFrom config rules 1 (opening config) (Lines.opening config) marks steps) (λ i db key. bare_marks (master_of (everyone config) key) i)
-    (runs_from config (first_era config) rules (opening config) (Lines.opening config) (opened_ghosts config) steps (first_is_generation config is) all (opened_lives config rules))
+    subst (λ (marks : LineMarks). RunsFrom config rules 1 (opening config) [] (Lines.opening config) marks steps) (λ i db key. bare_marks (master_of (everyone config) key) i)
+    (runs_from config (first_era config) rules (opening config) [] (Lines.opening config) (opened_ghosts config) steps (first_is_generation config is) all (opened_lives config rules) (opened_calls config))
 
 -- ---- from a generation that began with rows
 
@@ -91,7 +93,7 @@ born_lives config g members rules row w r is h b = record {
 pub law_from_rows : LawFromRows
 law_from_rows config rules g members row w r is h b =
     let ghosts : Ghosts = λ db key. (born_ghosts config g members rules row w r is h b db key).0 in
-    (marks_of_all ghosts, λ steps all. runs_from config (era_from g members w) rules w r ghosts steps (born_is_generation config g members row w is h) all (born_lives config g members rules row w r is h b))
+    (marks_of_all ghosts, λ steps all. runs_from config (era_from g members w) rules w (log_of (pending w)) r ghosts steps (born_is_generation config g members row w is h) all (born_lives config g members rules row w r is h b) (born_calls config g members row w h))
 
 -- ---- the promises
 

@@ -12,7 +12,11 @@ use Rattle.ct_rules_node.specs.Node.{Node, is_among}
 use Rattle.ct_cluster.specs.Cluster.{Cluster, Sent, Fate, Delivered, Dropped, is_up, node_at, sent_at, able_from}
 use Rattle.ct_cluster.specs.Faults.{fault_of, is_allowed}
 use Rattle.ct_cluster.specs.Steps.{Stepped, with_node, put, fed, done, with_fate, deliver, drop, repeat, steps, steps_or, applied}
-use Rattle.ct_cluster.specs.Traces.{Ran, idle, taken, ran_one}
+use Rattle.ct_cluster.specs.Traces.{OpenCall, ran_one}
+use Rattle.ct_law_shown.specs.Waiting.{Outcome, unchanged, came_of, outcome, outcome_of}
+use Rattle.ct_law_calls.proofs.Clusters.{Calls}
+use Rattle.ct_law_calls.proofs.Telling.{by_log, calls_stand}
+use Rattle.ct_law_calls.proofs.Running.{one_logs}
 use Rattle.ct_cluster.specs.declared.step.Line.{Line}
 use Rattle.ct_cluster.specs.declared.step.Line.TheVariants as line
 use Rattle.ct_cluster.specs.declared.step.Step.{Step}
@@ -101,14 +105,14 @@ unfolding steps_or
 applied_held c rules w s x (Some f) one other ok = absurd (cc)
 applied_held c rules w s x None one other ok = steps_held c rules w s x one other ok
 
-taken_held : (c : Config) (rules : Rules) (w : Cluster) (s : Step) (y : Result Stepped StepFault) → is_of_one_generation s ≡ true → is_yield s ≡ false → applied c rules w s ≡ y → Held w (taken w s y).cluster
-unfolding taken idle applied
+taken_held : (c : Config) (rules : Rules) (w : Cluster) (s : Step) (y : Result Stepped StepFault) → is_of_one_generation s ≡ true → is_yield s ≡ false → applied c rules w s ≡ y → Held w (came_of w s y).cluster
+unfolding came_of unchanged applied
 taken_held c rules w s (Ok x) one other is = applied_held c rules w s x (fault_of c w s) one other is
 taken_held c rules w s (Err f) one other is = refl
 
 -- a step of one generation that does not give the recovery lock back leaves it
-pub step_held : (c : Config) (rules : Rules) (w : Cluster) (s : Step) → is_of_one_generation s ≡ true → is_yield s ≡ false → (ran_one c rules w s).cluster.holder ≡ w.holder
-unfolding ran_one idle
+pub step_held : (c : Config) (rules : Rules) (w : Cluster) (s : Step) → is_of_one_generation s ≡ true → is_yield s ≡ false → (outcome c rules w s).cluster.holder ≡ w.holder
+unfolding outcome unchanged
 step_held c rules w s one other = ⊎_elim
     (λ (t : is_allowed s ≡ true). rw t (taken_held c rules w s (applied c rules w s) one other refl))
     (λ (f : is_allowed s ≡ false). rw f refl)
@@ -193,7 +197,7 @@ goes_here c era rules w r ghosts h = record { who = h.who; goes = (h.stays, (λ 
 -- ---- one step
 
 -- what there is after a step
-pub record After (c : Config) (era : Era) (rules : Rules) (r : Lines) (ghosts : Ghosts) (run : Ran) : Type 0 where
+pub record After (c : Config) (era : Era) (rules : Rules) (r : Lines) (ghosts : Ghosts) (run : Outcome) : Type 0 where
   pub lines : Lines
   pub ghosts_after : Ghosts
   pub accepts : AcceptsLabels c rules r (record_labels c run.trace) lines
@@ -208,9 +212,9 @@ still_in_line era w v r t rest held h = record {
 }
 
 goes_after : (c : Config) (era : Era) (rules : Rules) (w : Cluster) (r : Lines) (ghosts : Ghosts) (s : Step) → IsGeneration c era → is_of_one_generation s ≡ true → is_yield s ≡ false → Lives c era rules w r ghosts →
-    After c era rules r ghosts (ran_one c rules w s)
+    After c era rules r ghosts (outcome c rules w s)
 goes_after c era rules w r ghosts s is one other h =
-    let run = ran_one c rules w s in
+    let run = outcome c rules w s in
     let on = step_goes_on c (era_from era w) rules r w s (starts_here c era rules w r ghosts is h) (goes_here c era rules w r ghosts h) one other in
     let k = step_goes c era rules w r ghosts s on.goes.1 (record {
       real = is.real;
@@ -245,8 +249,8 @@ go_on_same low (m ∷ k ∷ ms) = (refl, go_on_same low (k ∷ ms))
 marks_stay : (m : Marks) → MarksStep false m m
 marks_stay m = (go_on_same m.low m.marks, omega arith)
 
-idle_after : (c : Config) (era : Era) (rules : Rules) (w : Cluster) (r : Lines) (ghosts : Ghosts) → Lives c era rules w r ghosts → After c era rules r ghosts (idle w)
-unfolding idle
+idle_after : (c : Config) (era : Era) (rules : Rules) (w : Cluster) (r : Lines) (ghosts : Ghosts) → Lives c era rules w r ghosts → After c era rules r ghosts (unchanged w)
+unfolding unchanged
 idle_after c era rules w r ghosts h = record { lines = r; ghosts_after = ghosts; accepts = refl; marks = λ db key. marks_stay (marks_of (ghosts db key)); lives = h }
 
 yielded_stays : (c : Config) (era : Era) (rules : Rules) (who : Callers) (w : Cluster) → ClusterStays c era rules who w → ClusterStays c era rules who (yielded w)
@@ -263,13 +267,13 @@ yielded_lives c era rules w r ghosts h = record {
   followed = h.followed;
 }
 
-yield_after : (c : Config) (era : Era) (rules : Rules) (w : Cluster) (r : Lines) (ghosts : Ghosts) (n : ℕ) → Lives c era rules w r ghosts → After c era rules r ghosts (ran_one c rules w (step.Yield n))
-unfolding ran_one is_allowed applied steps_or taken speaks_of_records is_removal
+yield_after : (c : Config) (era : Era) (rules : Rules) (w : Cluster) (r : Lines) (ghosts : Ghosts) (n : ℕ) → Lives c era rules w r ghosts → After c era rules r ghosts (outcome c rules w (step.Yield n))
+unfolding outcome is_allowed applied steps_or came_of speaks_of_records is_removal
 yield_after c era rules w r ghosts n h = either (fault_of c w (step.Yield n)) refl
   where
-    either : (f : Option StepFault) → fault_of c w (step.Yield n) ≡ f → After c era rules r ghosts (ran_one c rules w (step.Yield n))
-    either (Some f) e = subst (λ (o : Option StepFault). After c era rules r ghosts (taken w (step.Yield n) (steps_or c rules w (step.Yield n) o))) (sym e) (idle_after c era rules w r ghosts h)
-    either None e = subst (λ (run : Ran). After c era rules r ghosts run) (sym (yield_runs c rules w n e)) (record {
+    either : (f : Option StepFault) → fault_of c w (step.Yield n) ≡ f → After c era rules r ghosts (outcome c rules w (step.Yield n))
+    either (Some f) e = subst (λ (o : Option StepFault). After c era rules r ghosts (came_of w (step.Yield n) (steps_or c rules w (step.Yield n) o))) (sym e) (idle_after c era rules w r ghosts h)
+    either None e = subst (λ (run : Outcome). After c era rules r ghosts run) (sym (yield_runs c rules w n e)) (record {
       lines = record r { holder = None };
       ghosts_after = ghosts;
       accepts = yield_accepted c rules w n r (yields c w n e) h.line.holder;
@@ -280,27 +284,31 @@ yield_after c era rules w r ghosts n h = either (fault_of c w (step.Yield n)) re
 -- ---- all steps
 
 -- all holds after a step of one generation
-pub step_after : (c : Config) (era : Era) (rules : Rules) (w : Cluster) (r : Lines) (ghosts : Ghosts) (s : Step) → IsGeneration c era → is_of_one_generation s ≡ true → Lives c era rules w r ghosts → After c era rules r ghosts (ran_one c rules w s)
+pub step_after : (c : Config) (era : Era) (rules : Rules) (w : Cluster) (r : Lines) (ghosts : Ghosts) (s : Step) → IsGeneration c era → is_of_one_generation s ≡ true → Lives c era rules w r ghosts → After c era rules r ghosts (outcome c rules w s)
 unfolding is_yield is_of_one_generation
 step_after c era rules w r ghosts (step.Yield n) is one h = yield_after c era rules w r ghosts n h
 step_after c era rules w r ghosts s is one h = goes_after c era rules w r ghosts s is one refl h
 
-run_on : (c : Config) (era : Era) (rules : Rules) (w : Cluster) (r : Lines) (ghosts : Ghosts) (steps : List Step) → IsGeneration c era → list_all is_of_one_generation steps ≡ true → Lives c era rules w r ghosts →
-    RecordsRun c rules era.number w r (marks_of_all ghosts) steps
+run_on : (c : Config) (era : Era) (rules : Rules) (w : Cluster) (log : List OpenCall) (r : Lines) (ghosts : Ghosts) (steps : List Step) → IsGeneration c era → list_all is_of_one_generation steps ≡ true → Lives c era rules w r ghosts → Calls c w (by_log log) →
+    RecordsRun c rules era.number w log r (marks_of_all ghosts) steps
 unfolding RecordsRun
-run_on c era rules w r ghosts [] is one h = tt
-run_on c era rules w r ghosts (s ∷ ss) is one h =
+run_on c era rules w log r ghosts [] is one h calls = tt
+run_on c era rules w log r ghosts (s ∷ ss) is one h calls =
     let ok = and_parts (is_of_one_generation s) (list_all is_of_one_generation ss) one in
-    let k = step_after c era rules w r ghosts s is ok.0 h in (
+    let run = ran_one c rules w log s in
+    let l = one_logs c rules w log s calls in
+    let k : After c era rules r ghosts (outcome_of run) = subst (λ (o : Outcome). After c era rules r ghosts o) (sym l.same) (step_after c era rules w r ghosts s is ok.0 h) in (
       k.lines,
       marks_of_all k.ghosts_after,
       k.accepts,
-      lives_hold c era rules (ran_one c rules w s).cluster k.lines k.ghosts_after is k.lives,
+      lives_hold c era rules run.cluster k.lines k.ghosts_after is k.lives,
+      calls_stand c run.cluster run.log l.calls,
       k.marks,
-      run_on c era rules (ran_one c rules w s).cluster k.lines k.ghosts_after ss is ok.1 k.lives,
+      run_on c era rules run.cluster run.log k.lines k.ghosts_after ss is ok.1 k.lives l.calls,
     )
 
--- so the records of the generation run from every cluster, registers and ghosts of which all holds
-pub runs_from : (c : Config) (era : Era) (rules : Rules) (w : Cluster) (r : Lines) (ghosts : Ghosts) (steps : List Step) → IsGeneration c era → list_all is_of_one_generation steps ≡ true → Lives c era rules w r ghosts →
-    RunsFrom c rules era.number w r (marks_of_all ghosts) steps
-runs_from c era rules w r ghosts steps is one h = (lives_hold c era rules w r ghosts is h, run_on c era rules w r ghosts steps is one h)
+-- So the records of the generation run from every cluster, registers and ghosts of which all holds, where the calls that wait
+-- are the open ones.
+pub runs_from : (c : Config) (era : Era) (rules : Rules) (w : Cluster) (log : List OpenCall) (r : Lines) (ghosts : Ghosts) (steps : List Step) → IsGeneration c era → list_all is_of_one_generation steps ≡ true → Lives c era rules w r ghosts → Calls c w (by_log log) →
+    RunsFrom c rules era.number w log r (marks_of_all ghosts) steps
+runs_from c era rules w log r ghosts steps is one h calls = (lives_hold c era rules w r ghosts is h, calls_stand c w log calls, run_on c era rules w log r ghosts steps is one h calls)

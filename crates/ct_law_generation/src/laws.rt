@@ -7,7 +7,7 @@ ghost use Rattle.ct_promise.specs.Kept.{LawOfOneGeneration, LawFromRows};
 
 /// From the opening, where nothing is marked: step by step there are registers that accept what the step told of records, and
 /// marks that go on. The cluster stands for these registers, its copies and entries have the values that the marks say, and
-/// nothing is lost of what a node has seen.
+/// nothing is lost of what a node has seen. No answer is unasked, and the calls that wait are exactly the open ones.
 pub fn keeps_marks()
     ensures { LawOfOneGeneration }
 {}
@@ -18,7 +18,7 @@ pub fn keeps_marks_of_rows()
 {}
 
 /// From the opening, the registers accept all that a run of one generation tells of records, and its last cluster stands for
-/// them.
+/// them and for the calls that are open.
 #[tactic(auto, using(crate::proofs::Lawful::promise_of_one_generation))]
 pub fn keeps_records()
     ensures { PromiseOfOneGeneration }

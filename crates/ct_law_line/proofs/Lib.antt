@@ -18,5 +18,4 @@ pub mod Moving
 pub mod Joining
 pub mod Stopping
 pub mod Followed
-pub mod Closing
 pub mod Opened

@@ -31,7 +31,7 @@ use Rattle.ct_law_cluster.proofs.Opening.{first_era, first_is_era, is_member, be
 use Rattle.ct_law_line.proofs.Ages.{Ages, era_of, LineLives, LinesLive}
 use Rattle.ct_law_line.proofs.Lives.{Lives, NodeLives, LeadSays, PhaseSays}
 use Rattle.ct_law_line.proofs.Apart.{formed_as}
-use Rattle.ct_law_line.proofs.Closing.{OpenedLives}
+use Rattle.ct_law_line.proofs.Faces.{OpenedLives}
 
 -- nothing is known of any call
 no_callers : Callers

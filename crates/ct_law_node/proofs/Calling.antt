@@ -20,7 +20,7 @@ use Rattle.ct_rules_node.specs.Records.{at_record, place_of}
 use Rattle.ct_rules_node.specs.Laws.{left_by}
 use Rattle.ct_cluster.specs.Cluster.{Cluster, node_at, pending}
 use Rattle.ct_cluster.specs.Labels.{Answered}
-use Rattle.ct_cluster.specs.Traces.{answered}
+use Rattle.ct_law_shown.specs.Waiting.{answered}
 use Rattle.ct_cluster.specs.declared.step.PendingCall.{PendingCall}
 use Rattle.ct_register.specs.Legal.{db_of, key_of}
 use Rattle.ct_law_world.specs.World.{World, Event, Wants, Stores, Unlocks, happens, put, place, own_call, may_want}

@@ -16,7 +16,8 @@ use Rattle.ct_rules.specs.declared.event.Place.{Place}
 use Rattle.ct_rules_node.specs.Records.{out_of}
 use Rattle.ct_rules_node.specs.Admission.{record_in}
 use Rattle.ct_cluster.specs.Labels.{Label, Answered, Noted}
-use Rattle.ct_cluster.specs.Traces.{answered, sent_label}
+use Rattle.ct_cluster.specs.Traces.{sent_label}
+use Rattle.ct_law_shown.specs.Waiting.{answered}
 use Rattle.ct_cluster.specs.declared.step.PendingCall.{PendingCall}
 use Rattle.ct_register.specs.Legal.{db_of}
 use Rattle.ct_register.specs.Lines.{Lines}

@@ -19,7 +19,7 @@ use Rattle.ct_rules_node.proofs.Installed.{own_key}
 use Rattle.ct_rules_node.proofs.Numbered.{numbered_all, numbered_any}
 use Rattle.ct_cluster.specs.Cluster.{Cluster, node_at, or_absent, absent, wished, wished_in, committing, pending_in, pending_from, pending}
 use Rattle.ct_cluster.specs.Labels.{Label, Answered}
-use Rattle.ct_cluster.specs.Traces.{answered}
+use Rattle.ct_law_shown.specs.Waiting.{answered}
 use Rattle.ct_cluster.specs.declared.step.PendingCall.{PendingCall}
 use Rattle.ct_register.specs.Legal.{db_of, key_of}
 use Rattle.ct_law_shown.proofs.Wishing.{Wishful}

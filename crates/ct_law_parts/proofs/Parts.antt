@@ -13,7 +13,7 @@ use Rattle.ct_msg.specs.declared.config.DbKind.TheVariants.{Persistent}
 use Rattle.ct_frame.specs.declared.event.Note.{Note}
 use Rattle.ct_frame.specs.declared.event.Note.TheVariants as note
 use Rattle.ct_frame.specs.declared.frame.Assigned.{Assigned}
-use Rattle.ct_cluster.specs.Labels.{Label, Answered, Begun, Noted, Ticket, Yielded, Stopped, Started, Pushed, Takeover, Taken}
+use Rattle.ct_cluster.specs.Labels.{Label, Answered, Unasked, Begun, Noted, Ticket, Yielded, Stopped, Started, Pushed, Takeover, Taken}
 use Rattle.ct_rules_node.specs.Node.{is_among, is_persistent, kind_at}
 use Rattle.ct_register.specs.Words.{at}
 use Rattle.ct_register.specs.Register.{Register, owned_by, seen_by, with_version, released, emptied}
@@ -81,6 +81,7 @@ began members able p = record p { begun = p.begun + 1; runs = at (p.begun + 1) (
 
 unfoldable pub goes : Config → Choice → Label → Lines → Lines
 goes config x (Answered n asked given) r = answer_goes config x n asked given r
+goes config x (Unasked call given) r = r
 goes config x (Begun n db writes) r = at_database n db (begun_in n writes) r
 goes config x (Noted n noted) r = note_goes x n noted r
 goes config x (Ticket g n members) r = ticketed g n members r

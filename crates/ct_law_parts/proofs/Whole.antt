@@ -9,7 +9,7 @@ use Rattle.ct_msg.specs.declared.config.DbKind.{DbKind}
 use Rattle.ct_msg.specs.declared.config.DbKind.TheVariants.{Volatile, ReadOnly, Persistent}
 use Rattle.ct_frame.specs.declared.event.Note.TheVariants as note
 use Rattle.ct_call.specs.Rules.{Rules}
-use Rattle.ct_cluster.specs.Labels.{Label, Answered, Begun, Noted, Ticket, Yielded, Stopped, Started, Pushed, Takeover, Taken}
+use Rattle.ct_cluster.specs.Labels.{Label, Answered, Unasked, Begun, Noted, Ticket, Yielded, Stopped, Started, Pushed, Takeover, Taken}
 use Rattle.ct_rules_node.specs.Node.{is_persistent, kind_at}
 use Rattle.ct_register.specs.Register.{AcceptsEnd, AcceptsVacuum, emptied, released}
 use Rattle.ct_register.specs.Lines.{Lines}
@@ -20,7 +20,7 @@ use Rattle.ct_law_parts.proofs.Rounds.{RoundsNeed, CanTake, round_accepted, inst
 use Rattle.ct_law_parts.proofs.Answers.{OfRecord, Answers, lock_accepted, read_accepted, write_accepted, store_accepted, unlock_accepted, apply_accepted, too_long_accepted, pread_accepted, vacuumed_accepted, ended_accepted}
 
 -- What a label needs of records. A commit is answered as committed or unsure, or refused; a read that is of no persistent
--- database is one of a record.
+-- database is one of a record. No answer is unasked.
 unfoldable pub RecordsNeed : Config → Rules → Choice → Lines → Label → Type 0
 RecordsNeed config rules x r (Answered n asked (answer.Refused (why.TooLong m))) =
     OfRecord config n (db_of asked) (key_of asked) (Answers rules n asked (answer.Refused (why.TooLong m))) r
@@ -31,6 +31,7 @@ RecordsNeed config rules x r (Answered n (op.Commit db writes) given) = ⊥
 RecordsNeed config rules x r (Answered n (op.Read db key) (answer.Read v)) =
     is_persistent (kind_at config db) ≡ false → OfRecord config n db key (Answers rules n (op.Read db key) (answer.Read v)) r
 RecordsNeed config rules x r (Answered n asked given) = OfRecord config n (db_of asked) (key_of asked) (Answers rules n asked given) r
+RecordsNeed config rules x r (Unasked call given) = ⊥
 RecordsNeed config rules x r (Noted n (note.Vacuumed db key)) = OfRecord config n db key (λ t. AcceptsVacuum t (emptied t)) r
 RecordsNeed config rules x r (Noted n (note.Ended db key)) = OfRecord config n db key (λ t. AcceptsEnd n t (released t)) r
 RecordsNeed config rules x r (Noted h (note.Round g members p q)) = CanTake r members p x.counts
@@ -71,6 +72,7 @@ parts_accept config rules x r (Answered n (op.Commit db writes) (answer.Committe
 parts_accept config rules x r (Answered n (op.Commit db writes) (answer.Unsure number missing)) a b c d = unsure_accepted config rules x r n db number writes missing b
 parts_accept config rules x r (Answered n (op.Commit db writes) given) a b c d = absurd a
 parts_accept config rules x r (Answered n asked given) a b c d = absurd a.2
+parts_accept config rules x r (Unasked call given) a b c d = absurd a
 parts_accept config rules x r (Begun n db writes) a b c d = begun_accepted config rules x r n db writes b
 parts_accept config rules x r (Noted n (note.Vacuumed db key)) a b c d = vacuumed_accepted config rules x r n db key a
 parts_accept config rules x r (Noted n (note.Ended db key)) a b c d = ended_accepted config rules x r n db key a

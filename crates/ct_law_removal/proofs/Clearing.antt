@@ -17,7 +17,8 @@ use Rattle.ct_cluster.specs.Cluster.{Cluster, Sent, Fate, Delivered, absent, or_
 use Rattle.ct_cluster.specs.Faults.{fault_of, is_allowed}
 use Rattle.ct_cluster.specs.Labels.{Label}
 use Rattle.ct_cluster.specs.Steps.{Stepped, lines_of, with_node, put, fed, done, with_fate, deliver, drop, repeat, gone, stop, recover, steps, steps_or, applied}
-use Rattle.ct_cluster.specs.Traces.{calls_of, label_of, line_labels, is_refused as refuses, begun_by, own_labels, labels, idle, taken, ran_one}
+use Rattle.ct_cluster.specs.Traces.{is_refused as refuses, begun_by, own_labels}
+use Rattle.ct_law_shown.specs.Waiting.{answerable, told_line, told_lines, told_step, unchanged, came_of, outcome}
 use Rattle.ct_cluster.specs.declared.step.Line.{Line}
 use Rattle.ct_cluster.specs.declared.step.Line.TheVariants as line
 use Rattle.ct_cluster.specs.declared.step.PendingCall.{PendingCall}
@@ -71,13 +72,13 @@ put_entry n u own w db key e = cond_both (nat_lt n (length w.nodes)) true false 
 
 -- the event is given to a node, whose lines come after some that tell no removal
 fed_clears : (c : Config) (rules : Rules) (r : Lines) (g db : ℕ) (key : List ℕ) (s : Step) (calls : List PendingCall) (n : ℕ) (e : Event) (own : List Line) (w v : Cluster) (x : Stepped) → AllAscend w → is_up n w ≡ true → node_at n v ≡ node_at n w →
-    ((xs : List Line) → is_removed r g db key (line_labels s calls (own ++ xs)) ≡ is_removed r g db key (line_labels s calls xs)) → fed c rules n e own v ≡ Ok x → Clears r g db key w x.cluster (line_labels s calls x.lines)
+    ((xs : List Line) → is_removed r g db key (told_lines s calls (own ++ xs)) ≡ is_removed r g db key (told_lines s calls xs)) → fed c rules n e own v ≡ Ok x → Clears r g db key w x.cluster (told_lines s calls x.lines)
 unfolding put
 fed_clears c rules r g db key s calls n e own w v x order up same quiet ok told =
     let u = node_steps.happens c rules n (begins (node_at n v)) e in
     let f = fed_is c rules n e own v x ok in
     let of_node : is_removed r g db key (labels_of n calls u.outs) ≡ true
-    = sym (ap (is_removed r g db key) (labels_are s n (length v.sent + 1) calls u.outs)) ∙ sym (quiet (lines_of n (length v.sent + 1) u.outs)) ∙ sym (ap (λ (y : Stepped). is_removed r g db key (line_labels s calls y.lines)) f.1) ∙ told in
+    = sym (ap (is_removed r g db key) (labels_are s n (length v.sent + 1) calls u.outs)) ∙ sym (quiet (lines_of n (length v.sent + 1) u.outs)) ∙ sym (ap (λ (y : Stepped). is_removed r g db key (told_lines s calls y.lines)) f.1) ∙ told in
     let mine = told_removal r g db key n calls (begins (node_at n v)) u (happens_remove c rules n (begins (node_at n v)) e db key (subst NodeAscends (sym same) (order n)) (starts_silent db key (begins (node_at n v)) refl)) of_node in
     record {
       node = n;
@@ -88,9 +89,9 @@ fed_clears c rules r g db key s calls n e own w v x order up same quiet ok told 
     }
 
 -- no event: these lines tell no removal
-done_clears : (r : Lines) (g db : ℕ) (key : List ℕ) (s : Step) (calls : List PendingCall) (lines : List Line) (w v : Cluster) (x : Stepped) → is_removed r g db key (line_labels s calls lines) ≡ false → done lines v ≡ Ok x → Clears r g db key w x.cluster (line_labels s calls x.lines)
+done_clears : (r : Lines) (g db : ℕ) (key : List ℕ) (s : Step) (calls : List PendingCall) (lines : List Line) (w v : Cluster) (x : Stepped) → is_removed r g db key (told_lines s calls lines) ≡ false → done lines v ≡ Ok x → Clears r g db key w x.cluster (told_lines s calls x.lines)
 unfolding done
-done_clears r g db key s calls lines w v x none ok told = absurd (let same : record { cluster = v; lines = lines } ≡ x = cc in let k = sym none ∙ ap (λ (y : Stepped). is_removed r g db key (line_labels s calls y.lines)) same ∙ told in cc)
+done_clears r g db key s calls lines w v x none ok told = absurd (let same : record { cluster = v; lines = lines } ≡ x = cc in let k = sym none ∙ ap (λ (y : Stepped). is_removed r g db key (told_lines s calls y.lines)) same ∙ told in cc)
 
 -- ---- every step
 
@@ -99,35 +100,35 @@ unfolding with_fate node_at
 same_node zero n m f w = refl
 same_node (suc k) n m f w = refl
 
-deliver_clears : (c : Config) (rules : Rules) (r : Lines) (g db : ℕ) (key : List ℕ) (s : Step) (calls : List PendingCall) (k : ℕ) (w : Cluster) (m : Option Sent) (x : Stepped) → AllAscend w → deliver c rules k w m ≡ Ok x → Clears r g db key w x.cluster (line_labels s calls x.lines)
-unfolding deliver line_labels label_of
+deliver_clears : (c : Config) (rules : Rules) (r : Lines) (g db : ℕ) (key : List ℕ) (s : Step) (calls : List PendingCall) (k : ℕ) (w : Cluster) (m : Option Sent) (x : Stepped) → AllAscend w → deliver c rules k w m ≡ Ok x → Clears r g db key w x.cluster (told_lines s calls x.lines)
+unfolding deliver told_lines told_line
 deliver_clears c rules r g db key s calls k w None x order ok = done_clears r g db key s calls [] w w x refl ok
 deliver_clears c rules r g db key s calls k w (Some m) x order ok =
-    cond_both (is_up m.frame.receiver w) (fed c rules m.frame.receiver (event.Arrive m.frame) [] (with_fate k m Delivered w)) _ (λ (y : Result Stepped StepFault). y ≡ Ok x → Clears r g db key w x.cluster (line_labels s calls x.lines))
+    cond_both (is_up m.frame.receiver w) (fed c rules m.frame.receiver (event.Arrive m.frame) [] (with_fate k m Delivered w)) _ (λ (y : Result Stepped StepFault). y ≡ Ok x → Clears r g db key w x.cluster (told_lines s calls x.lines))
     (λ up is. fed_clears c rules r g db key s calls m.frame.receiver (event.Arrive m.frame) [] w (with_fate k m Delivered w) x order up (same_node k m.frame.receiver m Delivered w) (λ xs. refl) is)
     (λ _ is. done_clears r g db key s calls (line.Lost k ∷ []) w _ x refl is) ok
 
-repeat_clears : (c : Config) (rules : Rules) (r : Lines) (g db : ℕ) (key : List ℕ) (s : Step) (calls : List PendingCall) (k : ℕ) (w : Cluster) (m : Option Sent) (x : Stepped) → AllAscend w → repeat c rules k w m ≡ Ok x → Clears r g db key w x.cluster (line_labels s calls x.lines)
-unfolding repeat line_labels label_of
+repeat_clears : (c : Config) (rules : Rules) (r : Lines) (g db : ℕ) (key : List ℕ) (s : Step) (calls : List PendingCall) (k : ℕ) (w : Cluster) (m : Option Sent) (x : Stepped) → AllAscend w → repeat c rules k w m ≡ Ok x → Clears r g db key w x.cluster (told_lines s calls x.lines)
+unfolding repeat told_lines told_line
 repeat_clears c rules r g db key s calls k w None x order ok = done_clears r g db key s calls [] w w x refl ok
 repeat_clears c rules r g db key s calls k w (Some m) x order ok =
-    cond_both (is_up m.frame.receiver w) (fed c rules m.frame.receiver (event.Arrive m.frame) [] w) _ (λ (y : Result Stepped StepFault). y ≡ Ok x → Clears r g db key w x.cluster (line_labels s calls x.lines))
+    cond_both (is_up m.frame.receiver w) (fed c rules m.frame.receiver (event.Arrive m.frame) [] w) _ (λ (y : Result Stepped StepFault). y ≡ Ok x → Clears r g db key w x.cluster (told_lines s calls x.lines))
     (λ up is. fed_clears c rules r g db key s calls m.frame.receiver (event.Arrive m.frame) [] w w x order up refl (λ xs. refl) is)
     (λ _ is. done_clears r g db key s calls (line.Lost k ∷ []) w _ x refl is) ok
 
-drop_clears : (r : Lines) (g db : ℕ) (key : List ℕ) (s : Step) (calls : List PendingCall) (k : ℕ) (w : Cluster) (m : Option Sent) (x : Stepped) → drop k w m ≡ Ok x → Clears r g db key w x.cluster (line_labels s calls x.lines)
-unfolding drop line_labels
+drop_clears : (r : Lines) (g db : ℕ) (key : List ℕ) (s : Step) (calls : List PendingCall) (k : ℕ) (w : Cluster) (m : Option Sent) (x : Stepped) → drop k w m ≡ Ok x → Clears r g db key w x.cluster (told_lines s calls x.lines)
+unfolding drop told_lines
 drop_clears r g db key s calls k w None x ok = done_clears r g db key s calls [] w w x refl ok
 drop_clears r g db key s calls k w (Some m) x ok = done_clears r g db key s calls [] w _ x refl ok
 
-gone_none : (r : Lines) (g db : ℕ) (key : List ℕ) (s : Step) (calls ended : List PendingCall) → is_removed r g db key (line_labels s calls (gone ended)) ≡ false
-unfolding gone line_labels label_of
+gone_none : (r : Lines) (g db : ℕ) (key : List ℕ) (s : Step) (calls ended : List PendingCall) → is_removed r g db key (told_lines s calls (gone ended)) ≡ false
+unfolding gone told_lines told_line
 gone_none r g db key s calls [] = refl
 gone_none r g db key s calls (x ∷ xs) = gone_none r g db key s calls xs
 
 -- the lines of a step that is not refused
-lines_clear : (c : Config) (rules : Rules) (r : Lines) (g db : ℕ) (key : List ℕ) (w : Cluster) (s : Step) (calls : List PendingCall) (x : Stepped) → AllAscend w → fault_of c w s ≡ None → steps c rules w s ≡ Ok x → Clears r g db key w x.cluster (line_labels s calls x.lines)
-unfolding steps fault_of stop recover node_at line_labels label_of is_removal
+lines_clear : (c : Config) (rules : Rules) (r : Lines) (g db : ℕ) (key : List ℕ) (w : Cluster) (s : Step) (calls : List PendingCall) (x : Stepped) → AllAscend w → fault_of c w s ≡ None → steps c rules w s ≡ Ok x → Clears r g db key w x.cluster (told_lines s calls x.lines)
+unfolding steps fault_of stop recover node_at told_lines told_line is_removal
 lines_clear c rules r g db key w (step.Client n o) calls x order may ok = fed_clears c rules r g db key (step.Client n o) calls n (event.Client (w.calls + 1) o) [] w (record w { calls = w.calls + 1 }) x order (runs w n _ _ may) refl (λ xs. refl) ok
 lines_clear c rules r g db key w (step.Deliver k) calls x order may ok = deliver_clears c rules r g db key (step.Deliver k) calls k w (sent_at k w) x order ok
 lines_clear c rules r g db key w (step.Drop k) calls x order may ok = drop_clears r g db key (step.Drop k) calls k w (sent_at k w) x ok
@@ -157,20 +158,20 @@ own_none r g db key w _ lines = refl
 
 -- ---- one step of the cluster
 
-applied_clears : (c : Config) (rules : Rules) (r : Lines) (g db : ℕ) (key : List ℕ) (w : Cluster) (s : Step) (x : Stepped) (f : Option StepFault) → AllAscend w → fault_of c w s ≡ f → steps_or c rules w s f ≡ Ok x → Clears r g db key w x.cluster (labels w s x.lines)
-unfolding steps_or labels
+applied_clears : (c : Config) (rules : Rules) (r : Lines) (g db : ℕ) (key : List ℕ) (w : Cluster) (s : Step) (x : Stepped) (f : Option StepFault) → AllAscend w → fault_of c w s ≡ f → steps_or c rules w s f ≡ Ok x → Clears r g db key w x.cluster (told_step w s x.lines)
+unfolding steps_or told_step
 applied_clears c rules r g db key w s x (Some f) order may ok told = absurd (cc)
-applied_clears c rules r g db key w s x None order may ok told = lines_clear c rules r g db key w s (calls_of w s) x order may ok
-    (sym (list_any-append (is_removal r g db key) (own_labels w s x.lines) (line_labels s (calls_of w s) x.lines) ∙ (λ i. own_none r g db key w s x.lines i || is_removed r g db key (line_labels s (calls_of w s) x.lines))) ∙ told)
+applied_clears c rules r g db key w s x None order may ok told = lines_clear c rules r g db key w s (answerable w s) x order may ok
+    (sym (list_any-append (is_removal r g db key) (own_labels w s x.lines) (told_lines s (answerable w s) x.lines) ∙ (λ i. own_none r g db key w s x.lines i || is_removed r g db key (told_lines s (answerable w s) x.lines))) ∙ told)
 
-taken_clears : (c : Config) (rules : Rules) (r : Lines) (g db : ℕ) (key : List ℕ) (w : Cluster) (s : Step) (y : Result Stepped StepFault) → AllAscend w → applied c rules w s ≡ y → Clears r g db key w (taken w s y).cluster (taken w s y).trace
-unfolding taken idle applied
+taken_clears : (c : Config) (rules : Rules) (r : Lines) (g db : ℕ) (key : List ℕ) (w : Cluster) (s : Step) (y : Result Stepped StepFault) → AllAscend w → applied c rules w s ≡ y → Clears r g db key w (came_of w s y).cluster (came_of w s y).trace
+unfolding came_of unchanged applied
 taken_clears c rules r g db key w s (Ok x) order is told = applied_clears c rules r g db key w s x (fault_of c w s) order refl is told
 taken_clears c rules r g db key w s (Err f) order is told = absurd (cc)
 
 -- where a step tells the removal of a record of a line, its location master at a node of the line has no entry of it
-pub step_clears : (c : Config) (rules : Rules) (r : Lines) (g db : ℕ) (key : List ℕ) (w : Cluster) (s : Step) → AllAscend w → Clears r g db key w (ran_one c rules w s).cluster (ran_one c rules w s).trace
-unfolding ran_one idle
+pub step_clears : (c : Config) (rules : Rules) (r : Lines) (g db : ℕ) (key : List ℕ) (w : Cluster) (s : Step) → AllAscend w → Clears r g db key w (outcome c rules w s).cluster (outcome c rules w s).trace
+unfolding outcome unchanged
 step_clears c rules r g db key w s order = ⊎_elim
     (λ (t : is_allowed s ≡ true). rw t (taken_clears c rules r g db key w s (applied c rules w s) order refl))
     (λ (f : is_allowed s ≡ false). rw f (λ told. absurd (cc)))

@@ -24,7 +24,8 @@ use Rattle.ct_rules_node.specs.Records.{out_of, place_of, acted, put_back, at_re
 use Rattle.ct_rules_node.specs.Laws.{unless_blank, NodeAscends, left_by}
 use Rattle.ct_rules_node.proofs.AtRecord.{moves_at, set_past}
 use Rattle.ct_cluster.specs.Labels.{Label, Answered, Noted}
-use Rattle.ct_cluster.specs.Traces.{answered, sent_label}
+use Rattle.ct_cluster.specs.Traces.{sent_label}
+use Rattle.ct_law_shown.specs.Waiting.{answered}
 use Rattle.ct_cluster.specs.declared.step.PendingCall.{PendingCall}
 use Rattle.ct_register.specs.Lines.{Lines}
 use Rattle.ct_promise.specs.Generation.{speaks_of_records, is_note_of_records, record_labels}

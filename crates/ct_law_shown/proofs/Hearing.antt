@@ -19,7 +19,8 @@ use Rattle.ct_rules_node.specs.Admission.{record_in}
 use Rattle.ct_cluster.specs.Cluster.{Sent, Waiting}
 use Rattle.ct_cluster.specs.Labels.{Label, Noted}
 use Rattle.ct_cluster.specs.Steps.{frames_of, lines_of}
-use Rattle.ct_cluster.specs.Traces.{answered, sent_label, label_of, line_labels}
+use Rattle.ct_cluster.specs.Traces.{sent_label}
+use Rattle.ct_law_shown.specs.Waiting.{answered, told_line, told_lines}
 use Rattle.ct_cluster.specs.declared.step.PendingCall.{PendingCall}
 use Rattle.ct_cluster.specs.declared.step.Step.{Step}
 use Rattle.ct_register.specs.Register.{Register, Accepts}
@@ -138,8 +139,8 @@ labels_more n calls (out.Answer call a ∷ xs) ys = ap (λ (l : List Label). ans
 labels_more n calls (out.Note x ∷ xs) ys = ap (λ (l : List Label). Noted n x ∷ l) (labels_more n calls xs ys)
 
 -- the labels of the lines that a node's step prints are those of what the node does
-pub labels_are : (s : Step) (n k : ℕ) (calls : List PendingCall) (xs : List Out) → line_labels s calls (lines_of n k xs) ≡ labels_of n calls xs
-unfolding line_labels lines_of label_of labels_of
+pub labels_are : (s : Step) (n k : ℕ) (calls : List PendingCall) (xs : List Out) → told_lines s calls (lines_of n k xs) ≡ labels_of n calls xs
+unfolding told_lines lines_of told_line labels_of
 labels_are s n k calls [] = refl
 labels_are s n k calls (out.Send f ∷ xs) = ap (λ (l : List Label). sent_label f.sender f.generation f.msg ++ l) (labels_are s n (k + 1) calls xs)
 labels_are s n k calls (out.Answer call a ∷ xs) = ap (λ (l : List Label). answered call a calls ++ l) (labels_are s n k calls xs)

@@ -14,7 +14,8 @@ use Rattle.ct_rules_node.specs.Node.{Node, db_at, state_at, master_of, kind_at, 
 use Rattle.ct_rules_node.specs.Admission.{record_in}
 use Rattle.ct_cluster.specs.Cluster.{Cluster, Sent, node_at}
 use Rattle.ct_cluster.specs.Labels.{Label, Answered, Noted}
-use Rattle.ct_cluster.specs.Traces.{answered, sent_label}
+use Rattle.ct_cluster.specs.Traces.{sent_label}
+use Rattle.ct_law_shown.specs.Waiting.{answered}
 use Rattle.ct_cluster.specs.declared.step.PendingCall.{PendingCall}
 use Rattle.ct_register.specs.Legal.{db_of, key_of}
 use Rattle.ct_register.specs.Lines.{Lines}

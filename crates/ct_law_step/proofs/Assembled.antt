@@ -18,7 +18,8 @@ use Rattle.ct_rules_node.specs.Steps.{vacuums}
 use Rattle.ct_cluster.specs.declared.step.PendingCall.{PendingCall}
 use Rattle.ct_cluster.specs.Steps.{Stepped, steps, steps_or, applied, done, drop, put}
 use Rattle.ct_cluster.specs.Traces as traces
-use Rattle.ct_cluster.specs.Traces.{ran_one, idle, taken, line_labels, own_labels}
+use Rattle.ct_cluster.specs.Traces.{own_labels}
+use Rattle.ct_law_shown.specs.Waiting.{outcome, unchanged, came_of, told_lines, answerable, told_step}
 use Rattle.ct_cluster.specs.declared.step.Step.{Step}
 use Rattle.ct_cluster.specs.declared.step.Step.TheVariants as step
 use Rattle.ct_cluster.specs.declared.step.StepFault.{StepFault}
@@ -70,41 +71,41 @@ pub record Starts (c : Config) (era : Era) (rules : Rules) (reg : Lines) : Type 
 
 -- where the step is taken, the cluster goes on to this
 abbrev pub Taken_goes : Config → Era → Rules → Lines → Cluster → List Label → Step → Type 0
-Taken_goes c era rules reg w ls s = (x : Stepped) → fault_of c w s ≡ None → steps c rules w s ≡ Ok x → Run_goes c era rules reg (ls ++ record_labels c (traces.labels w s x.lines)) x.cluster
+Taken_goes c era rules reg w ls s = (x : Stepped) → fault_of c w s ≡ None → steps c rules w s ≡ Ok x → Run_goes c era rules reg (ls ++ record_labels c (told_step w s x.lines)) x.cluster
 
-idle_goes : (c : Config) (era : Era) (rules : Rules) (reg : Lines) (w : Cluster) (ls : List Label) → Run_goes c era rules reg ls w → Run_goes c era rules reg (ls ++ record_labels c (idle w).trace) (idle w).cluster
-unfolding idle
+idle_goes : (c : Config) (era : Era) (rules : Rules) (reg : Lines) (w : Cluster) (ls : List Label) → Run_goes c era rules reg ls w → Run_goes c era rules reg (ls ++ record_labels c (unchanged w).trace) (unchanged w).cluster
+unfolding unchanged
 idle_goes c era rules reg w ls h = subst (λ (l : List Label). Run_goes c era rules reg l w) (sym (append-nil ls)) h
 
 result_goes : (c : Config) (era : Era) (rules : Rules) (reg : Lines) (w : Cluster) (ls : List Label) (s : Step) (r : Result Stepped StepFault) → Run_goes c era rules reg ls w →
-    ((x : Stepped) → r ≡ Ok x → Run_goes c era rules reg (ls ++ record_labels c (traces.labels w s x.lines)) x.cluster) → Run_goes c era rules reg (ls ++ record_labels c (taken w s r).trace) (taken w s r).cluster
-unfolding taken
+    ((x : Stepped) → r ≡ Ok x → Run_goes c era rules reg (ls ++ record_labels c (told_step w s x.lines)) x.cluster) → Run_goes c era rules reg (ls ++ record_labels c (came_of w s r).trace) (came_of w s r).cluster
+unfolding came_of
 result_goes c era rules reg w ls s (Ok x) h f = f x refl
 result_goes c era rules reg w ls s (Err e) h f = idle_goes c era rules reg w ls h
 
 fault_goes : (c : Config) (era : Era) (rules : Rules) (reg : Lines) (w : Cluster) (ls : List Label) (s : Step) (f : Option StepFault) → fault_of c w s ≡ f → Run_goes c era rules reg ls w → Taken_goes c era rules reg w ls s →
-    Run_goes c era rules reg (ls ++ record_labels c (taken w s (steps_or c rules w s f)).trace) (taken w s (steps_or c rules w s f)).cluster
+    Run_goes c era rules reg (ls ++ record_labels c (came_of w s (steps_or c rules w s f)).trace) (came_of w s (steps_or c rules w s f)).cluster
 unfolding steps_or
 fault_goes c era rules reg w ls s (Some f) e h g = result_goes c era rules reg w ls s (Err f) h (λ x bad. absurd (cc))
 fault_goes c era rules reg w ls s None e h g = result_goes c era rules reg w ls s (steps c rules w s) h (λ x ok. g x e ok)
 
 pub step_goes : (c : Config) (era : Era) (rules : Rules) (reg : Lines) (w : Cluster) (ls : List Label) (s : Step) → Run_goes c era rules reg ls w → Taken_goes c era rules reg w ls s →
-    Run_goes c era rules reg (ls ++ record_labels c (ran_one c rules w s).trace) (ran_one c rules w s).cluster
-unfolding ran_one applied
+    Run_goes c era rules reg (ls ++ record_labels c (outcome c rules w s).trace) (outcome c rules w s).cluster
+unfolding outcome applied
 step_goes c era rules reg w ls s h g = either (is_allowed s)
   where
-    either : (b : Bool) → Run_goes c era rules reg (ls ++ record_labels c (cond b (taken w s (steps_or c rules w s (fault_of c w s))) (idle w)).trace) (cond b (taken w s (steps_or c rules w s (fault_of c w s))) (idle w)).cluster
+    either : (b : Bool) → Run_goes c era rules reg (ls ++ record_labels c (cond b (came_of w s (steps_or c rules w s (fault_of c w s))) (unchanged w)).trace) (cond b (came_of w s (steps_or c rules w s (fault_of c w s))) (unchanged w)).cluster
     either true = fault_goes c era rules reg w ls s (fault_of c w s) refl h g
     either false = idle_goes c era rules reg w ls h
 
 -- ---- steps that tell nothing
 
 pub silent : (c : Config) (era : Era) (rules : Rules) (reg : Lines) (ls : List Label) (w v : Cluster) (s : Step) (x : Stepped) → own_labels w s [] ≡ [] → ((who : Callers) → Cluster_goes c era rules who w ls → Cluster_goes c era rules who v ls) → Run_goes c era rules reg ls w → done [] v ≡ Ok x →
-    Run_goes c era rules reg (ls ++ record_labels c (traces.labels w s x.lines)) x.cluster
-unfolding done traces.labels line_labels
+    Run_goes c era rules reg (ls ++ record_labels c (told_step w s x.lines)) x.cluster
+unfolding done told_step told_lines
 silent c era rules reg ls w v s x none f h e =
     let is : record { cluster = v; lines = [] } ≡ x = cc in
-    subst (λ (y : Stepped). Run_goes c era rules reg (ls ++ record_labels c (traces.labels w s y.lines)) y.cluster) is
+    subst (λ (y : Stepped). Run_goes c era rules reg (ls ++ record_labels c (told_step w s y.lines)) y.cluster) is
     (subst (λ (l : List Label). Run_goes c era rules reg (ls ++ record_labels c (l ++ [])) v) (sym none)
     (subst (λ (l : List Label). Run_goes c era rules reg l v) (sym (append-nil ls)) (record { who = h.who; goes = f h.who h.goes; own = h.own })))
 
@@ -117,7 +118,7 @@ unfolding steps own_labels drop sent_at
 drop_taken c era rules reg w ls zero h x ok e = silent c era rules reg ls w w (step.Drop zero) x refl (λ who g. g) h e
 drop_taken c era rules reg w ls (suc k) h x ok e = either (slice_get w.sent k) refl e
   where
-    either : (o : Option Sent) → slice_get w.sent k ≡ o → drop (suc k) w o ≡ Ok x → Run_goes c era rules reg (ls ++ record_labels c (traces.labels w (step.Drop (suc k)) x.lines)) x.cluster
+    either : (o : Option Sent) → slice_get w.sent k ≡ o → drop (suc k) w o ≡ Ok x → Run_goes c era rules reg (ls ++ record_labels c (told_step w (step.Drop (suc k)) x.lines)) x.cluster
     either None at r = silent c era rules reg ls w w (step.Drop (suc k)) x refl (λ who g. g) h r
     either (Some m) at r = silent c era rules reg ls w _ (step.Drop (suc k)) x refl (λ who g. fate_goes c era rules who w k m Dropped ls at g) h r
 
@@ -129,14 +130,14 @@ Tells c era reg n calls u = AllByRecursion (Is_fit c era.number reg) (labels_of 
 
 -- what the cluster goes on to, and what is told of records, where all of that is of the line
 pub turn_taken : (c : Config) (era : Era) (rules : Rules) (reg : Lines) (who : Callers) (ls : List Label) (w v : Cluster) (s : Step) (n : ℕ) (u : Turn) (x : Stepped) → AllByRecursion (IsOfLine c era.number reg) ls →
-    AllByRecursion (IsOfLine c era.number reg) (record_labels c (labels_of n (traces.calls_of w s) u.outs)) → record_labels c (own_labels w s x.lines) ≡ [] → x ≡ put n u [] v →
-    Cluster_goes c era rules who x.cluster (ls ++ record_labels c (labels_of n (traces.calls_of w s) u.outs)) → Run_goes c era rules reg (ls ++ record_labels c (traces.labels w s x.lines)) x.cluster
-unfolding traces.labels put
+    AllByRecursion (IsOfLine c era.number reg) (record_labels c (labels_of n (answerable w s) u.outs)) → record_labels c (own_labels w s x.lines) ≡ [] → x ≡ put n u [] v →
+    Cluster_goes c era rules who x.cluster (ls ++ record_labels c (labels_of n (answerable w s) u.outs)) → Run_goes c era rules reg (ls ++ record_labels c (told_step w s x.lines)) x.cluster
+unfolding told_step put
 turn_taken c era rules reg who ls w v s n u x own kept none is goes =
-    let lines : line_labels s (traces.calls_of w s) x.lines ≡ labels_of n (traces.calls_of w s) u.outs =
-    ap (λ (y : Stepped). line_labels s (traces.calls_of w s) y.lines) is ∙ labels_are s n _ (traces.calls_of w s) u.outs in
-    let told : record_labels c (traces.labels w s x.lines) ≡ record_labels c (labels_of n (traces.calls_of w s) u.outs) =
-    filter_more (speaks_of_records c) (own_labels w s x.lines) (line_labels s (traces.calls_of w s) x.lines) ∙ ap (λ (l : List Label). l ++ record_labels c (line_labels s (traces.calls_of w s) x.lines)) none ∙ ap (λ (l : List Label). record_labels c l) lines in
+    let lines : told_lines s (answerable w s) x.lines ≡ labels_of n (answerable w s) u.outs =
+    ap (λ (y : Stepped). told_lines s (answerable w s) y.lines) is ∙ labels_are s n _ (answerable w s) u.outs in
+    let told : record_labels c (told_step w s x.lines) ≡ record_labels c (labels_of n (answerable w s) u.outs) =
+    filter_more (speaks_of_records c) (own_labels w s x.lines) (told_lines s (answerable w s) x.lines) ∙ ap (λ (l : List Label). l ++ record_labels c (told_lines s (answerable w s) x.lines)) none ∙ ap (λ (l : List Label). record_labels c l) lines in
     subst (λ (l : List Label). Run_goes c era rules reg (ls ++ l) x.cluster) (sym told) (record { who = who; goes = goes; own = all_append (IsOfLine c era.number reg) ls _ own kept })
 
 -- labels that tell the same of records are told by the same schedules
@@ -144,24 +145,24 @@ told_same : (db : ℕ) (key : List ℕ) (ls xs ys : List Label) → told_by_all 
 told_same db key ls xs ys e = told_by_more db key ls xs ∙ ap (λ (l : List law_labels.Label). told_by_all db key ls ++ l) e ∙ sym (told_by_more db key ls ys)
 
 pub turn_tells : (c : Config) (era : Era) (rules : Rules) (reg : Lines) (who : Callers) (ls : List Label) (w v : Cluster) (s : Step) (n : ℕ) (u : Turn) (x : Stepped) → AllByRecursion (IsOfLine c era.number reg) ls →
-    Tells c era reg n (traces.calls_of w s) u → record_labels c (own_labels w s x.lines) ≡ [] → x ≡ put n u [] v → Cluster_goes c era rules who x.cluster (ls ++ labels_of n (traces.calls_of w s) u.outs) →
-    Run_goes c era rules reg (ls ++ record_labels c (traces.labels w s x.lines)) x.cluster
+    Tells c era reg n (answerable w s) u → record_labels c (own_labels w s x.lines) ≡ [] → x ≡ put n u [] v → Cluster_goes c era rules who x.cluster (ls ++ labels_of n (answerable w s) u.outs) →
+    Run_goes c era rules reg (ls ++ record_labels c (told_step w s x.lines)) x.cluster
 turn_tells c era rules reg who ls w v s n u x own fit none is goes =
-    let told = labels_of n (traces.calls_of w s) u.outs in
+    let told = labels_of n (answerable w s) u.outs in
     turn_taken c era rules reg who ls w v s n u x own (fit_own c era.number reg told fit) none is
     (goes.0, goes.1, λ db key. ((goes.2 db key).0, (goes.2 db key).1 ∙ sym (told_same db key ls (record_labels c told) told (fit_told c era.number reg db key told fit))))
 
 -- so it is of a turn that may answer the calls that wait
 pub pending_tells : (c : Config) (era : Era) (rules : Rules) (reg : Lines) (ls : List Label) (w v : Cluster) (s : Step) (n : ℕ) (u : Turn) (x : Stepped) → (h : Run_goes c era rules reg ls v) →
-    Tells c era reg n (pending v) u → traces.calls_of w s ≡ pending v → record_labels c (own_labels w s x.lines) ≡ [] → x ≡ put n u [] v → Cluster_goes c era rules h.who x.cluster (ls ++ labels_of n (pending v) u.outs) →
-    Run_goes c era rules reg (ls ++ record_labels c (traces.labels w s x.lines)) x.cluster
+    Tells c era reg n (pending v) u → answerable w s ≡ pending v → record_labels c (own_labels w s x.lines) ≡ [] → x ≡ put n u [] v → Cluster_goes c era rules h.who x.cluster (ls ++ labels_of n (pending v) u.outs) →
+    Run_goes c era rules reg (ls ++ record_labels c (told_step w s x.lines)) x.cluster
 pending_tells c era rules reg ls w v s n u x h fit calls none is goes =
     turn_tells c era rules reg h.who ls w v s n u x h.own (subst (λ (l : List PendingCall). Tells c era reg n l u) (sym calls) fit) none is
     (subst (λ (l : List PendingCall). Cluster_goes c era rules h.who x.cluster (ls ++ labels_of n l u.outs)) (sym calls) goes)
 
 -- a vacuum, where all that the node tells is of records
 pub vacuum_taken : (c : Config) (era : Era) (rules : Rules) (reg : Lines) (w : Cluster) (ls : List Label) (n db : ℕ) → Starts c era rules reg → ((vacuums c n db (begins (node_at n w))).spent ≡ false → Tells c era reg n (pending w) (vacuums c n db (begins (node_at n w)))) → Run_goes c era rules reg ls w → Taken_goes c era rules reg w ls (step.Vacuum n db)
-unfolding fault_of steps own_labels traces.calls_of node_steps.happens
+unfolding fault_of steps own_labels answerable node_steps.happens
 vacuum_taken c era rules reg w ls n db is kept h x ok e =
     let f = fed_is c rules n (event.Vacuum db) [] w x e in
     turn_tells c era rules reg h.who ls w w (step.Vacuum n db) n (vacuums c n db (begins (node_at n w))) x h.own (kept f.0) refl f.1
@@ -169,7 +170,7 @@ vacuum_taken c era rules reg w ls n db is kept h x ok e =
 
 -- a Retry, where all that the node tells is of records
 pub retry_taken : (c : Config) (era : Era) (rules : Rules) (reg : Lines) (w : Cluster) (ls : List Label) (n : ℕ) → Starts c era rules reg → Tells c era reg n (pending w) (retry c n (begins (node_at n w))) → Run_goes c era rules reg ls w → Taken_goes c era rules reg w ls (step.Retry n)
-unfolding fault_of steps own_labels traces.calls_of node_steps.happens
+unfolding fault_of steps own_labels answerable node_steps.happens
 retry_taken c era rules reg w ls n is kept h x ok e =
     let f = fed_is c rules n event.Retry [] w x e in
     turn_tells c era rules reg h.who ls w w (step.Retry n) n (retry c n (begins (node_at n w))) x h.own kept refl f.1
@@ -182,8 +183,8 @@ retry_taken c era rules reg w ls n is kept h x ok e =
 abbrev pub client_turn : Config → Rules → Cluster → ℕ → ClientOp → Turn
 client_turn c rules w n o = client c rules n (w.calls + 1) o (begins (node_at n (counted w)))
 
-pub counted_calls : (w : Cluster) (n : ℕ) (o : ClientOp) → own_pending n (w.calls + 1) o ∷ pending (counted w) ≡ traces.calls_of w (step.Client n o)
-unfolding traces.calls_of pending
+pub counted_calls : (w : Cluster) (n : ℕ) (o : ClientOp) → own_pending n (w.calls + 1) o ∷ pending (counted w) ≡ answerable w (step.Client n o)
+unfolding answerable pending
 counted_calls w n o = refl
 
 -- a call by which the cluster goes on, where all that the node tells is of records and no commit begins

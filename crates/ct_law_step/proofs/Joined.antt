@@ -24,7 +24,8 @@ use Rattle.ct_cluster.specs.Faults.{fault_of}
 use Rattle.ct_cluster.specs.Labels.{Label, Answered, Begun}
 use Rattle.ct_cluster.specs.Steps.{Stepped, put, steps}
 use Rattle.ct_cluster.specs.Traces as traces
-use Rattle.ct_cluster.specs.Traces.{answered, line_labels, own_labels}
+use Rattle.ct_cluster.specs.Traces.{own_labels}
+use Rattle.ct_law_shown.specs.Waiting.{answered, told_lines, answerable, told_step}
 use Rattle.ct_cluster.specs.declared.step.Line.{Line}
 use Rattle.ct_cluster.specs.declared.step.PendingCall.{PendingCall}
 use Rattle.ct_cluster.specs.declared.step.Step.TheVariants as step
@@ -75,14 +76,14 @@ abbrev told_by_call : Config → Rules → Cluster → ℕ → ClientOp → List
 told_by_call c rules w n o = record_labels c (labels_of n (own_pending n (w.calls + 1) o ∷ pending (counted w)) (client_turn c rules w n o).outs)
 
 -- they are all that its step tells of records
-call_tells : (c : Config) (w v : Cluster) (n : ℕ) (o : ClientOp) (u : Turn) (x : Stepped) → x ≡ put n u [] v → record_labels c (traces.labels w (step.Client n o) x.lines) ≡ record_labels c (labels_of n (traces.calls_of w (step.Client n o)) u.outs)
-unfolding traces.labels own_labels put
+call_tells : (c : Config) (w v : Cluster) (n : ℕ) (o : ClientOp) (u : Turn) (x : Stepped) → x ≡ put n u [] v → record_labels c (told_step w (step.Client n o) x.lines) ≡ record_labels c (labels_of n (answerable w (step.Client n o)) u.outs)
+unfolding told_step own_labels put
 call_tells c w v n o u x is =
     let s = step.Client n o in
-    let calls = traces.calls_of w s in
-    filter_more (speaks_of_records c) (traces.begun_by n o x.lines) (line_labels s calls x.lines)
-    ∙ ap (λ (l : List Label). l ++ record_labels c (line_labels s calls x.lines)) (begun_left_out c n o x.lines)
-    ∙ ap (λ (y : Stepped). record_labels c (line_labels s calls y.lines)) is
+    let calls = answerable w s in
+    filter_more (speaks_of_records c) (traces.begun_by n o x.lines) (told_lines s calls x.lines)
+    ∙ ap (λ (l : List Label). l ++ record_labels c (told_lines s calls x.lines)) (begun_left_out c n o x.lines)
+    ∙ ap (λ (y : Stepped). record_labels c (told_lines s calls y.lines)) is
     ∙ ap (λ (l : List Label). record_labels c l) (labels_are s n _ calls u.outs)
 
 -- a call by which the cluster goes on, where all that it tells of records is of the line

@@ -6,7 +6,8 @@ use Rattle.ct_rules_node.specs.Admission.{record_in}
 use Rattle.ct_law_shown.specs.Shown.{Era}
 use Rattle.ct_cluster.specs.Cluster.{Sent, is_up, pending, Fate, Cluster, sent_at, Delivered, Dropped, node_at}
 use Rattle.ct_law_step.proofs.Passing.{beside_taken, commit_comes, round_comes, is_of_commit}
-use Rattle.ct_cluster.specs.Traces.{own_labels, line_labels}
+use Rattle.ct_cluster.specs.Traces.{own_labels}
+use Rattle.ct_law_shown.specs.Waiting.{told_lines, answerable, told_line, told_step}
 use Rattle.ct_call.specs.Rules.{Rules}
 use Rattle.ct_law_beside.proofs.Rounding.{is_beside_records}
 use Rattle.ct_register.specs.Lines.{Lines}
@@ -53,8 +54,8 @@ which _ e = absurd (cc)
 
 -- a message comes to its receiver, which runs
 message_taken : (c : Config) (era : Era) (rules : Rules) (reg : Lines) (w v : Cluster) (ls : List Label) (k : ℕ) (m : Sent) (s : Step) (x : Stepped) → Starts c era rules reg → Run_goes c era rules reg ls v →
-    slice_get v.sent k ≡ Some m → is_up m.frame.receiver v ≡ true → traces.calls_of w s ≡ pending v → record_labels c (own_labels w s x.lines) ≡ [] → fed c rules m.frame.receiver (event.Arrive m.frame) [] v ≡ Ok x →
-    Run_goes c era rules reg (ls ++ record_labels c (traces.labels w s x.lines)) x.cluster
+    slice_get v.sent k ≡ Some m → is_up m.frame.receiver v ≡ true → answerable w s ≡ pending v → record_labels c (own_labels w s x.lines) ≡ [] → fed c rules m.frame.receiver (event.Arrive m.frame) [] v ≡ Ok x →
+    Run_goes c era rules reg (ls ++ record_labels c (told_step w s x.lines)) x.cluster
 unfolding node_steps.happens
 message_taken c era rules reg w v ls k m s x is h at up calls none e = either (record_in m.frame.msg) refl
   where
@@ -64,7 +65,7 @@ message_taken c era rules reg w v ls k m s x is h at up calls none e = either (r
     taken : Taken m.frame.receiver u [] v x
     taken = fed_is c rules m.frame.receiver (event.Arrive m.frame) [] v x e
 
-    either : (o : Option (ℕ × List ℕ)) → record_in m.frame.msg ≡ o → Run_goes c era rules reg (ls ++ record_labels c (traces.labels w s x.lines)) x.cluster
+    either : (o : Option (ℕ × List ℕ)) → record_in m.frame.msg ≡ o → Run_goes c era rules reg (ls ++ record_labels c (told_step w s x.lines)) x.cluster
     either (Some p) of =
         pending_tells c era rules reg ls w v s m.frame.receiver u x h (message_kept c era rules reg v ls k m p is h at up of taken.0) calls none taken.1
         (fed_goes c era rules h.who v k m p ls h.goes.1 x is.era_is is.small h.goes.0 h.goes.2 at up of e)
@@ -81,22 +82,22 @@ message_taken c era rules reg w v ls k m s x is h at up calls none e = either (r
 
 -- a message is lost
 lost : (c : Config) (era : Era) (rules : Rules) (reg : Lines) (ls : List Label) (w v : Cluster) (k : ℕ) (s : Step) (x : Stepped) → own_labels w s (line.Lost k ∷ []) ≡ [] → Run_goes c era rules reg ls v → done (line.Lost k ∷ []) v ≡ Ok x →
-    Run_goes c era rules reg (ls ++ record_labels c (traces.labels w s x.lines)) x.cluster
-unfolding done traces.labels line_labels traces.label_of
+    Run_goes c era rules reg (ls ++ record_labels c (told_step w s x.lines)) x.cluster
+unfolding done told_step told_lines told_line
 lost c era rules reg ls w v k s x none h e =
     let is : record { cluster = v; lines = line.Lost k ∷ [] } ≡ x = cc in
-    subst (λ (y : Stepped). Run_goes c era rules reg (ls ++ record_labels c (traces.labels w s y.lines)) y.cluster) is
+    subst (λ (y : Stepped). Run_goes c era rules reg (ls ++ record_labels c (told_step w s y.lines)) y.cluster) is
     (subst (λ (l : List Label). Run_goes c era rules reg (ls ++ record_labels c (l ++ [])) v) (sym none)
     (subst (λ (l : List Label). Run_goes c era rules reg l v) (sym (append-nil ls)) h))
 
 pub repeat_taken : (c : Config) (era : Era) (rules : Rules) (reg : Lines) (w : Cluster) (ls : List Label) (k : ℕ) → Starts c era rules reg → Run_goes c era rules reg ls w → Taken_goes c era rules reg w ls (step.Repeat k)
-unfolding steps own_labels repeat sent_at traces.calls_of
+unfolding steps own_labels repeat sent_at answerable
 repeat_taken c era rules reg w ls zero is h x ok e = silent c era rules reg ls w w (step.Repeat zero) x refl (λ who g. g) h e
 repeat_taken c era rules reg w ls (suc k) is h x ok e = either (slice_get w.sent k) refl e
   where
-    either : (o : Option Sent) → slice_get w.sent k ≡ o → repeat c rules (suc k) w o ≡ Ok x → Run_goes c era rules reg (ls ++ record_labels c (traces.labels w (step.Repeat (suc k)) x.lines)) x.cluster
+    either : (o : Option Sent) → slice_get w.sent k ≡ o → repeat c rules (suc k) w o ≡ Ok x → Run_goes c era rules reg (ls ++ record_labels c (told_step w (step.Repeat (suc k)) x.lines)) x.cluster
     either None at r = silent c era rules reg ls w w (step.Repeat (suc k)) x refl (λ who g. g) h r
-    either (Some m) at r = cond_both (is_up m.frame.receiver w) (fed c rules m.frame.receiver (event.Arrive m.frame) [] w) (done (line.Lost (suc k) ∷ []) w) (λ (y : Result Stepped StepFault). y ≡ Ok x → Run_goes c era rules reg (ls ++ record_labels c (traces.labels w (step.Repeat (suc k)) x.lines)) x.cluster)
+    either (Some m) at r = cond_both (is_up m.frame.receiver w) (fed c rules m.frame.receiver (event.Arrive m.frame) [] w) (done (line.Lost (suc k) ∷ []) w) (λ (y : Result Stepped StepFault). y ≡ Ok x → Run_goes c era rules reg (ls ++ record_labels c (told_step w (step.Repeat (suc k)) x.lines)) x.cluster)
         (λ up q. message_taken c era rules reg w w ls k m (step.Repeat (suc k)) x is h at up refl refl q)
         (λ down q. lost c era rules reg ls w w (suc k) (step.Repeat (suc k)) x refl h q) r
 
@@ -121,13 +122,13 @@ run_fate : (c : Config) (era : Era) (rules : Rules) (reg : Lines) (w : Cluster) 
 run_fate c era rules reg w ls k m f at h = record { who = h.who; goes = fate_goes c era rules h.who w k m f ls at h.goes; own = h.own }
 
 pub deliver_taken : (c : Config) (era : Era) (rules : Rules) (reg : Lines) (w : Cluster) (ls : List Label) (k : ℕ) → Starts c era rules reg → Run_goes c era rules reg ls w → Taken_goes c era rules reg w ls (step.Deliver k)
-unfolding steps own_labels deliver sent_at traces.calls_of
+unfolding steps own_labels deliver sent_at answerable
 deliver_taken c era rules reg w ls zero is h x ok e = silent c era rules reg ls w w (step.Deliver zero) x refl (λ who g. g) h e
 deliver_taken c era rules reg w ls (suc k) is h x ok e = either (slice_get w.sent k) refl e
   where
-    either : (o : Option Sent) → slice_get w.sent k ≡ o → deliver c rules (suc k) w o ≡ Ok x → Run_goes c era rules reg (ls ++ record_labels c (traces.labels w (step.Deliver (suc k)) x.lines)) x.cluster
+    either : (o : Option Sent) → slice_get w.sent k ≡ o → deliver c rules (suc k) w o ≡ Ok x → Run_goes c era rules reg (ls ++ record_labels c (told_step w (step.Deliver (suc k)) x.lines)) x.cluster
     either None at r = silent c era rules reg ls w w (step.Deliver (suc k)) x refl (λ who g. g) h r
-    either (Some m) at r = cond_both (is_up m.frame.receiver w) (fed c rules m.frame.receiver (event.Arrive m.frame) [] (with_fate (suc k) m Delivered w)) (done (line.Lost (suc k) ∷ []) (with_fate (suc k) m Dropped w)) (λ (y : Result Stepped StepFault). y ≡ Ok x → Run_goes c era rules reg (ls ++ record_labels c (traces.labels w (step.Deliver (suc k)) x.lines)) x.cluster)
+    either (Some m) at r = cond_both (is_up m.frame.receiver w) (fed c rules m.frame.receiver (event.Arrive m.frame) [] (with_fate (suc k) m Delivered w)) (done (line.Lost (suc k) ∷ []) (with_fate (suc k) m Dropped w)) (λ (y : Result Stepped StepFault). y ≡ Ok x → Run_goes c era rules reg (ls ++ record_labels c (told_step w (step.Deliver (suc k)) x.lines)) x.cluster)
         (λ up q. message_taken c era rules reg w (with_fate (suc k) m Delivered w) ls k (record m { fate = Delivered }) (step.Deliver (suc k)) x is (run_fate c era rules reg w ls k m Delivered at h) (fate_got k m Delivered w at)
         (sym (fate_up m.frame.receiver k m Delivered w) ∙ up) (fate_pending k m Delivered w) refl q)
         (λ down q. lost c era rules reg ls w (with_fate (suc k) m Dropped w) (suc k) (step.Deliver (suc k)) x refl (run_fate c era rules reg w ls k m Dropped at h) q) r

@@ -20,6 +20,7 @@ use Rattle.ct_cluster.specs.Cluster.{Cluster, is_up, node_at, pending, able_from
 use Rattle.ct_cluster.specs.Labels.{Label}
 use Rattle.ct_cluster.specs.Steps.{Stepped, put, steps}
 use Rattle.ct_cluster.specs.Traces as traces
+use Rattle.ct_law_shown.specs.Waiting.{answerable, told_step}
 use Rattle.ct_cluster.specs.Traces.{own_labels}
 use Rattle.ct_cluster.specs.declared.step.PendingCall.{PendingCall}
 use Rattle.ct_cluster.specs.declared.step.Step.{Step}
@@ -51,11 +52,11 @@ use Rattle.ct_law_node.proofs.Forming.{Is_formed}
 
 -- where a step goes on beside the records, the run goes on
 pub beside_taken : (c : Config) (era : Era) (rules : Rules) (reg : Lines) (ls : List Label) (w v : Cluster) (s : Step) (n : ℕ) (u : Turn) (x : Stepped) → (h : Run_goes c era rules reg ls v) → is_up n v ≡ true → Goes_beside c era rules h.who v.calls n (pending v) (begins (node_at n v)) u →
-    traces.calls_of w s ≡ pending v → record_labels c (own_labels w s x.lines) ≡ [] → x ≡ put n u [] v → Run_goes c era rules reg (ls ++ record_labels c (traces.labels w s x.lines)) x.cluster
+    answerable w s ≡ pending v → record_labels c (own_labels w s x.lines) ≡ [] → x ≡ put n u [] v → Run_goes c era rules reg (ls ++ record_labels c (told_step w s x.lines)) x.cluster
 unfolding labels_of
 beside_taken c era rules reg ls w v s n u x h up g calls none is =
     let inside = h.goes.0.up n up in
-    let quiet : record_labels c (labels_of n (traces.calls_of w s) u.outs) ≡ [] = subst (λ (l : List PendingCall). record_labels c (labels_of n l u.outs) ≡ []) (sym calls) g.untold in
+    let quiet : record_labels c (labels_of n (answerable w s) u.outs) ≡ [] = subst (λ (l : List PendingCall). record_labels c (labels_of n l u.outs) ≡ []) (sym calls) g.untold in
     turn_taken c era rules reg h.who ls w v s n u x h.own (subst (λ (l : List Label). AllByRecursion (IsOfLine c era.number reg) l) (sym quiet) tt) none is
     (subst (λ (l : List PendingCall). Cluster_goes c era rules h.who x.cluster (ls ++ record_labels c (labels_of n l u.outs))) (sym calls)
     (subst (λ (y : Stepped). Cluster_goes c era rules h.who y.cluster (ls ++ record_labels c (labels_of n (pending v) u.outs))) (sym is)
@@ -137,7 +138,7 @@ round_comes c era rules reg ls w n f m h up old e =
 -- ---- the begin of a run
 
 pub takeover_taken : (c : Config) (era : Era) (rules : Rules) (reg : Lines) (w : Cluster) (ls : List Label) (n : ℕ) → Run_goes c era rules reg ls w → Taken_goes c era rules reg w ls (step.Takeover n)
-unfolding fault_of steps own_labels traces.calls_of node_steps.happens speaks_of_records
+unfolding fault_of steps own_labels answerable node_steps.happens speaks_of_records
 takeover_taken c era rules reg w ls n h x ok e =
     let t = begins (node_at n w) in
     let up = runs w n _ _ ok in

@@ -10,7 +10,7 @@ use Rattle.ct_register.specs.Lines.{Lines}
 use Rattle.ct_cluster.specs.Cluster.{Cluster}
 use Rattle.ct_law_step.proofs.Assembled.{Starts, Run_goes, Taken_goes, step_goes, drop_taken, retry_taken, vacuum_taken, able_taken}
 use Rattle.ct_law_cluster.proofs.Faulting.{runs, vacuum_kind}
-use Rattle.ct_cluster.specs.Traces.{ran_one}
+use Rattle.ct_law_shown.specs.Waiting.{outcome}
 use Rattle.ct_cluster.specs.declared.step.Step.TheVariants as step
 use Rattle.ct_law_step.proofs.Joined.{client_joined}
 use Rattle.ct_law_step.proofs.Messages.{deliver_taken, repeat_taken}
@@ -41,5 +41,5 @@ steps_taken c era rules reg w (step.Able n able) is h e other = able_taken c era
 
 -- so the run goes on by each step of one generation that is no Yield
 pub step_goes_on : (c : Config) (era : Era) (rules : Rules) (reg : Lines) (w : Cluster) (s : Step) → Starts c era rules reg → Run_goes c era rules reg [] w → is_of_one_generation s ≡ true → is_yield s ≡ false →
-    Run_goes c era rules reg (record_labels c (ran_one c rules w s).trace) (ran_one c rules w s).cluster
+    Run_goes c era rules reg (record_labels c (outcome c rules w s).trace) (outcome c rules w s).cluster
 step_goes_on c era rules reg w s is h e other = step_goes c era rules reg w [] s h (steps_taken c era rules reg w s is h e other)

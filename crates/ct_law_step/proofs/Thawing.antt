@@ -35,6 +35,7 @@ use Rattle.ct_frame.specs.declared.frame.Frame.{Frame}
 use Rattle.ct_cluster.specs.declared.step.Step.{Step}
 use Rattle.ct_rules_node.specs.Steps.{arrives}
 use Rattle.ct_cluster.specs.Traces as traces
+use Rattle.ct_law_shown.specs.Waiting.{answerable, told_step}
 use Rattle.ct_frame.specs.declared.frame.Msg.TheVariants as msg
 use Rattle.ct_cluster.specs.Traces.{own_labels}
 use Rattle.ct_law_shown.proofs.Weave.{true_or_false}
@@ -135,7 +136,7 @@ thaw_follows c era rules reg ls w n f is h up spent =
 
 -- so the run goes on
 pub thaw_taken : (c : Config) (era : Era) (rules : Rules) (reg : Lines) (ls : List Label) (w v : Cluster) (s : Step) (n : ℕ) (f : Frame) (x : Stepped) → Starts c era rules reg → Run_goes c era rules reg ls v → is_up n v ≡ true → (arrives c rules n f (begins (node_at n v)) msg.Thaw).spent ≡ false →
-    traces.calls_of w s ≡ pending v → record_labels c (own_labels w s x.lines) ≡ [] → x ≡ put n (arrives c rules n f (begins (node_at n v)) msg.Thaw) [] v → Run_goes c era rules reg (ls ++ record_labels c (traces.labels w s x.lines)) x.cluster
+    answerable w s ≡ pending v → record_labels c (own_labels w s x.lines) ≡ [] → x ≡ put n (arrives c rules n f (begins (node_at n v)) msg.Thaw) [] v → Run_goes c era rules reg (ls ++ record_labels c (told_step w s x.lines)) x.cluster
 thaw_taken c era rules reg ls w v s n f x is h up spent calls none taken =
     let u = arrives c rules n f (begins (node_at n v)) msg.Thaw in
     let g = thaw_follows c era rules reg ls v n f is h up spent in

@@ -14,7 +14,7 @@ use Rattle.ct_frame.specs.declared.event.Note.{Note}
 use Rattle.ct_frame.specs.declared.event.Note.TheVariants as note
 use Rattle.ct_call.specs.Rules.{Rules}
 use Rattle.ct_rules_node.specs.Node.{is_persistent, kind_at}
-use Rattle.ct_cluster.specs.Labels.{Label, Answered, Begun, Noted, Ticket, Yielded, Stopped, Started, Pushed, Takeover, Taken}
+use Rattle.ct_cluster.specs.Labels.{Label, Answered, Unasked, Begun, Noted, Ticket, Yielded, Stopped, Started, Pushed, Takeover, Taken}
 use Rattle.ct_register.specs.Database
 use Rattle.ct_register.specs.Legal.{AtRecord, AtDatabase, AcceptsAnswer, AcceptsNote, AcceptsLabel, AcceptsLabels}
 use Rattle.ct_register.specs.Lines.{Lines}
@@ -57,6 +57,7 @@ note_bare c n (note.Took a) r s p b = subst IsBare (sym p.3) b
 label_bare : (c : Config) (rules : Rules) (label : Label) (r s : Lines) → speaks_of_records c label ≡ true → AcceptsLabel c rules r label s → IsBare r → IsBare s
 unfolding speaks_of_records
 label_bare c rules (Answered n asked given) r s speaks p b = answer_bare c rules n asked given r s speaks p b
+label_bare c rules (Unasked call given) r s speaks p b = absurd p
 label_bare c rules (Begun n db writes) r s speaks p b = absurd (cc)
 label_bare c rules (Noted n noted) r s speaks p b = note_bare c n noted r s p b
 label_bare c rules (Ticket g n members) r s speaks p b = subst IsBare (sym p.2) b

@@ -11,7 +11,7 @@ use Rattle.ct_rules_node.specs.Admission.{record_in}
 use Rattle.ct_cluster.specs.Cluster.{Cluster, Sent, is_up, node_at}
 use Rattle.ct_cluster.specs.Faults.{fault_of, is_allowed}
 use Rattle.ct_cluster.specs.Steps.{steps, steps_or, applied}
-use Rattle.ct_cluster.specs.Traces.{Ran, idle, taken, ran_one}
+use Rattle.ct_law_shown.specs.Waiting.{Outcome, unchanged, came_of, outcome}
 use Rattle.ct_cluster.specs.declared.step.Step.{Step}
 use Rattle.ct_cluster.specs.declared.step.StepFault.{StepFault}
 use Rattle.ct_register.specs.Lines.{Lines}
@@ -137,7 +137,7 @@ module _ (c : Config) (rules : Rules) (w v : Cluster) (r : Lines) (h : Lives c r
     bare = h.bare;
   }
 
-module _ (c : Config) (rules : Rules) (w : Cluster) (r : Lines) (h : Lives c rules w r) (run : Ran) (o : Option ℕ) (quiet : Quiet w run.cluster) where
+module _ (c : Config) (rules : Rules) (w : Cluster) (r : Lines) (h : Lives c rules w r) (run : Outcome) (o : Option ℕ) (quiet : Quiet w run.cluster) where
   -- all holds after it
   pub quiet_after : run.cluster.ticket ≡ w.ticket → run.cluster.holder ≡ o → ((n : ℕ) → is_up n run.cluster ≡ false → is_up n w ≡ false) → ((n : ℕ) → is_up n run.cluster ≡ true → nat_lt n c.nodes ≡ true) → AcceptsLabels c rules r (record_labels c run.trace) (record r { holder = o }) →
       ((g db : ℕ) (key : List ℕ) → is_removed r g db key run.trace ≡ false) → After c rules r h.ages run
@@ -150,16 +150,16 @@ module _ (c : Config) (rules : Rules) (w : Cluster) (r : Lines) (h : Lives c rul
   }
 
 -- so it is where nothing happened
-pub idle_after : (c : Config) (rules : Rules) (w : Cluster) (r : Lines) (h : Lives c rules w r) → After c rules r h.ages (idle w)
-unfolding idle
-idle_after c rules w r h = quiet_after c rules w r h (idle w) r.holder (record { nodes = refl; frames = refl; calls = refl }) refl (sym h.holder) (λ n e. e) h.up refl (λ g db key. refl)
+pub idle_after : (c : Config) (rules : Rules) (w : Cluster) (r : Lines) (h : Lives c rules w r) → After c rules r h.ages (unchanged w)
+unfolding unchanged
+idle_after c rules w r h = quiet_after c rules w r h (unchanged w) r.holder (record { nodes = refl; frames = refl; calls = refl }) refl (sym h.holder) (λ n e. e) h.up refl (λ g db key. refl)
 
 -- and where a step is refused, so that only one that is taken is looked at
-pub after_taken : (c : Config) (rules : Rules) (w : Cluster) (r : Lines) (h : Lives c rules w r) (s : Step) → (is_allowed s ≡ true → fault_of c w s ≡ None → After c rules r h.ages (taken w s (steps c rules w s))) →
-    After c rules r h.ages (ran_one c rules w s)
-unfolding ran_one applied steps_or taken
+pub after_taken : (c : Config) (rules : Rules) (w : Cluster) (r : Lines) (h : Lives c rules w r) (s : Step) → (is_allowed s ≡ true → fault_of c w s ≡ None → After c rules r h.ages (came_of w s (steps c rules w s))) →
+    After c rules r h.ages (outcome c rules w s)
+unfolding outcome applied steps_or came_of
 after_taken c rules w r h s goes = ⊎_elim (λ (t : is_allowed s ≡ true). rw t (either (fault_of c w s) refl t)) (λ (f : is_allowed s ≡ false). rw f (idle_after c rules w r h)) (true_or_false (is_allowed s))
   where
-    either : (f : Option StepFault) → fault_of c w s ≡ f → is_allowed s ≡ true → After c rules r h.ages (taken w s (steps_or c rules w s (fault_of c w s)))
-    either (Some f) e t = subst (λ (x : Option StepFault). After c rules r h.ages (taken w s (steps_or c rules w s x))) (sym e) (idle_after c rules w r h)
-    either None e t = subst (λ (x : Option StepFault). After c rules r h.ages (taken w s (steps_or c rules w s x))) (sym e) (goes t e)
+    either : (f : Option StepFault) → fault_of c w s ≡ f → is_allowed s ≡ true → After c rules r h.ages (came_of w s (steps_or c rules w s (fault_of c w s)))
+    either (Some f) e t = subst (λ (x : Option StepFault). After c rules r h.ages (came_of w s (steps_or c rules w s x))) (sym e) (idle_after c rules w r h)
+    either None e t = subst (λ (x : Option StepFault). After c rules r h.ages (came_of w s (steps_or c rules w s x))) (sym e) (goes t e)

@@ -16,7 +16,8 @@ use Rattle.ct_cluster.specs.Cluster.{Cluster, is_up, node_at, pending}
 use Rattle.ct_cluster.specs.Faults.{fault_of, is_allowed, no_such_nodes, node_down, not_member, lock_held}
 use Rattle.ct_cluster.specs.Labels.{Label, Ticket}
 use Rattle.ct_cluster.specs.Steps.{Stepped, is_counted, if_counted, fed, fed_of, put, recover, steps}
-use Rattle.ct_cluster.specs.Traces.{Ran, calls_of, members_of, label_of, line_labels, own_labels, labels, idle, taken, ran_one}
+use Rattle.ct_cluster.specs.Traces.{members_of, own_labels}
+use Rattle.ct_law_shown.specs.Waiting.{Outcome, answerable, told_line, told_lines, told_step, unchanged, came_of, outcome}
 use Rattle.ct_cluster.specs.declared.step.Line.{Line}
 use Rattle.ct_cluster.specs.declared.step.Line.TheVariants as line
 use Rattle.ct_cluster.specs.declared.step.Step.{Step}
@@ -40,14 +41,14 @@ use Rattle.ct_law_stop.proofs.Beginning.{begin_turned}
 
 -- ---- a step of a node is taken, or refused where a number would reach its limit
 
-pub fed_either : (P : Ran → Type 0) (c : Config) (rules : Rules) (w v : Cluster) (s : Step) (n : ℕ) (e : Event) (own : List Line) → P (idle w) →
-    ((happens c rules n (begins (node_at n v)) e).spent ≡ false → P (taken w s (Ok (put n (happens c rules n (begins (node_at n v)) e) own v)))) → P (taken w s (fed c rules n e own v))
-unfolding fed fed_of if_counted taken
+pub fed_either : (P : Outcome → Type 0) (c : Config) (rules : Rules) (w v : Cluster) (s : Step) (n : ℕ) (e : Event) (own : List Line) → P (unchanged w) →
+    ((happens c rules n (begins (node_at n v)) e).spent ≡ false → P (came_of w s (Ok (put n (happens c rules n (begins (node_at n v)) e) own v)))) → P (came_of w s (fed c rules n e own v))
+unfolding fed fed_of if_counted came_of
 fed_either P c rules w v s n e own refused goes =
     let t : Turn = happens c rules n (begins (node_at n v)) e in
-    cond_both t.spent None (Some t) (λ (o : Option Turn). P (taken w s (fed_of n own v o)))
+    cond_both t.spent None (Some t) (λ (o : Option Turn). P (came_of w s (fed_of n own v o)))
     (λ _. refused)
-    (λ whole. cond_both (is_counted (put n t own v).cluster) (Ok (put n t own v)) (Err fault.Exhausted) (λ (y : Result Stepped StepFault). P (taken w s y)) (λ _. goes whole) (λ _. refused))
+    (λ whole. cond_both (is_counted (put n t own v).cluster) (Ok (put n t own v)) (Err fault.Exhausted) (λ (y : Result Stepped StepFault). P (came_of w s y)) (λ _. goes whole) (λ _. refused))
 
 -- ---- why it is not refused
 
@@ -117,8 +118,8 @@ recovers c w n members is e =
 -- ---- the step
 
 begun_after : (c : Config) (rules : Rules) (w : Cluster) (r : Lines) (h : Lives c rules w r) (n : ℕ) (members : List ℕ) → ascends nat_lt members ≡ true → Recovers c w n members →
-    After c rules r h.ages (taken w (step.Recover n members) (Ok (put n (happens c rules n (begins (node_at n (ticketed_cluster n w))) (event.BeginRound (w.ticket + 1) members)) (line.Ticket (w.ticket + 1) n ∷ []) (ticketed_cluster n w))))
-unfolding ticketed_lives happens taken labels own_labels line_labels label_of members_of calls_of put speaks_of_records is_removal is_up node_at
+    After c rules r h.ages (came_of w (step.Recover n members) (Ok (put n (happens c rules n (begins (node_at n (ticketed_cluster n w))) (event.BeginRound (w.ticket + 1) members)) (line.Ticket (w.ticket + 1) n ∷ []) (ticketed_cluster n w))))
+unfolding ticketed_lives happens came_of told_step own_labels told_lines told_line members_of answerable put speaks_of_records is_removal is_up node_at
 begun_after c rules w r h n members order k =
     let free = subst (λ (o : Option ℕ). OwnedByNoOther n o) (sym h.holder) k.free in
     let v : Cluster = ticketed_cluster n w in
@@ -127,13 +128,13 @@ begun_after c rules w r h n members order k =
     let u : Turn = happens c rules n (begins (node_at n v)) (event.BeginRound g members) in
     let t = begin_turned c rules v (ticketed g n members r) lives n g members (pending w) (is_ticket c rules w r h n members free k.real order k.nodes k.own) (unborn c rules w r h n members free) k.there in
     let own : List Line = line.Ticket g n ∷ [] in
-    subst (λ (ls : List Label). After c rules r h.ages (record { cluster = (put n u own v).cluster; lines = (put n u own v).lines; trace = Ticket g n members ∷ ls })) (sym (labels_are (step.Recover n members) n (length v.sent + 1) (pending w) u.outs))
+    subst (λ (ls : List Label). After c rules r h.ages (record { cluster = (put n u own v).cluster; trace = Ticket g n members ∷ ls })) (sym (labels_are (step.Recover n members) n (length v.sent + 1) (pending w) u.outs))
     (turned_after c rules v (ticketed g n members r) lives n (pending w) u own t k.there k.up
-    r h.ages (put n u own v).lines (Ticket g n members ∷ labels_of n (pending w) u.outs)
+    r h.ages (Ticket g n members ∷ labels_of n (pending w) u.outs)
     (ticketed g n members r, accepted c rules w r h n members free, t.accepts)
     t.marks)
 
-pub recover_after : (c : Config) (rules : Rules) (w : Cluster) (r : Lines) (h : Lives c rules w r) (n : ℕ) (members : List ℕ) → IsConfig c → After c rules r h.ages (ran_one c rules w (step.Recover n members))
+pub recover_after : (c : Config) (rules : Rules) (w : Cluster) (r : Lines) (h : Lives c rules w r) (n : ℕ) (members : List ℕ) → IsConfig c → After c rules r h.ages (outcome c rules w (step.Recover n members))
 unfolding is_allowed steps recover
 recover_after c rules w r h n members is = after_taken c rules w r h (step.Recover n members) (λ order e.
     fed_either (After c rules r h.ages) c rules w (ticketed_cluster n w) (step.Recover n members) n (event.BeginRound (w.ticket + 1) members) (line.Ticket (w.ticket + 1) n ∷ []) (idle_after c rules w r h)

@@ -21,7 +21,8 @@ use Rattle.ct_cluster.specs.Cluster.{Cluster, is_true, is_up, node_at, pending_a
 use Rattle.ct_cluster.specs.Faults.{fault_of, is_holder, no_such_node}
 use Rattle.ct_cluster.specs.Labels.{Label, Stopped}
 use Rattle.ct_cluster.specs.Steps.{with_node, without_holder, gone, done, stop, steps}
-use Rattle.ct_cluster.specs.Traces.{Ran, calls_of, label_of, line_labels, own_labels, labels, taken, ran_one}
+use Rattle.ct_cluster.specs.Traces.{own_labels}
+use Rattle.ct_law_shown.specs.Waiting.{Outcome, answerable, told_line, told_lines, told_step, came_of, outcome}
 use Rattle.ct_cluster.specs.declared.step.Line.{Line}
 use Rattle.ct_cluster.specs.declared.step.Line.TheVariants as line
 use Rattle.ct_cluster.specs.declared.step.PendingCall.{PendingCall}
@@ -83,8 +84,8 @@ same_without n None = refl
 same_without n (Some m) = refl
 
 -- a call that ends with its node is told nothing of
-gone_silent : (s : Step) (calls xs : List PendingCall) → line_labels s calls (gone xs) ≡ []
-unfolding line_labels label_of gone
+gone_silent : (s : Step) (calls xs : List PendingCall) → told_lines s calls (gone xs) ≡ []
+unfolding told_lines told_line gone
 gone_silent s calls [] = refl
 gone_silent s calls (x ∷ xs) = gone_silent s calls xs
 
@@ -264,9 +265,9 @@ module _ (c : Config) (rules : Rules) (w : Cluster) (r : Lines) (h : Lives c rul
       (λ (ne : k ≢ n). ap (λ (z : Node). z.phase) (other_node n k y w ne) ∙ h.down k (sym (ap is_true (other_mark w.running n k false ne)) ∙ down))
       (cases_eq k n)
 
-  lives_left : nat_lt n c.nodes ≡ true → (ls : List Line) → After c rules r a (record { cluster = v; lines = ls; trace = Stopped n ∷ [] })
+  lives_left : nat_lt n c.nodes ≡ true → After c rules r a (record { cluster = v; trace = Stopped n ∷ [] })
   unfolding with_node speaks_of_records is_removal is_up
-  lives_left lt ls = record {
+  lives_left lt = record {
     lines = s;
     accepts = (s, refl, refl);
     lives = record {
@@ -297,21 +298,21 @@ one_or_later g has ne f = ⊎_elim (λ (is : g ≡ 1). ap (λ (t : Bool). t || h
     second true u e = refl
     second false u e = e
 
-left_after : (c : Config) (rules : Rules) (w : Cluster) (r : Lines) (h : Lives c rules w r) (n : ℕ) (ls : List Line) → nat_lt n c.nodes ≡ true → After c rules r h.ages (record { cluster = stopped_cluster c n w; lines = ls; trace = Stopped n ∷ [] })
+left_after : (c : Config) (rules : Rules) (w : Cluster) (r : Lines) (h : Lives c rules w r) (n : ℕ) → nat_lt n c.nodes ≡ true → After c rules r h.ages (record { cluster = stopped_cluster c n w; trace = Stopped n ∷ [] })
 unfolding with_node
-left_after c rules w r h n ls lt = ⊎_elim
-    (λ (out : r.line n ≡ 0). lives_left c rules w r h n h.ages (idle_lines c rules w r h.ages n h.lines out) lt ls)
+left_after c rules w r h n lt = ⊎_elim
+    (λ (out : r.line n ≡ 0). lives_left c rules w r h n h.ages (idle_lines c rules w r h.ages n h.lines out) lt)
     (λ (some : r.line n ≢ 0). (let l = h.nodes n lt in let q = l.named some in
-    lives_left c rules w r h n _ (left_lines c rules w r h.ages n (r.line n) h.lines refl q.0 q.2 (one_or_later (r.line n) (r.installed (r.line n) n) some l.done) (λ m db key. refl)) lt ls))
+    lives_left c rules w r h n _ (left_lines c rules w r h.ages n (r.line n) h.lines refl q.0 q.2 (one_or_later (r.line n) (r.installed (r.line n) n) some l.done) (λ m db key. refl)) lt))
     (cases_eq (r.line n) 0)
 
-stop_runs : (c : Config) (rules : Rules) (w : Cluster) (n : ℕ) → taken w (step.Stop n) (steps c rules w (step.Stop n)) ≡ record { cluster = stopped_cluster c n w; lines = line.Stopped n ∷ gone (pending_at n w); trace = Stopped n ∷ [] }
-unfolding steps done stop taken labels own_labels line_labels label_of
-stop_runs c rules w n = ap (λ (ls : List Label). record { cluster = stopped_cluster c n w; lines = line.Stopped n ∷ gone (pending_at n w); trace = Stopped n ∷ ls }) (gone_silent (step.Stop n) (calls_of w (step.Stop n)) (pending_at n w))
+stop_runs : (c : Config) (rules : Rules) (w : Cluster) (n : ℕ) → came_of w (step.Stop n) (steps c rules w (step.Stop n)) ≡ record { cluster = stopped_cluster c n w; trace = Stopped n ∷ [] }
+unfolding steps done stop came_of told_step own_labels told_lines told_line
+stop_runs c rules w n = ap (λ (ls : List Label). record { cluster = stopped_cluster c n w; trace = Stopped n ∷ ls }) (gone_silent (step.Stop n) (answerable w (step.Stop n)) (pending_at n w))
 
 there_is : (c : Config) (w : Cluster) (n : ℕ) → fault_of c w (step.Stop n) ≡ None → nat_lt n c.nodes ≡ true
 unfolding fault_of no_such_node
 there_is c w n e = required (nat_lt n c.nodes) _ (first_none _ _ e).0
 
-pub stop_after : (c : Config) (rules : Rules) (w : Cluster) (r : Lines) (h : Lives c rules w r) (n : ℕ) → After c rules r h.ages (ran_one c rules w (step.Stop n))
-stop_after c rules w r h n = after_taken c rules w r h (step.Stop n) (λ t e. subst (λ (run : Ran). After c rules r h.ages run) (sym (stop_runs c rules w n)) (left_after c rules w r h n _ (there_is c w n e)))
+pub stop_after : (c : Config) (rules : Rules) (w : Cluster) (r : Lines) (h : Lives c rules w r) (n : ℕ) → After c rules r h.ages (outcome c rules w (step.Stop n))
+stop_after c rules w r h n = after_taken c rules w r h (step.Stop n) (λ t e. subst (λ (run : Outcome). After c rules r h.ages run) (sym (stop_runs c rules w n)) (left_after c rules w r h n (there_is c w n e)))

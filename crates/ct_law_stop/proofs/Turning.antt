@@ -68,10 +68,10 @@ module _ (c : Config) (rules : Rules) (w : Cluster) (r : Lines) (h : Lives c rul
       (cases_eq k n)
 
   -- so it is from these registers on, where they accept what is told and marks go on
-  pub turned_after : (r0 : Lines) (a0 : Ages) (ls : List Line) (trace : List Label) → AcceptsLabels c rules r0 (record_labels c trace) t.lines → MarksGoOn r0 trace (marks_in_all a0) (marks_in_all t.ages) →
-      After c rules r0 a0 (record { cluster = v; lines = ls; trace = trace })
+  pub turned_after : (r0 : Lines) (a0 : Ages) (trace : List Label) → AcceptsLabels c rules r0 (record_labels c trace) t.lines → MarksGoOn r0 trace (marks_in_all a0) (marks_in_all t.ages) →
+      After c rules r0 a0 (record { cluster = v; trace = trace })
   unfolding put with_node is_up
-  turned_after r0 a0 ls trace accepts marks = record {
+  turned_after r0 a0 trace accepts marks = record {
     lines = t.lines;
     accepts = accepts;
     lives = record {

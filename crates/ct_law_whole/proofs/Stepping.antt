@@ -21,7 +21,8 @@ use Rattle.ct_cluster.specs.Cluster.{Cluster, Sent, Delivered, is_up, node_at, s
 use Rattle.ct_cluster.specs.Faults.{fault_of, is_allowed, no_such_node, node_down}
 use Rattle.ct_cluster.specs.Labels.{Label}
 use Rattle.ct_cluster.specs.Steps.{put, lines_of, fed, done, deliver, repeat, with_fate, steps}
-use Rattle.ct_cluster.specs.Traces.{Ran, calls_of, line_labels, begun_by, own_labels, labels, idle, taken, ran_one}
+use Rattle.ct_cluster.specs.Traces.{begun_by, own_labels}
+use Rattle.ct_law_shown.specs.Waiting.{Outcome, answerable, told_lines, told_step, unchanged, came_of, outcome}
 use Rattle.ct_cluster.specs.Traces as traces
 use Rattle.ct_cluster.specs.declared.step.Line.{Line}
 use Rattle.ct_cluster.specs.declared.step.PendingCall.{PendingCall}
@@ -101,16 +102,16 @@ any_more f (x ∷ xs) ys e = first (f x) e (any_more f xs ys)
     first true k rest = absurd (cc)
     first false k rest = rest k
 
-turn_after : AllTurned → (c : Config) (rules : Rules) (w v : Cluster) (r : Lines) (a : Ages) → After c rules r a (idle w) → (h : Lives c rules v r) → h.ages ≡ a → (s : Step) (n : ℕ) (e : Event) → ((ls : List Line) → Is_aside c r (own_labels w s ls)) →
-    IsConfig c → EntriesAtHome v → nat_lt n c.nodes ≡ true → is_up n v ≡ true → Comes c h.who v n (calls_of w s) e → After c rules r a (taken w s (fed c rules n e [] v))
-unfolding taken labels put
+turn_after : AllTurned → (c : Config) (rules : Rules) (w v : Cluster) (r : Lines) (a : Ages) → After c rules r a (unchanged w) → (h : Lives c rules v r) → h.ages ≡ a → (s : Step) (n : ℕ) (e : Event) → ((ls : List Line) → Is_aside c r (own_labels w s ls)) →
+    IsConfig c → EntriesAtHome v → nat_lt n c.nodes ≡ true → is_up n v ≡ true → Comes c h.who v n (answerable w s) e → After c rules r a (came_of w s (fed c rules n e [] v))
+unfolding came_of told_step put
 turn_after all c rules w v r a refused h same s n e aside is home there up comes = fed_either (After c rules r a) c rules w v s n e [] refused (λ whole.
     let u : Turn = happens c rules n (begins (node_at n v)) e in
-    let t = all c rules v r h n (calls_of w s) e is home there up comes whole in
+    let t = all c rules v r h n (answerable w s) e is home there up comes whole in
     let ls : List Line = lines_of n (length v.sent + 1) u.outs in
-    let more : List Label = labels_of n (calls_of w s) u.outs in
-    let told : labels w s ls ≡ own_labels w s ls ++ more = ap (λ (l : List Label). own_labels w s ls ++ l) (labels_are s n (length v.sent + 1) (calls_of w s) u.outs) in
-    turned_after c rules v r h n (calls_of w s) u [] t there up r a ls (labels w s ls)
+    let more : List Label = labels_of n (answerable w s) u.outs in
+    let told : told_step w s ls ≡ own_labels w s ls ++ more = ap (λ (l : List Label). own_labels w s ls ++ l) (labels_are s n (length v.sent + 1) (answerable w s) u.outs) in
+    turned_after c rules v r h n (answerable w s) u [] t there up r a (told_step w s ls)
     (subst (λ (l : List Label). AcceptsLabels c rules r (record_labels c l) t.lines) (sym told)
     (subst (λ (l : List Label). AcceptsLabels c rules r l t.lines) (sym (filter_more (speaks_of_records c) (own_labels w s ls) more ∙ ap (λ (l : List Label). l ++ record_labels c more) (aside ls).untold)) t.accepts))
     (subst (λ (l : List Label). MarksGoOn r l (marks_in_all a) (marks_in_all t.ages)) (sym told)
@@ -134,10 +135,10 @@ begun_aside c r n o ls = nothing_aside c r
 -- ---- each step
 
 -- nothing came of the number
-none_after : (c : Config) (rules : Rules) (w : Cluster) (r : Lines) (h : Lives c rules w r) (s : Step) → ((ls : List Line) → own_labels w s ls ≡ []) → After c rules r h.ages (taken w s (done [] w))
-unfolding taken done labels line_labels
-none_after c rules w r h s own = subst (λ (l : List Label). After c rules r h.ages (record { cluster = w; lines = []; trace = l ++ [] })) (sym (own []))
-    (quiet_after c rules w r h (record { cluster = w; lines = []; trace = [] }) r.holder (record { nodes = refl; frames = refl; calls = refl }) refl (sym h.holder) (λ n e. e) h.up refl (λ g db key. refl))
+none_after : (c : Config) (rules : Rules) (w : Cluster) (r : Lines) (h : Lives c rules w r) (s : Step) → ((ls : List Line) → own_labels w s ls ≡ []) → After c rules r h.ages (came_of w s (done [] w))
+unfolding came_of done told_step told_lines
+none_after c rules w r h s own = subst (λ (l : List Label). After c rules r h.ages (record { cluster = w; trace = l ++ [] })) (sym (own []))
+    (quiet_after c rules w r h (record { cluster = w; trace = [] }) r.holder (record { nodes = refl; frames = refl; calls = refl }) refl (sym h.holder) (λ n e. e) h.up refl (λ g db key. refl))
 
 -- a message that was sent was sent
 sent_in : (ss : List Sent) (k : ℕ) (s : Sent) → slice_get ss k ≡ Some s → In s.frame (map (λ (x : Sent). x.frame) ss)
@@ -156,40 +157,40 @@ unfolding pending
 same_pending w v e = ap (λ ns. pending (record w { nodes = ns })) (sym e)
 
 module _ (all : AllTurned) (c : Config) (rules : Rules) (w : Cluster) (r : Lines) (h : Lives c rules w r) (home : EntriesAtHome w) (is : IsConfig c) where
-  client_after : (n : ℕ) (o : ClientOp) → After c rules r h.ages (ran_one c rules w (step.Client n o))
-  unfolding steps is_allowed fault_of lives_called own_labels calls_of Comes pending node_at is_up
+  client_after : (n : ℕ) (o : ClientOp) → After c rules r h.ages (outcome c rules w (step.Client n o))
+  unfolding steps is_allowed fault_of lives_called own_labels answerable Comes pending node_at is_up
   client_after n o = after_taken c rules w r h (step.Client n o) (λ allowed e.
       let ok = there_up c w n [] e in
       turn_after all c rules w (called_cluster w) r h.ages (idle_after c rules w r h) (lives_called c rules w r h (n, o)) refl (step.Client n o) n (event.Client (w.calls + 1) o) (λ ls. begun_aside c r n o ls) is home ok.0 ok.1
       (refl, own_caller (w.calls + 1) (n, o) h.who, allowed, refl))
 
-  retry_after : (n : ℕ) → After c rules r h.ages (ran_one c rules w (step.Retry n))
-  unfolding steps fault_of own_labels calls_of Comes
+  retry_after : (n : ℕ) → After c rules r h.ages (outcome c rules w (step.Retry n))
+  unfolding steps fault_of own_labels answerable Comes
   retry_after n = after_taken c rules w r h (step.Retry n) (λ allowed e.
       let ok = there_up c w n [] e in
       turn_after all c rules w w r h.ages (idle_after c rules w r h) h refl (step.Retry n) n event.Retry (λ ls. nothing_aside c r) is home ok.0 ok.1 refl)
 
-  vacuum_after : (n db : ℕ) → After c rules r h.ages (ran_one c rules w (step.Vacuum n db))
-  unfolding steps fault_of own_labels calls_of Comes
+  vacuum_after : (n db : ℕ) → After c rules r h.ages (outcome c rules w (step.Vacuum n db))
+  unfolding steps fault_of own_labels answerable Comes
   vacuum_after n db = after_taken c rules w r h (step.Vacuum n db) (λ allowed e.
       let ok = there_up c w n _ e in
       turn_after all c rules w w r h.ages (idle_after c rules w r h) h refl (step.Vacuum n db) n (event.Vacuum db) (λ ls. nothing_aside c r) is home ok.0 ok.1 (vacuum_kind c w n db e, refl))
 
-  takeover_after : (n : ℕ) → After c rules r h.ages (ran_one c rules w (step.Takeover n))
-  unfolding steps fault_of own_labels calls_of Comes speaks_of_records is_removal
+  takeover_after : (n : ℕ) → After c rules r h.ages (outcome c rules w (step.Takeover n))
+  unfolding steps fault_of own_labels answerable Comes speaks_of_records is_removal
   takeover_after n = after_taken c rules w r h (step.Takeover n) (λ allowed e.
       let ok = there_up c w n _ e in
       turn_after all c rules w w r h.ages (idle_after c rules w r h) h refl (step.Takeover n) n (event.BeginTakeover (able_from 0 w.able)) (λ ls. record { untold = refl; kept = λ g db key. refl }) is home ok.0 ok.1 refl)
 
-  repeat_after : (k : ℕ) → After c rules r h.ages (ran_one c rules w (step.Repeat k))
-  unfolding steps own_labels repeat calls_of Comes
+  repeat_after : (k : ℕ) → After c rules r h.ages (outcome c rules w (step.Repeat k))
+  unfolding steps own_labels repeat answerable Comes
   repeat_after k = after_taken c rules w r h (step.Repeat k) (λ allowed e. repeated (sent_at k w) refl)
     where
-      repeated : (m : Option Sent) → sent_at k w ≡ m → After c rules r h.ages (taken w (step.Repeat k) (repeat c rules k w m))
+      repeated : (m : Option Sent) → sent_at k w ≡ m → After c rules r h.ages (came_of w (step.Repeat k) (repeat c rules k w m))
       repeated None e = none_after c rules w r h (step.Repeat k) (λ ls. refl)
       repeated (Some s) e = either (is_up s.frame.receiver w) refl
         where
-          either : (b : Bool) → is_up s.frame.receiver w ≡ b → After c rules r h.ages (taken w (step.Repeat k) (repeat c rules k w (Some s)))
+          either : (b : Bool) → is_up s.frame.receiver w ≡ b → After c rules r h.ages (came_of w (step.Repeat k) (repeat c rules k w (Some s)))
           either true up = rw up (turn_after all c rules w w r h.ages (idle_after c rules w r h) h refl (step.Repeat k) s.frame.receiver (event.Arrive s.frame) (λ ls. nothing_aside c r) is home (h.up s.frame.receiver up) up (refl, was_sent w k s e, refl))
           either false down = lost_again c rules w r h k s down
 
@@ -197,15 +198,15 @@ module _ (all : AllTurned) (c : Config) (rules : Rules) (w : Cluster) (r : Lines
   abbrev given : ℕ → Sent → Cluster
   given k s = with_fate k s Delivered w
 
-  deliver_after : (k : ℕ) → After c rules r h.ages (ran_one c rules w (step.Deliver k))
-  unfolding steps own_labels deliver calls_of Comes quiet_lives
+  deliver_after : (k : ℕ) → After c rules r h.ages (outcome c rules w (step.Deliver k))
+  unfolding steps own_labels deliver answerable Comes quiet_lives
   deliver_after k = after_taken c rules w r h (step.Deliver k) (λ allowed e. delivered (sent_at k w) refl)
     where
-      delivered : (m : Option Sent) → sent_at k w ≡ m → After c rules r h.ages (taken w (step.Deliver k) (deliver c rules k w m))
+      delivered : (m : Option Sent) → sent_at k w ≡ m → After c rules r h.ages (came_of w (step.Deliver k) (deliver c rules k w m))
       delivered None e = none_after c rules w r h (step.Deliver k) (λ ls. refl)
       delivered (Some s) e = either (is_up s.frame.receiver w) refl
         where
-          either : (b : Bool) → is_up s.frame.receiver w ≡ b → After c rules r h.ages (taken w (step.Deliver k) (deliver c rules k w (Some s)))
+          either : (b : Bool) → is_up s.frame.receiver w ≡ b → After c rules r h.ages (came_of w (step.Deliver k) (deliver c rules k w (Some s)))
           either true up = rw up (
               let v : Cluster = given k s in
               let q : Quiet w v = fate_quiet k s Delivered w e in

@@ -233,7 +233,7 @@ is_born sent all = record {
   mastered = mastered;
   low = all_low;
   down = far_off (λ n. cluster.is_up n (Nodes.with_sent sent) ≡ false) (λ n. refl);
-  left = far_off (λ n. Born.HasLeft (cluster.node_at n (Nodes.with_sent sent))) (λ n. record { records = λ db. refl; floors = λ db. refl; commits = λ db. refl; drawn = some_drawn 0 });
+  left = far_off (λ n. Born.HasLeft config n (cluster.node_at n (Nodes.with_sent sent))) (λ n. record { dbs = λ l. absurd (omega arith); records = λ db. refl; floors = λ db. refl; commits = λ db. refl; drawn = some_drawn 0 });
   numbered = refl;
   given = refl;
   newest = λ k s e. not_newer s (silent_of sent k s all e);

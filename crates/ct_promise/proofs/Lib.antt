@@ -1,4 +1,4 @@
-mod Opened
+pub mod Opened
 mod Nodes
 mod Born
 mod Reached

@@ -1,5 +1,5 @@
 -- What is promised of records in a generation that began with some.
-use Rattle.std.specs.Prelude.{◌≡◌, ℕ, ◌+◌, ◌<◌, ◌≤◌, ◌^◌, nat_eq, nat_lt, Bool, true, false, not, List, [], length, map, Option, None, Some}
+use Rattle.std.specs.Prelude.{◌≡◌, ℕ, ◌+◌, ◌<◌, ◌≤◌, ◌^◌, nat_eq, nat_lt, Bool, true, false, not, List, [], ◌∷◌, length, map, Option, None, Some}
 use Rattle.std.specs.List.{list_all}
 use Rattle.ct_msg.specs.declared.config.Config.{Config}
 use Rattle.ct_frame.specs.Fields.{ascends}
@@ -14,7 +14,8 @@ use Rattle.ct_rules_node.specs.Admission.{record_in}
 use Rattle.ct_rules_node.specs.Node.{Node, Lead, Nothing, Freezes, Pulls, Installs, Completed, is_present_in, master_of, db_at, state_at, is_among, has_records, kind_at}
 use Rattle.ct_rules_node.specs.Rounds.{row_master, installed_state}
 use Rattle.ct_cluster.specs.Cluster.{Cluster, Sent, is_up, node_at, sent_at, pending}
-use Rattle.ct_cluster.specs.Traces.{ran}
+use Rattle.ct_cluster.specs.Traces.{OpenCall, ran}
+use Rattle.ct_cluster.specs.declared.step.PendingCall.{PendingCall}
 use Rattle.ct_cluster.specs.declared.step.Step.{Step}
 use Rattle.ct_register.specs.Register.{reading}
 use Rattle.ct_register.specs.Lines.{Lines}
@@ -85,8 +86,10 @@ pub record IsBornNode (config : Config) (g : ℕ) (members : List ℕ) (row : Ro
   -- and no record in a database that is none of records
   pub others : (db : ℕ) → has_records (kind_at config db) ≡ false → (db_at db node).records ≡ []
 
--- a node that is no member: it keeps nothing of any record, none of its commits waits, and request numbers begin at 1 or above
-pub record HasLeft (node : Node) : Type 0 where
+-- a node that is no member: it has a state for each database, keeps nothing of any record, none of its commits waits, and
+-- request numbers begin at 1 or above; no node stands where there is none of this number
+pub record HasLeft (config : Config) (n : ℕ) (node : Node) : Type 0 where
+  pub dbs : n < config.nodes → length node.dbs ≡ length config.dbs
   pub records : (db : ℕ) → (db_at db node).records ≡ []
   pub floors : (db : ℕ) → (db_at db node).floor ≡ 0
   pub commits : (db : ℕ) → (db_at db node).commit ≡ None
@@ -106,13 +109,18 @@ pub record IsBornWith (config : Config) (g : ℕ) (members : List ℕ) (row : Ro
   pub low : (db : ℕ) (key : List ℕ) → IsLow (row db key)
   -- every other node is down, and has left as a stop lets it: it keeps nothing of any record, and none of its commits waits
   pub down : (n : ℕ) → is_among n members ≡ false → is_up n w ≡ false
-  pub left : (n : ℕ) → is_among n members ≡ false → HasLeft (node_at n w)
+  pub left : (n : ℕ) → is_among n members ≡ false → HasLeft config n (node_at n w)
   -- calls that wait have different numbers, none of them above the last one that was given
   pub numbered : ascends nat_lt (map (λ x. x.call) (pending w)) ≡ true
   pub given : list_all (λ x. not (nat_lt w.calls x.call)) (pending w) ≡ true
   -- no message of a newer generation was sent, and none of this one that speaks of a record
   pub newest : (k : ℕ) (s : Sent) → sent_at k w ≡ Some s → s.frame.generation ≤ g
   pub silent : (k : ℕ) (s : Sent) → sent_at k w ≡ Some s → s.frame.generation ≡ g → record_in s.frame.msg ≡ None
+
+-- the log of calls that wait, where a run goes on from them
+unfoldable pub log_of : List PendingCall → List OpenCall
+log_of [] = []
+log_of (x ∷ xs) = record { call = x.call; node = x.node; asked = x.op } ∷ log_of xs
 
 -- ---- the registers
 
@@ -137,8 +145,9 @@ pub record BornRegisters (config : Config) (w : Cluster) (g : ℕ) (members : Li
   pub seen : (n db : ℕ) (key : List ℕ) → is_among n members ≡ true → (r.records g db key).seen n ≡ length (r.records g db key).birth
   pub unseen : (n db : ℕ) (key : List ℕ) → is_among n members ≡ false → (r.records g db key).seen n ≡ 0
 
--- from every such cluster and registers on, records are kept through every list of steps of one generation
+-- from every such cluster and registers on, where the calls that wait are open, records are kept through every list of steps
+-- of one generation
 abbrev pub PromiseFromRows : Type 0
 PromiseFromRows = (config : Config) (rules : Rules) (g : ℕ) (members : List ℕ) (row : Rows) (w : Cluster) (r : Lines) (steps : List Step) →
     IsConfig config → IsBornWith config g members row w → BornRegisters config w g members row r → list_all is_of_one_generation steps ≡ true →
-    KeepsRecords config rules r (ran config rules w steps)
+    KeepsRecords config rules r (ran config rules w (log_of (pending w)) steps)

@@ -1,5 +1,5 @@
 -- What is promised of records while no generation follows the first one.
-use Rattle.std.specs.Prelude.{◌≡◌, Bool, true, false, not, List}
+use Rattle.std.specs.Prelude.{◌≡◌, Bool, true, false, not, List, []}
 use Rattle.std.specs.List.{list_all, filter}
 use Rattle.ct_msg.specs.declared.config.Config.{Config}
 use Rattle.ct_frame.specs.declared.event.Note.{Note}
@@ -14,7 +14,7 @@ use Rattle.ct_register.specs.Lines
 use Rattle.ct_register.specs.Lines.{Lines}
 use Rattle.ct_register.specs.Legal.{db_of, AcceptsLabels}
 use Rattle.ct_register.specs.Stands.{RecordsStand}
-use Rattle.ct_promise.specs.Promises.{IsConfig}
+use Rattle.ct_promise.specs.Promises.{IsConfig, CallsStand}
 use Rattle.ct_rules_node.specs.Node.{is_persistent, kind_at}
 
 -- Steps of one generation are all but stops, starts and recoveries.
@@ -45,11 +45,12 @@ speaks_of_records config label = true
 abbrev pub record_labels : Config → List Label → List Label
 record_labels config labels = filter (speaks_of_records config) labels
 
--- from these registers on they accept what a run tells of records, and its last cluster stands for those of records
+-- from these registers on they accept what a run tells of records, and its last cluster stands for those of records and for
+-- the calls that are open
 abbrev pub KeepsRecords : Config → Rules → Lines → Ran → Type 0
-KeepsRecords config rules r run = (s : Lines) × AcceptsLabels config rules r (record_labels config run.trace) s × RecordsStand run.cluster s
+KeepsRecords config rules r run = (s : Lines) × AcceptsLabels config rules r (record_labels config run.trace) s × RecordsStand run.cluster s × CallsStand run.cluster run.log
 
 -- so it is of every list of such steps from the opening on
 abbrev pub PromiseOfOneGeneration : Type 0
 PromiseOfOneGeneration = (config : Config) (rules : Rules) (steps : List Step) → IsConfig config → list_all is_of_one_generation steps ≡ true →
-    KeepsRecords config rules (Lines.opening config) (ran config rules (opening config) steps)
+    KeepsRecords config rules (Lines.opening config) (ran config rules (opening config) [] steps)

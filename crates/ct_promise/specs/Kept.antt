@@ -5,8 +5,8 @@ use Rattle.ct_msg.specs.declared.config.Config.{Config}
 use Rattle.ct_frame.specs.declared.header.RecCopy.{RecCopy}
 use Rattle.ct_call.specs.Rules.{Rules}
 use Rattle.ct_rules_node.specs.Node.{state_at}
-use Rattle.ct_cluster.specs.Cluster.{Cluster, node_at, opening}
-use Rattle.ct_cluster.specs.Traces.{ran_one}
+use Rattle.ct_cluster.specs.Cluster.{Cluster, node_at, opening, pending}
+use Rattle.ct_cluster.specs.Traces.{OpenCall, ran_one}
 use Rattle.ct_cluster.specs.declared.step.Step.{Step}
 use Rattle.ct_register.specs.Register.{Register}
 use Rattle.ct_register.specs.Lines
@@ -14,9 +14,9 @@ use Rattle.ct_register.specs.Lines.{Lines}
 use Rattle.ct_register.specs.Legal.{AcceptsLabels}
 use Rattle.ct_register.specs.Marks.{value_at}
 use Rattle.ct_register.specs.Stands.{HasCopy, RecordsStand}
-use Rattle.ct_promise.specs.Promises.{IsConfig}
+use Rattle.ct_promise.specs.Promises.{IsConfig, CallsStand}
 use Rattle.ct_promise.specs.Generation.{is_of_one_generation, record_labels}
-use Rattle.ct_promise.specs.Born.{Rows, IsBornWith, BornRegisters}
+use Rattle.ct_promise.specs.Born.{Rows, IsBornWith, log_of, BornRegisters}
 use Rattle.ct_promise.specs.Marked.{LineMarks, no_marks, MarksHoldIn, MarksGoOnIn}
 
 -- ---- nothing that was seen is lost
@@ -67,24 +67,25 @@ pub record RecordsHold (g : ℕ) (w : Cluster) (r : Lines) (marks : LineMarks) :
   pub parents : (db : ℕ) (key : List ℕ) → HasParent g db key w r
 
 -- Step by step there are registers that accept what the step tells of records, and marks that go on, so that both hold of the
--- step's cluster.
-unfoldable pub RecordsRun : Config → Rules → ℕ → Cluster → Lines → LineMarks → List Step → Type 0
-RecordsRun config rules g w r marks [] = Unit {0}
-RecordsRun config rules g w r marks (s ∷ steps) = let run = ran_one config rules w s in
+-- step's cluster; and the calls that wait are exactly the open ones.
+unfoldable pub RecordsRun : Config → Rules → ℕ → Cluster → List OpenCall → Lines → LineMarks → List Step → Type 0
+RecordsRun config rules g w log r marks [] = Unit {0}
+RecordsRun config rules g w log r marks (s ∷ steps) = let run = ran_one config rules w log s in
     (t : Lines) × (after : LineMarks) × AcceptsLabels config rules r (record_labels config run.trace) t × RecordsHold g run.cluster t after ×
-    MarksGoOnIn g r run.trace marks after × RecordsRun config rules g run.cluster t after steps
+    CallsStand run.cluster run.log × MarksGoOnIn g r run.trace marks after × RecordsRun config rules g run.cluster run.log t after steps
 
--- marks hold at the beginning, and go on through these steps
-abbrev pub RunsFrom : Config → Rules → ℕ → Cluster → Lines → LineMarks → List Step → Type 0
-RunsFrom config rules g w r marks steps = RecordsHold g w r marks × RecordsRun config rules g w r marks steps
+-- marks hold at the beginning, where these calls are open, and go on through these steps
+abbrev pub RunsFrom : Config → Rules → ℕ → Cluster → List OpenCall → Lines → LineMarks → List Step → Type 0
+RunsFrom config rules g w log r marks steps = RecordsHold g w r marks × CallsStand w log × RecordsRun config rules g w log r marks steps
 
 -- so it is of every list of steps of one generation from the opening on, where nothing is marked
 abbrev pub LawOfOneGeneration : Type 0
 LawOfOneGeneration = (config : Config) (rules : Rules) (steps : List Step) → IsConfig config → list_all is_of_one_generation steps ≡ true →
-    RunsFrom config rules 1 (opening config) (Lines.opening config) no_marks steps
+    RunsFrom config rules 1 (opening config) [] (Lines.opening config) no_marks steps
 
--- and of every one from a cluster on that has installed a generation with rows, with the same marks at the beginning for all
+-- and of every one from a cluster on that has installed a generation with rows, where the calls that wait are open, with the
+-- same marks at the beginning for all
 abbrev pub LawFromRows : Type 0
 LawFromRows = (config : Config) (rules : Rules) (g : ℕ) (members : List ℕ) (row : Rows) (w : Cluster) (r : Lines) →
     IsConfig config → IsBornWith config g members row w → BornRegisters config w g members row r →
-    (marks : LineMarks) × ((steps : List Step) → list_all is_of_one_generation steps ≡ true → RunsFrom config rules g w r marks steps)
+    (marks : LineMarks) × ((steps : List Step) → list_all is_of_one_generation steps ≡ true → RunsFrom config rules g w (log_of (pending w)) r marks steps)

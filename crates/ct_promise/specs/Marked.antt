@@ -10,14 +10,14 @@ use Rattle.ct_rules.specs.declared.state.Entry.{Entry}
 use Rattle.ct_rules_node.specs.Node.{is_present_in, state_at}
 use Rattle.ct_cluster.specs.Cluster.{Cluster, node_at, opening}
 use Rattle.ct_cluster.specs.Labels.{Label, Noted}
-use Rattle.ct_cluster.specs.Traces.{ran_one}
+use Rattle.ct_cluster.specs.Traces.{OpenCall, ran_one}
 use Rattle.ct_cluster.specs.declared.step.Step.{Step}
 use Rattle.ct_register.specs.Lines
 use Rattle.ct_register.specs.Lines.{Lines}
 use Rattle.ct_register.specs.Legal.{AcceptsLabels}
 use Rattle.ct_register.specs.Stands.{HasCopy, StandsFor}
 use Rattle.ct_register.specs.Marks.{Marks, AreMarks, IsCopyAt, IsEntryAt, MarksStep}
-use Rattle.ct_promise.specs.Promises.{IsConfig}
+use Rattle.ct_promise.specs.Promises.{IsConfig, CallsStand}
 
 -- the marks of one line, by database and key
 abbrev pub LineMarks : Type 0
@@ -73,13 +73,13 @@ abbrev pub MarksGoOn : Lines → List Label → AllMarks → AllMarks → Type 0
 MarksGoOn r labels marks after = (g : ℕ) → r.born g ≡ true → MarksGoOnIn g r labels (marks g) (after g)
 
 -- Step by step there are registers that accept what the step tells and that its cluster stands for, and marks that hold of
--- them and go on.
-unfoldable pub MarksRun : Config → Rules → Cluster → Lines → AllMarks → List Step → Type 0
-MarksRun config rules w r marks [] = Unit {0}
-MarksRun config rules w r marks (s ∷ steps) = let run = ran_one config rules w s in
-    (t : Lines) × (after : AllMarks) × AcceptsLabels config rules r run.trace t × StandsFor config run.cluster t × MarksHold run.cluster t after ×
-    MarksGoOn r run.trace marks after × MarksRun config rules run.cluster t after steps
+-- them and go on; and the calls that wait are exactly the open ones.
+unfoldable pub MarksRun : Config → Rules → Cluster → List OpenCall → Lines → AllMarks → List Step → Type 0
+MarksRun config rules w log r marks [] = Unit {0}
+MarksRun config rules w log r marks (s ∷ steps) = let run = ran_one config rules w log s in
+    (t : Lines) × (after : AllMarks) × AcceptsLabels config rules r run.trace t × StandsFor config run.cluster t × CallsStand run.cluster run.log ×
+    MarksHold run.cluster t after × MarksGoOn r run.trace marks after × MarksRun config rules run.cluster run.log t after steps
 
 -- so it is of every list of steps from the opening on, where nothing is marked
 abbrev pub LawOfMarks : Type 0
-LawOfMarks = (config : Config) (rules : Rules) (steps : List Step) → IsConfig config → MarksRun config rules (opening config) (Lines.opening config) (λ g. no_marks) steps
+LawOfMarks = (config : Config) (rules : Rules) (steps : List Step) → IsConfig config → MarksRun config rules (opening config) [] (Lines.opening config) (λ g. no_marks) steps

@@ -54,7 +54,7 @@ run =
     []
 
 abbrev pub born : Cluster
-born = (ran config [] (opening config) run).cluster
+born = (ran config [] (opening config) [] run).cluster
 
 -- the row of `a` in `t`, whose data master is node 1
 abbrev pub the_row : TableRow

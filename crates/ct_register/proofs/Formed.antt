@@ -14,7 +14,7 @@ use Rattle.ct_msg.specs.declared.config.Config.{Config}
 use Rattle.ct_frame.specs.declared.event.Note.{Note}
 use Rattle.ct_frame.specs.declared.event.Note.TheVariants as note
 use Rattle.ct_call.specs.Rules.{Rules}
-use Rattle.ct_cluster.specs.Labels.{Label, Answered, Begun, Noted, Ticket, Yielded, Stopped, Started, Pushed, Takeover, Taken}
+use Rattle.ct_cluster.specs.Labels.{Label, Answered, Unasked, Begun, Noted, Ticket, Yielded, Stopped, Started, Pushed, Takeover, Taken}
 use Rattle.ct_rules_node.specs.Node.{is_among}
 use Rattle.ct_register.specs.Legal
 use Rattle.ct_register.specs.Legal.{AtRecord, AtDatabase, AtPlacing}
@@ -254,6 +254,7 @@ note_formed config n (note.Took a) r s p f = subst IsFormed (sym p.3) (address_f
 
 pub label_formed : (config : Config) (rules : Rules) (label : Label) (r s : Lines) → Legal.AcceptsLabel config rules r label s → IsFormed r → IsFormed s
 label_formed config rules (Answered n asked given) r s p f = answer_formed config rules n asked given r s p f
+label_formed config rules (Unasked call given) r s p f = absurd p
 label_formed config rules (Begun n db writes) r s p f =
     at_database_formed config n db (Database.AcceptsBegin n writes (Legal.lock_owner config (r.line n) db r)) r s (begun_counted n writes (Legal.lock_owner config (r.line n) db r)) p f
 label_formed config rules (Noted n noted) r s p f = note_formed config n noted r s p f

@@ -14,7 +14,7 @@ use Rattle.ct_frame.specs.declared.event.Note.{Note}
 use Rattle.ct_frame.specs.declared.event.Note.TheVariants as note
 use Rattle.ct_frame.specs.declared.frame.Assigned.{Assigned}
 use Rattle.ct_call.specs.Rules.{Rules}
-use Rattle.ct_cluster.specs.Labels.{Label, Answered, Begun, Noted, Ticket, Yielded, Stopped, Started, Pushed, Takeover, Taken}
+use Rattle.ct_cluster.specs.Labels.{Label, Answered, Unasked, Begun, Noted, Ticket, Yielded, Stopped, Started, Pushed, Takeover, Taken}
 use Rattle.ct_rules_node.specs.Node.{is_among, is_persistent, kind_at}
 use Rattle.ct_register.specs.Words
 use Rattle.ct_register.specs.Register
@@ -88,6 +88,7 @@ note_after n (note.Took a) r = Lines.with_address n a true r
 
 abbrev pub label_after : Label → Lines → Lines
 label_after (Answered n asked given) r = answer_after n asked given r
+label_after (Unasked call given) r = r
 label_after (Begun n db writes) r = at_database n db (begun_after n writes) r
 label_after (Noted n noted) r = note_after n noted r
 label_after (Ticket g n members) r = Lines.ticketed g n members r
@@ -171,6 +172,7 @@ note_one config rules n (note.Took a) r s c p = p.3
 
 pub label_one : (config : Config) (rules : Rules) (label : Label) (r s : Lines) → leaves_choice config label ≡ false → Legal.AcceptsLabel config rules r label s → s ≡ label_after label r
 label_one config rules (Answered n asked given) r s c p = answer_one config rules n asked given r s c p
+label_one config rules (Unasked call given) r s c p = absurd p
 label_one config rules (Begun n db writes) r s c p =
     database_one config n db (Database.AcceptsBegin n writes (Legal.lock_owner config (r.line n) db r)) (begun_after n writes) r s (λ x y a. a.2) p
 label_one config rules (Noted n noted) r s c p = note_one config rules n noted r s c p

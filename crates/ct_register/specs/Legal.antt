@@ -12,7 +12,7 @@ use Rattle.ct_msg.specs.declared.config.DbKind.TheVariants.{Persistent}
 use Rattle.ct_frame.specs.declared.event.Note.{Note}
 use Rattle.ct_frame.specs.declared.event.Note.TheVariants as note
 use Rattle.ct_call.specs.Rules.{Rules}
-use Rattle.ct_cluster.specs.Labels.{Label, Answered, Begun, Noted, Ticket, Yielded, Stopped, Started, Pushed, Takeover, Taken}
+use Rattle.ct_cluster.specs.Labels.{Label, Answered, Unasked, Begun, Noted, Ticket, Yielded, Stopped, Started, Pushed, Takeover, Taken}
 use Rattle.ct_rules_node.specs.Node.{is_among, has_records, kind_at, name_of}
 use Rattle.ct_register.specs.Register
 use Rattle.ct_register.specs.Register.{Register, OwnedByNoOther, AcceptsEnd, AcceptsVacuum}
@@ -120,10 +120,12 @@ AcceptsNote config n (note.Thawed g) r s = AcceptsThawed g n r s
 AcceptsNote config n (note.Released a) r s = AcceptsReleased a n r s
 AcceptsNote config n (note.Took a) r s = AcceptsTook a n r s
 
--- The registers accept the label and go on as the last ones. Tickets are counted, each is given to who holds the recovery
--- lock then, and only the holder yields it. A push needs that its line was born, and assigns as every push of it did; a take is of its sender's line.
+-- The registers accept the label and go on as the last ones. No answer is accepted to a call that is not open. Tickets are
+-- counted, each is given to who holds the recovery lock then, and only the holder yields it. A push needs that its line was
+-- born, and assigns as every push of it did; a take is of its sender's line.
 abbrev pub AcceptsLabel : Config → Rules → Lines → Label → Lines → Type 0
 AcceptsLabel config rules r (Answered n asked given) s = AcceptsAnswer config rules n asked given r s
+AcceptsLabel config rules r (Unasked call given) s = ⊥
 AcceptsLabel config rules r (Begun n db writes) s = AtDatabase config n db (AcceptsBegin n writes (lock_owner config (r.line n) db r)) r s
 AcceptsLabel config rules r (Noted n noted) s = AcceptsNote config n noted r s
 AcceptsLabel config rules r (Ticket g n members) s = (g ≡ r.last + 1) × OwnedByNoOther n r.holder × (s ≡ ticketed g n members r)

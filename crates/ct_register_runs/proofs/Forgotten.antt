@@ -1,5 +1,5 @@
 -- The runs that are refused: runs through a round.
-use Rattle.std.proofs.Common.{◌≡◌, ℕ, true, false, ◌≤◌, List, [], ◌∷◌, length, refl, sym, arith, ⊎_elim, subst}
+use Rattle.std.proofs.Common.{◌≡◌, ℕ, zero, suc, ◌∙◌, ap, true, false, ◌≤◌, List, [], ◌∷◌, length, refl, sym, arith, ⊎_elim, subst}
 use Rattle.std.specs.Prelude.{nat_eq, nat_lt, if◌then◌else◌, ◌++◌, take, Some}
 use Rattle.std.proofs.lemmas.Bool.{cond_both}
 use Rattle.ct_msg.specs.declared.client.Answer.TheVariants as answer
@@ -19,7 +19,7 @@ use Rattle.ct_register.specs.Lines.{Lines}
 use Rattle.ct_register.specs.Births
 use Rattle.ct_register.specs.Legal
 use Rattle.ct_register_runs.specs.Runs.{config, functions, a, x, both, one_write, locks, reads, writes, locks_database, begins, commits, reads_database, round, installs, thaws}
-use Rattle.ct_register_runs.specs.Refused.{RoundForgets, RoundForgetsCommit, RoundOfAnother, RoundOfOtherMembers, RoundFromNowhere, RoundFromNothing, SecondRound, InstalledTwice, InstalledUnderLock, ThawedTooEarly, OldReadAfterCommit, OldReadOfOwn}
+use Rattle.ct_register_runs.specs.Refused.{RoundForgets, RoundForgetsCommit, RoundOfAnother, RoundOfOtherMembers, RoundFromNowhere, RoundFromNothing, SecondRound, InstalledTwice, InstalledUnderLock, ThawedTooEarly, PersistentParentTooOld, InstalledByAnother, InstalledUnborn, OldReadAfterCommit, OldReadOfOwn, OldReadAfterRead}
 use Rattle.ct_register.proofs.Ways.{labels_after, leave_no_choice, refused_after}
 use Rattle.ct_register.proofs.Small.{one_not_zero, not_below, below_next}
 use Rattle.ct_register_runs.proofs.Refusals.{from_opening, read_of_record}
@@ -61,9 +61,25 @@ pub round_from_nothing : RoundFromNothing
 unfolding Words.at is_among
 round_from_nothing s = through_round (Ticket 2 0 both ∷ Stopped 1 ∷ []) 0 both 0 1 [] [] s refl refl (λ counts kept b d h. not_one (b.greatest 0 refl (below_next 1)))
 
+not_two_one : 2 ≤ 1 → ⊥
+not_two_one h = absurd (omega arith)
+
+-- the persistent line of who has stopped stays
+pub persistent_parent_too_old : PersistentParentTooOld
+unfolding Words.at is_among
+persistent_parent_too_old s = through_round (Ticket 2 0 both ∷ []) 0 both 1 1 (installs 0 ∷ Stopped 0 ∷ Ticket 3 1 both ∷ []) (Noted 1 (note.Round 3 both 1 1) ∷ []) s refl refl (λ counts kept b d h. not_two_one (h.1.3.greatest 0 refl (below_next 2)))
+
 pub second_round : SecondRound
 unfolding Words.at
 second_round s = through_round (Ticket 2 0 both ∷ []) 0 both 1 1 [] (round 0 both ∷ []) s refl refl (λ counts kept b d h. (let e : true ≡ false = h.1.2.unborn in absurd (cc)))
+
+pub installed_by_another : InstalledByAnother
+unfolding Words.at is_among
+installed_by_another s = through_round (Ticket 2 0 (0 ∷ []) ∷ []) 0 (0 ∷ []) 1 1 [] (installs 1 ∷ []) s refl refl (λ counts kept b d h. (let e : false ≡ true = h.1.1 in absurd (cc)))
+
+pub installed_unborn : InstalledUnborn
+unfolding Words.at
+installed_unborn s = from_opening (Ticket 2 0 both ∷ []) (installs 0 ∷ []) s refl (λ h. (let e : false ≡ true = h.1.0 in absurd (cc)))
 
 pub installed_twice : InstalledTwice
 unfolding Words.at
@@ -130,6 +146,28 @@ pub old_read_of_own : OldReadOfOwn
 unfolding Words.at begun_front
 old_read_of_own s = from_opening (locks_database 0 ∷ begins 0 ∷ []) (reads_database 0 [] ∷ []) s refl
     (λ h. (let k = reads_value 0 [] begun_front h.0 h.1 in empty_not_x (subst (λ v. [] ≡ v) (value_after_one k.0 (one k.0 k.2 k.3)) k.4)))
+
+-- the commit that has begun, and that node 1 has read of it, or not
+read_front : ℕ → Lines
+read_front j = Lines.with_database 1 2 (record (begun_front.databases 1 2) { seen = Words.at 1 j (begun_front.databases 1 2).seen }) begun_front
+
+-- who reads the value has seen the commit
+one_seen : (j : ℕ) → j ≤ 1 → x ≡ Database.value_or_empty (look a (Updates.contents (take j (one_write ∷ [])) [])) → j ≡ 1
+unfolding Updates.contents Database.value_or_empty
+one_seen zero low e = absurd (empty_not_x (sym e))
+one_seen (suc zero) low e = refl
+one_seen (suc (suc j)) low e = absurd (omega arith)
+
+second_read : (j : ℕ) (m : Lines) → j ≡ 1 → Legal.AcceptsLabel config functions (read_front j) (reads_database 1 []) m → ⊥
+unfolding Words.at begun_front read_front
+second_read j m is h = (let k = reads_value 1 [] (read_front j) m h in empty_not_x (subst (λ v. [] ≡ v) (value_after_one k.0 (one k.0 (subst (λ i. i ≤ k.0) is k.2) k.3)) k.4))
+
+pub old_read_after_read : OldReadAfterRead
+unfolding Words.at begun_front read_front
+old_read_after_read s = from_opening (locks_database 0 ∷ begins 0 ∷ []) (reads_database 1 x ∷ reads_database 1 [] ∷ []) s refl (λ h.
+    (let p = read_of_database 1 x begun_front h.0 h.1 in
+    let same : h.0 ≡ read_front p.3.0 = p.4 ∙ ap (λ (d : Database). Lines.with_database 1 2 d begun_front) p.3.5 in
+    second_read p.3.0 h.2.0 (one_seen p.3.0 p.3.3 p.3.4) (subst (λ (r : Lines). Legal.AcceptsLabel config functions r (reads_database 1 []) h.2.0) same h.2.1)))
 
 none : (j : ℕ) → j ≤ 0 → j ≡ 0
 none j low = omega arith

@@ -3,15 +3,17 @@ use Rattle.std.proofs.Common.{◌≡◌, ℕ, true, ◌<◌, List, [], ◌∷◌
 use Rattle.std.specs.Prelude.{◌++◌, Some}
 use Rattle.ct_msg.specs.declared.client.Answer.TheVariants as answer
 use Rattle.ct_msg.specs.declared.client.ClientOp.TheVariants as op
-use Rattle.ct_cluster.specs.Labels.{Label, Ticket, Yielded, Stopped}
+use Rattle.ct_msg.specs.declared.client.Why.TheVariants as why
+use Rattle.ct_cluster.specs.Labels.{Label, Answered, Unasked, Ticket, Yielded, Stopped}
+use Rattle.ct_cluster.specs.Traces.{asked_in, closed, closed_by, answer_label, label_of, line_labels}
 use Rattle.ct_register.specs.Words
 use Rattle.ct_register.specs.Register
 use Rattle.ct_register.specs.Database
 use Rattle.ct_register.specs.Lines
 use Rattle.ct_register.specs.Lines.{Lines}
 use Rattle.ct_register.specs.Legal
-use Rattle.ct_register_runs.specs.Runs.{config, functions, a, x, y, both, locks, reads, writes, stores, unlocks, appends, vacuums, locks_database, begins, commits, is_unsure}
-use Rattle.ct_register_runs.specs.Refused.{SecondLock, OldRead, ReadUnderLock, WriteUnderLock, StoreOfNoOwner, UnlockOfNoOwner, WrongAnswer, VacuumOfValue, ReadAfterStop, CommitUnlocked, CommitBesideAnother, WrongNumber, AcknowledgedTwice, CommitOfAnother, UnsureOfNobody, TicketWhileHeld, TicketLeftOut, YieldedByAnother}
+use Rattle.ct_register_runs.specs.Runs.{config, functions, a, x, y, both, locks, reads, writes, stores, unlocks, appends, is_too_long, vacuums, ends, locks_database, begins, commits, is_unsure}
+use Rattle.ct_register_runs.specs.Refused.{SecondLock, OldRead, ReadUnderLock, WriteUnderLock, StoreOfNoOwner, UnlockOfNoOwner, WrongAnswer, VacuumOfValue, ReadAfterStop, VacuumedUnderLock, EndedUnlocked, WrongLength, TooLongUnderLock, WriteKeptEmpty, LockAnsweredAgain, AnsweredAfterRefusal, AnsweredAfterStop, CommitUnlocked, CommitBesideAnother, WrongNumber, AcknowledgedTwice, CommitOfAnother, UnsureOfNobody, TicketWhileHeld, TicketLeftOut, YieldedByAnother}
 use Rattle.ct_register.proofs.Ways
 use Rattle.ct_register.proofs.Ways.{labels_after, refused_after}
 use Rattle.ct_register.proofs.Small.{some_not_none, none_not_some, not_below}
@@ -94,3 +96,36 @@ ticket_left_out s h = let e : ◌≡◌ {A = ℕ} 3 2 = h.1.0 in absurd (cc)
 
 pub yielded_by_another : YieldedByAnother
 yielded_by_another s = from_opening (Ticket 2 0 both ∷ []) (Yielded 1 ∷ []) s refl (λ h. (let e : Some 0 ≡ Some 1 = h.1.0 in absurd (cc)))
+
+pub vacuumed_under_lock : VacuumedUnderLock
+unfolding Words.at Words.at_key
+vacuumed_under_lock s = from_opening (locks 0 [] ∷ []) (vacuums 1 ∷ []) s refl (λ h. some_not_none h.1.3.0)
+
+pub ended_unlocked : EndedUnlocked
+unfolding Words.at Words.at_key
+ended_unlocked s = from_opening (locks 0 [] ∷ unlocks 0 ∷ []) (ends 0 ∷ []) s refl (λ h. none_not_some h.1.3.0)
+
+pub wrong_length : WrongLength
+wrong_length s h = (let e = h.1.3.1 in absurd (cc))
+
+pub too_long_under_lock : TooLongUnderLock
+unfolding Words.at Words.at_key
+too_long_under_lock s = from_opening (locks 0 [] ∷ []) (is_too_long 1 1200 ∷ []) s refl (λ h. some_not_none h.1.3.0)
+
+-- ---- calls
+
+pub write_kept_empty : WriteKeptEmpty
+unfolding Words.at Words.at_key Register.reading kind_at kind_in asked_in closed closed_by answer_label label_of line_labels
+write_kept_empty s = from_opening (writes 1 x ∷ []) (reads 0 [] ∷ []) s refl (λ h. (let e : [] ≡ x = (read_of_record _ _ _ _ h.1).3.1 in absurd (cc)))
+
+pub lock_answered_again : LockAnsweredAgain
+unfolding asked_in closed closed_by answer_label label_of line_labels
+lock_answered_again s = from_opening (locks 0 [] ∷ stores 0 x ∷ unlocks 0 ∷ []) (Unasked 1 (answer.Locked x) ∷ []) s refl (λ h. h.1)
+
+pub answered_after_refusal : AnsweredAfterRefusal
+unfolding asked_in closed closed_by answer_label label_of line_labels
+answered_after_refusal s = from_opening (Answered 0 (op.Lock 1 a) (answer.Refused why.NotServing) ∷ []) (Unasked 1 (answer.Locked []) ∷ []) s refl (λ h. h.1)
+
+pub answered_after_stop : AnsweredAfterStop
+unfolding asked_in closed closed_by answer_label label_of line_labels
+answered_after_stop s = from_opening (Stopped 0 ∷ []) (Unasked 1 (answer.Refused why.NotServing) ∷ []) s refl (λ h. h.1)

@@ -2,10 +2,14 @@
 use Rattle.std.specs.Prelude.{List, [], ◌∷◌}
 use Rattle.ct_bytes.specs.declared.address.Address.TheVariants.{V4}
 use Rattle.ct_frame.specs.declared.event.Note.TheVariants as note
+use Rattle.ct_msg.specs.declared.client.Answer.TheVariants as answer
+use Rattle.ct_msg.specs.declared.client.ClientOp.TheVariants as op
+use Rattle.ct_msg.specs.declared.client.Why.TheVariants as why
 use Rattle.ct_cluster.specs.Labels.{Label, Noted, Ticket, Yielded, Stopped, Pushed, Takeover, Taken}
+use Rattle.ct_cluster.specs.declared.step.Line.TheVariants as line
 use Rattle.ct_register.specs.Lines.{Lines}
 use Rattle.ct_register.specs.Legal.{Legal}
-use Rattle.ct_register_runs.specs.Runs.{config, functions, x, y, both, locks, reads, writes, stores, unlocks, appends, vacuums, locks_database, begins, commits, is_unsure, reads_database, round, installs, thaws, first_at_zero, one_each, both_at_one, takes}
+use Rattle.ct_register_runs.specs.Runs.{config, functions, a, x, y, both, locks, reads, writes, stores, unlocks, appends, is_too_long, vacuums, ends, asks, printed, locks_database, begins, commits, is_unsure, reads_database, round, installs, thaws, first_at_zero, one_each, both_at_one, takes}
 
 -- whatever is taken over and seen, the registers do not accept these labels
 abbrev pub IsIllegal : List Label → Type 0
@@ -41,6 +45,39 @@ VacuumOfValue = IsIllegal (writes 0 x ∷ vacuums 1 ∷ [])
 abbrev pub ReadAfterStop : Type 0
 ReadAfterStop = IsIllegal (Stopped 0 ∷ reads 0 [] ∷ [])
 
+abbrev pub VacuumedUnderLock : Type 0
+VacuumedUnderLock = IsIllegal (locks 0 [] ∷ vacuums 1 ∷ [])
+
+-- the end of a lock that is not held
+abbrev pub EndedUnlocked : Type 0
+EndedUnlocked = IsIllegal (locks 0 [] ∷ unlocks 0 ∷ ends 0 ∷ [])
+
+-- a function's value is refused as too long, with a wrong length
+abbrev pub WrongLength : Type 0
+WrongLength = IsIllegal (is_too_long 0 1199 ∷ [])
+
+abbrev pub TooLongUnderLock : Type 0
+TooLongUnderLock = IsIllegal (locks 0 [] ∷ is_too_long 1 1200 ∷ [])
+
+-- ---- calls
+
+-- a write that waited is answered, but its node kept the empty value of it, and that is read next
+abbrev pub WriteKeptEmpty : Type 0
+WriteKeptEmpty = IsIllegal (printed (asks 1 1 (op.Write 1 a x) ∷ asks 2 0 (op.Read 1 a) ∷ []) (line.Answered 1 answer.Written ∷ line.Answered 2 (answer.Read []) ∷ []))
+
+-- an unlock answers the lock call once more, with what was stored meanwhile
+abbrev pub LockAnsweredAgain : Type 0
+LockAnsweredAgain = IsIllegal (printed (asks 1 0 (op.Lock 1 a) ∷ asks 2 0 (op.Store 1 a x) ∷ asks 3 0 (op.Unlock 1 a) ∷ [])
+    (line.Answered 1 (answer.Locked []) ∷ line.Answered 2 answer.Stored ∷ line.Answered 3 answer.Unlocked ∷ line.Answered 1 (answer.Locked x) ∷ []))
+
+-- a refusal is an answer, too, and none comes after it
+abbrev pub AnsweredAfterRefusal : Type 0
+AnsweredAfterRefusal = IsIllegal (printed (asks 1 0 (op.Lock 1 a) ∷ []) (line.Answered 1 (answer.Refused why.NotServing) ∷ line.Answered 1 (answer.Locked []) ∷ []))
+
+-- a call that ended with its node is answered
+abbrev pub AnsweredAfterStop : Type 0
+AnsweredAfterStop = IsIllegal (printed (asks 1 0 (op.Lock 1 a) ∷ []) (line.Stopped 0 ∷ line.Gone 1 ∷ line.Answered 1 (answer.Refused why.NotServing) ∷ []))
+
 -- ---- persistent databases
 
 abbrev pub CommitUnlocked : Type 0
@@ -68,6 +105,10 @@ OldReadAfterCommit = IsIllegal (locks_database 0 ∷ begins 0 ∷ commits 0 1 �
 abbrev pub OldReadOfOwn : Type 0
 OldReadOfOwn = IsIllegal (locks_database 0 ∷ begins 0 ∷ reads_database 0 [] ∷ [])
 
+-- a node reads what it has read before
+abbrev pub OldReadAfterRead : Type 0
+OldReadAfterRead = IsIllegal (locks_database 0 ∷ begins 0 ∷ reads_database 1 x ∷ reads_database 1 [] ∷ [])
+
 -- ---- rounds
 
 -- a round forgets what a member has read
@@ -93,8 +134,18 @@ RoundFromNowhere = IsIllegal (Ticket 2 0 both ∷ Ticket 3 0 both ∷ Noted 0 (n
 abbrev pub RoundFromNothing : Type 0
 RoundFromNothing = IsIllegal (Ticket 2 0 both ∷ Stopped 1 ∷ Noted 0 (note.Round 2 both 0 1) ∷ [])
 
+-- a round from a persistent line older than that of a member, which stopped in its newer line
+abbrev pub PersistentParentTooOld : Type 0
+PersistentParentTooOld = IsIllegal (Ticket 2 0 both ∷ round 0 both ∷ installs 0 ∷ Stopped 0 ∷ Ticket 3 1 both ∷ Noted 1 (note.Round 3 both 1 1) ∷ [])
+
 abbrev pub SecondRound : Type 0
 SecondRound = IsIllegal (Ticket 2 0 both ∷ round 0 both ∷ round 0 both ∷ [])
+
+abbrev pub InstalledByAnother : Type 0
+InstalledByAnother = IsIllegal (Ticket 2 0 (0 ∷ []) ∷ round 0 (0 ∷ []) ∷ installs 1 ∷ [])
+
+abbrev pub InstalledUnborn : Type 0
+InstalledUnborn = IsIllegal (Ticket 2 0 both ∷ installs 0 ∷ [])
 
 abbrev pub InstalledTwice : Type 0
 InstalledTwice = IsIllegal (Ticket 2 0 both ∷ round 0 both ∷ installs 0 ∷ Stopped 0 ∷ installs 0 ∷ [])

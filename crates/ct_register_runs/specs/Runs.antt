@@ -4,6 +4,7 @@ use Rattle.ct_bytes.specs.declared.address.Address.{Address}
 use Rattle.ct_bytes.specs.declared.address.Address.TheVariants.{V4}
 use Rattle.ct_msg.specs.Config.{lock_db}
 use Rattle.ct_msg.specs.declared.client.Answer.TheVariants as answer
+use Rattle.ct_msg.specs.declared.client.ClientOp.{ClientOp}
 use Rattle.ct_msg.specs.declared.client.ClientOp.TheVariants as op
 use Rattle.ct_msg.specs.declared.client.Pair.{Pair}
 use Rattle.ct_msg.specs.declared.client.Why.TheVariants as why
@@ -13,6 +14,9 @@ use Rattle.ct_frame.specs.declared.event.Note.TheVariants as note
 use Rattle.ct_frame.specs.declared.frame.Assigned.{Assigned}
 use Rattle.ct_call.specs.Rules.{Rules, Old, Arg, Join}
 use Rattle.ct_cluster.specs.Labels.{Label, Answered, Begun, Noted, Ticket, Yielded, Stopped, Pushed, Takeover, Taken}
+use Rattle.ct_cluster.specs.Traces.{OpenCall, line_labels}
+use Rattle.ct_cluster.specs.declared.step.Line.{Line}
+use Rattle.ct_cluster.specs.declared.step.Step.TheVariants as step
 use Rattle.ct_register.specs.Register.{Register}
 use Rattle.ct_register.specs.Database.{Database, contents_after}
 use Rattle.ct_register.specs.Lines.{Lines}
@@ -64,12 +68,16 @@ unlocks n = Answered n (op.Unlock 1 a) answer.Unlocked
 abbrev pub appends : ℕ → List ℕ → List ℕ → Label
 appends n arg v = Answered n (op.Apply 1 a 1 arg) (answer.Applied v)
 
--- a function whose value would have 1,200 bytes
-abbrev pub doubles_too_much : ℕ → Label
-doubles_too_much n = Answered n (op.Apply 1 a 2 (replicate 600 0)) (answer.Refused (why.TooLong 1200))
+-- a function whose value would have 1,200 bytes is refused with this length
+abbrev pub is_too_long : ℕ → ℕ → Label
+is_too_long n length = Answered n (op.Apply 1 a 2 (replicate 600 0)) (answer.Refused (why.TooLong length))
 
 abbrev pub vacuums : ℕ → Label
 vacuums n = Noted n (note.Vacuumed 1 a)
+
+-- the lock of the record ends without the client
+abbrev pub ends : ℕ → Label
+ends n = Noted n (note.Ended 1 a)
 
 -- the lock that a commit needs, and its end without the client
 abbrev pub locks_database : ℕ → Label
@@ -122,6 +130,14 @@ takes n address = Noted n (note.Took address)
 abbrev pub releases : ℕ → Address → Label
 releases n address = Noted n (note.Released address)
 
+-- a call that is open: its number, its node, and what its client asked
+abbrev pub asks : ℕ → ℕ → ClientOp → OpenCall
+asks call n asked = record { call = call; node = n; asked = asked }
+
+-- what nodes tell that print these lines, while these calls are open at first
+abbrev pub printed : List OpenCall → List Line → List Label
+printed log lines = line_labels (step.Retry 0) log lines
+
 -- ---- what is said of runs
 
 -- the labels are legal, and may lead to registers of which this holds
@@ -148,7 +164,7 @@ ReadersSee = Reaches (writes 0 x ∷ reads 1 x ∷ writes 0 y ∷ locks 0 y ∷ 
 
 -- a function answers its rule's value, and changes nothing where that is too long
 abbrev pub FunctionsAnswer : Type 0
-FunctionsAnswer = Reaches (writes 0 x ∷ appends 1 y (120 ∷ 121 ∷ []) ∷ doubles_too_much 0 ∷ []) (λ s. Shows (x ∷ (120 ∷ 121 ∷ []) ∷ []) None 1 2 (s.records 1 1 a))
+FunctionsAnswer = Reaches (writes 0 x ∷ appends 1 y (120 ∷ 121 ∷ []) ∷ is_too_long 0 1200 ∷ []) (λ s. Shows (x ∷ (120 ∷ 121 ∷ []) ∷ []) None 1 2 (s.records 1 1 a))
 
 -- a vacuum forgets the versions and what was seen of them
 abbrev pub VacuumForgets : Type 0

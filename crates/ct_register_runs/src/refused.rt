@@ -1,8 +1,9 @@
 //! Small runs that are not legal.
-ghost use Rattle.ct_register_runs.specs.Refused.{SecondLock, OldRead, ReadUnderLock, WriteUnderLock, StoreOfNoOwner, UnlockOfNoOwner, WrongAnswer, VacuumOfValue, ReadAfterStop, CommitUnlocked, CommitBesideAnother, WrongNumber, AcknowledgedTwice, CommitOfAnother, UnsureOfNobody, OldReadAfterCommit, OldReadOfOwn, RoundForgets, RoundForgetsCommit, RoundOfAnother, RoundOfOtherMembers, RoundFromNowhere, RoundFromNothing, SecondRound, InstalledTwice, InstalledUnderLock, ThawedTooEarly, TicketWhileHeld, TicketLeftOut, YieldedByAnother, TookUnassigned, TookWhileHeld, WrongTake, TakeOfNoRun, PushedAnew, PushedUnborn};
+ghost use Rattle.ct_register_runs.specs.Refused.{SecondLock, OldRead, ReadUnderLock, WriteUnderLock, StoreOfNoOwner, UnlockOfNoOwner, WrongAnswer, VacuumOfValue, ReadAfterStop, VacuumedUnderLock, EndedUnlocked, WrongLength, TooLongUnderLock, WriteKeptEmpty, LockAnsweredAgain, AnsweredAfterRefusal, AnsweredAfterStop, CommitUnlocked, CommitBesideAnother, WrongNumber, AcknowledgedTwice, CommitOfAnother, UnsureOfNobody, OldReadAfterCommit, OldReadOfOwn, OldReadAfterRead, RoundForgets, RoundForgetsCommit, RoundOfAnother, RoundOfOtherMembers, RoundFromNowhere, RoundFromNothing, PersistentParentTooOld, SecondRound, InstalledByAnother, InstalledUnborn, InstalledTwice, InstalledUnderLock, ThawedTooEarly, TicketWhileHeld, TicketLeftOut, YieldedByAnother, TookUnassigned, TookWhileHeld, WrongTake, TakeOfNoRun, PushedAnew, PushedUnborn};
 
 /// A second lock; a read of an old value, or while another node owns the record, or at a node in no line; a write while a
-/// node owns the record; a store or an unlock of no owner; a wrong answer of a function; a vacuum of a value.
+/// node owns the record; a store or an unlock of no owner; a wrong answer of a function, a refusal of its value with a wrong
+/// length, or one under a lock; a vacuum of a value or under a lock; the end of a lock that is not held.
 pub fn records()
     ensures second_lock { SecondLock }
     ensures old_read { OldRead }
@@ -13,10 +14,24 @@ pub fn records()
     ensures wrong_answer { WrongAnswer }
     ensures vacuum_of_value { VacuumOfValue }
     ensures read_after_stop { ReadAfterStop }
+    ensures vacuumed_under_lock { VacuumedUnderLock }
+    ensures ended_unlocked { EndedUnlocked }
+    ensures wrong_length { WrongLength }
+    ensures too_long_under_lock { TooLongUnderLock }
+{}
+
+/// Of two wrong clusters: one keeps a write that has to wait with the empty value, which is read after its answer; and in one
+/// an unlock answers the finished lock call once more. And an answer after a refusal, or to a call that ended with its node.
+pub fn calls()
+    ensures write_kept_empty { WriteKeptEmpty }
+    ensures lock_answered_again { LockAnsweredAgain }
+    ensures answered_after_refusal { AnsweredAfterRefusal }
+    ensures answered_after_stop { AnsweredAfterStop }
 {}
 
 /// A commit without the database's lock, or beside one that is not acknowledged; an answer with a wrong number, or a second
-/// one, or of another node's commit; an unsure one though nobody is missing; a read without what is acknowledged or one's own.
+/// one, or of another node's commit; an unsure one though nobody is missing; a read without what is acknowledged, or one's own,
+/// or read before.
 pub fn commits()
     ensures commit_unlocked { CommitUnlocked }
     ensures commit_beside_another { CommitBesideAnother }
@@ -26,11 +41,13 @@ pub fn commits()
     ensures unsure_of_nobody { UnsureOfNobody }
     ensures old_read_after_commit { OldReadAfterCommit }
     ensures old_read_of_own { OldReadOfOwn }
+    ensures old_read_after_read { OldReadAfterRead }
 {}
 
 /// A round that forgets what a member has read, or a commit that was acknowledged; one of another node or other members
-/// than the ticket's, or from no line though a member is in one, or from one that nobody had; a second birth or installation of a line; an installation at an owner; a thaw
-/// before all have installed.
+/// than the ticket's, or from no line though a member is in one, or from one that nobody had, or from a persistent line older
+/// than a member's; a second birth or installation of a line; an installation by no member, of a line that was not born, or at
+/// an owner; a thaw before all have installed.
 pub fn rounds()
     ensures round_forgets { RoundForgets }
     ensures round_forgets_commit { RoundForgetsCommit }
@@ -38,7 +55,10 @@ pub fn rounds()
     ensures round_of_other_members { RoundOfOtherMembers }
     ensures round_from_nowhere { RoundFromNowhere }
     ensures round_from_nothing { RoundFromNothing }
+    ensures persistent_parent_too_old { PersistentParentTooOld }
     ensures second_round { SecondRound }
+    ensures installed_by_another { InstalledByAnother }
+    ensures installed_unborn { InstalledUnborn }
     ensures installed_twice { InstalledTwice }
     ensures installed_under_lock { InstalledUnderLock }
     ensures thawed_too_early { ThawedTooEarly }

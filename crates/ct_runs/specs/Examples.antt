@@ -25,4 +25,4 @@ sent number sender receiver generation msg = line.Sent number (record { generati
 
 -- from the opening, these steps print exactly these lines
 abbrev pub Prints : Config → List Step → List Line → Type 0
-Prints c steps lines = (ran c three_rules (opening c) steps).lines ≡ lines
+Prints c steps lines = (ran c three_rules (opening c) [] steps).lines ≡ lines

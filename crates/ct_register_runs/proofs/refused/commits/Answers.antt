@@ -1,5 +1,5 @@
 -- Each run, as it was shown.
-use Rattle.ct_register_runs.proofs.Forgotten.{old_read_after_commit, old_read_of_own}
+use Rattle.ct_register_runs.proofs.Forgotten.{old_read_after_commit, old_read_of_own, old_read_after_read}
 use Rattle.ct_register_runs.proofs.Refusals.{commit_unlocked, commit_beside_another, wrong_number, acknowledged_twice, commit_of_another, unsure_of_nobody}
 use Rattle.ct_register_runs.proofs.refused.commits.Goals as goal
 
@@ -26,3 +26,6 @@ returns-clause-old_read_after_commit c = old_read_after_commit
 
 pub returns-clause-old_read_of_own : goal.returns-clause-old_read_of_own
 returns-clause-old_read_of_own c = old_read_of_own
+
+pub returns-clause-old_read_after_read : goal.returns-clause-old_read_after_read
+returns-clause-old_read_after_read c = old_read_after_read

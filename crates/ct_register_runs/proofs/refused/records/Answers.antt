@@ -1,5 +1,5 @@
 -- Each run, as it was shown.
-use Rattle.ct_register_runs.proofs.Refusals.{second_lock, old_read, read_under_lock, write_under_lock, store_of_no_owner, unlock_of_no_owner, wrong_answer, vacuum_of_value, read_after_stop}
+use Rattle.ct_register_runs.proofs.Refusals.{second_lock, old_read, read_under_lock, write_under_lock, store_of_no_owner, unlock_of_no_owner, wrong_answer, vacuum_of_value, read_after_stop, vacuumed_under_lock, ended_unlocked, wrong_length, too_long_under_lock}
 use Rattle.ct_register_runs.proofs.refused.records.Goals as goal
 
 pub returns-clause-second_lock : goal.returns-clause-second_lock
@@ -28,3 +28,15 @@ returns-clause-vacuum_of_value c = vacuum_of_value
 
 pub returns-clause-read_after_stop : goal.returns-clause-read_after_stop
 returns-clause-read_after_stop c = read_after_stop
+
+pub returns-clause-vacuumed_under_lock : goal.returns-clause-vacuumed_under_lock
+returns-clause-vacuumed_under_lock c = vacuumed_under_lock
+
+pub returns-clause-ended_unlocked : goal.returns-clause-ended_unlocked
+returns-clause-ended_unlocked c = ended_unlocked
+
+pub returns-clause-wrong_length : goal.returns-clause-wrong_length
+returns-clause-wrong_length c = wrong_length
+
+pub returns-clause-too_long_under_lock : goal.returns-clause-too_long_under_lock
+returns-clause-too_long_under_lock c = too_long_under_lock

@@ -1,5 +1,5 @@
 -- Each run, as it was shown.
-use Rattle.ct_register_runs.proofs.Forgotten.{round_of_other_members, round_from_nowhere, round_forgets, round_forgets_commit, round_of_another, round_from_nothing, second_round, installed_twice, installed_under_lock, thawed_too_early}
+use Rattle.ct_register_runs.proofs.Forgotten.{round_of_other_members, round_from_nowhere, round_forgets, round_forgets_commit, round_of_another, round_from_nothing, second_round, installed_twice, installed_under_lock, thawed_too_early, persistent_parent_too_old, installed_by_another, installed_unborn}
 use Rattle.ct_register_runs.proofs.refused.rounds.Goals as goal
 
 pub returns-clause-round_forgets : goal.returns-clause-round_forgets
@@ -31,3 +31,12 @@ returns-clause-round_of_other_members c = round_of_other_members
 
 pub returns-clause-round_from_nowhere : goal.returns-clause-round_from_nowhere
 returns-clause-round_from_nowhere c = round_from_nowhere
+
+pub returns-clause-persistent_parent_too_old : goal.returns-clause-persistent_parent_too_old
+returns-clause-persistent_parent_too_old c = persistent_parent_too_old
+
+pub returns-clause-installed_by_another : goal.returns-clause-installed_by_another
+returns-clause-installed_by_another c = installed_by_another
+
+pub returns-clause-installed_unborn : goal.returns-clause-installed_unborn
+returns-clause-installed_unborn c = installed_unborn
