@@ -22,7 +22,7 @@ use Rattle.ct_cluster.specs.Faults.{fault_of, is_allowed, no_such_node, node_dow
 use Rattle.ct_cluster.specs.Labels.{Label}
 use Rattle.ct_cluster.specs.Steps.{put, lines_of, fed, done, deliver, repeat, with_fate, steps}
 use Rattle.ct_cluster.specs.Traces.{begun_by, own_labels}
-use Rattle.ct_law_shown.specs.Waiting.{Outcome, answerable, told_lines, told_step, unchanged, came_of, outcome}
+use Rattle.ct_law_shown.specs.Waiting.{answerable, told_lines, told_step, unchanged, came_of, outcome}
 use Rattle.ct_cluster.specs.Traces as traces
 use Rattle.ct_cluster.specs.declared.step.Line.{Line}
 use Rattle.ct_cluster.specs.declared.step.PendingCall.{PendingCall}

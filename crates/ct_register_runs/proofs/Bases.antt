@@ -14,7 +14,6 @@ use Rattle.ct_register.specs.Database.{Database}
 use Rattle.ct_register.specs.Lines
 use Rattle.ct_register.specs.Lines.{Lines}
 use Rattle.ct_register.specs.Births
-use Rattle.ct_register.specs.Legal
 use Rattle.ct_cluster.specs.Labels.{Ticket, Stopped}
 use Rattle.ct_register_runs.specs.Runs.{config, x, both, one_write, locks_database, begins, is_unsure, ends_database, UnsureMayBeLost, UnsureMayBeKept}
 use Rattle.ct_register.proofs.Places.{Everywhere, everywhere_at, at_all, at_twice, at_key_twice, of_one}

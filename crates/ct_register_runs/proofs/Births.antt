@@ -8,7 +8,6 @@ use Rattle.ct_register.specs.Register.{Register}
 use Rattle.ct_register.specs.Lines
 use Rattle.ct_register.specs.Lines.{Lines}
 use Rattle.ct_register.specs.Births
-use Rattle.ct_register.specs.Legal
 use Rattle.ct_cluster.specs.Labels.{Ticket, Stopped}
 use Rattle.ct_register_runs.specs.Runs.{config, a, x, both, writes, RoundKeeps, RoundEmpties, RoundMayLose}
 use Rattle.ct_register.proofs.Places.{everywhere_at, at_all, of_two, of_one}

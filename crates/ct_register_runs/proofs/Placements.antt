@@ -18,7 +18,7 @@ use Rattle.ct_register.proofs.Places.{at_all}
 use Rattle.ct_register.proofs.Small.{nought, below_next}
 use Rattle.ct_register_runs.proofs.Rounds.{Unowned, unowned_at, unowned_by, two_not_zero, births, persistent_births}
 use Rattle.ct_register.proofs.Ways.{labels_after}
-use Rattle.ct_register_runs.specs.Runs.{config, both, first_at_zero, one_each, both_at_one, AddressesArePlaced}
+use Rattle.ct_register_runs.specs.Runs.{config, both, first_at_zero, one_each, AddressesArePlaced}
 
 -- what LCP2 makes of the first address at node 0 and the second at none
 pub placed_once : Placing.take_list config.addresses (record { able = both; given = first_at_zero }) ≡ one_each

@@ -6,8 +6,6 @@ use Rattle.ct_rules_node.specs.Node.{is_among, has_records, kind_at, kind_in, na
 use Rattle.ct_register.specs.Words
 use Rattle.ct_register.specs.Register
 use Rattle.ct_register.specs.Database
-use Rattle.ct_register.specs.Lines
-use Rattle.ct_register.specs.Legal
 use Rattle.ct_register_runs.specs.Runs.{LockMoves, ReadersSee, FunctionsAnswer, VacuumForgets, StopEndsLocks, RefusalsChangeNothing, TicketsCount, CommitIsRead, UnsureIsOpen}
 use Rattle.ct_register.proofs.Small.{one_not_zero, nought, same, below_next}
 

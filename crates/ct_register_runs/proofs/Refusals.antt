@@ -1,6 +1,8 @@
 -- The runs that are refused.
-use Rattle.std.proofs.Common.{◌≡◌, ℕ, true, ◌<◌, List, [], ◌∷◌, refl, ⊎_elim}
-use Rattle.std.specs.Prelude.{◌++◌, Some}
+use Rattle.std.proofs.Common.{◌≡◌, ℕ, true, ◌<◌, List, [], ◌∷◌, refl, ap, arith, ⊎_elim}
+use Rattle.std.specs.Prelude.{◌++◌, Some, Result, Err}
+use Rattle.ct_call.specs.declared.fault.CallFault.{CallFault}
+use Rattle.ct_call.specs.declared.fault.CallFault.TheVariants as fault
 use Rattle.ct_msg.specs.declared.client.Answer.TheVariants as answer
 use Rattle.ct_msg.specs.declared.client.ClientOp.TheVariants as op
 use Rattle.ct_msg.specs.declared.client.Why.TheVariants as why
@@ -105,8 +107,15 @@ pub ended_unlocked : EndedUnlocked
 unfolding Words.at Words.at_key
 ended_unlocked s = from_opening (locks 0 [] ∷ unlocks 0 ∷ []) (ends 0 ∷ []) s refl (λ h. none_not_some h.1.3.0)
 
+abbrev length_in : Result (List ℕ) CallFault → ℕ
+length_in (Err (fault.TooLong m)) = m
+length_in r = 0
+
+lengths_differ : ◌≡◌ {A = Result (List ℕ) CallFault} (Err (fault.TooLong 1200)) (Err (fault.TooLong 1199)) → ⊥
+lengths_differ e = absurd (let k : ◌≡◌ {A = ℕ} 1200 1199 = ap length_in e in omega arith)
+
 pub wrong_length : WrongLength
-wrong_length s h = (let e = h.1.3.1 in absurd (cc))
+wrong_length s h = lengths_differ h.1.3.1
 
 pub too_long_under_lock : TooLongUnderLock
 unfolding Words.at Words.at_key
