@@ -1,6 +1,8 @@
-//! Which other nodes may hold a copy for reading, and how those copies are called back.
+//! Which nodes are missing an acknowledgement, and which other nodes may hold a copy for reading and how those copies
+//! are called back.
 #![tactic(auto)]
 
+pub mod awaited;
 #[cfg(test)]
 mod tests;
 pub mod tracking;

@@ -1,6 +1,7 @@
-//! Trackings, call by call, against the rules.
+//! Nodes that are awaited and trackings, call by call, against the rules.
 ghost use Rattle.std.specs.Prelude.{◌≡◌, None};
 
+use crate::awaited::Awaited;
 use crate::tracking::Tracking;
 use ct_bytes::copies::Duplicate;
 use std::test::Fail;
@@ -12,6 +13,32 @@ fn revoke(tracking: &mut Tracking, rsn: u64) -> Result<(), Fail>
     if !tracking.tracked().is_empty() {
         tracking.begin(rsn)?;
     }
+    Ok(())
+}
+
+#[test]
+fn awaited_nodes(rt: HostRuntime) -> Result<(), Fail> {
+    let mut it = Awaited::begin(rt.alloc(), &[2, 5, 9])?;
+    for (node, last, left) in [
+        (4u32, false, [2u32, 5, 9].as_slice()),
+        (5, false, [2, 9].as_slice()),
+        (5, false, [2, 9].as_slice()),
+        (9, false, [2].as_slice()),
+        (2, true, [].as_slice()),
+        (2, false, [].as_slice()),
+    ] {
+        assert_eq!(rt; it.ack(node), last);
+        assert_eq!(rt; it.missing(), left);
+        assert!(rt; !it.is_missing(node));
+    }
+    it.add(3)?;
+    assert_eq!(rt; it.asked(), [2, 3, 5, 9].as_slice());
+    it.ask_again();
+    let mut copy = it.copy()?;
+    assert!(rt; !copy.ack(2) && !copy.ack(9) && !copy.ack(3) && copy.ack(5));
+    assert_eq!(rt; it.missing(), [2, 3, 5, 9].as_slice());
+    it.clear();
+    assert!(rt; it.asked().is_empty() && it.missing().is_empty());
     Ok(())
 }
 

@@ -4,6 +4,7 @@ use Rattle.std.specs.Prelude.{nat_eq, nat_lt, nat_le, ◌||◌}
 use Rattle.std.specs.List.{AllByRecursion}
 use Rattle.std.proofs.lemmas.Bool.{cond_both, cases_eq, eqb-true, eq-eqb, ltb-true, ltb-false}
 use Rattle.std.proofs.lemmas.List.{length-set}
+use Rattle.ct_bytes.specs.Words.{others}
 use Rattle.ct_msg.specs.declared.client.Answer.{Answer}
 use Rattle.ct_msg.specs.declared.client.Answer.TheVariants as answer
 use Rattle.ct_msg.specs.declared.client.ClientOp.{ClientOp}
@@ -16,9 +17,8 @@ use Rattle.ct_frame.specs.declared.frame.Msg.{Msg}
 use Rattle.ct_frame.specs.declared.frame.Msg.TheVariants as msg
 use Rattle.ct_call.specs.Rules.{Rules}
 use Rattle.ct_store.specs.Map.{Ascends, look}
-use Rattle.ct_deleg.specs.Tracked.{others}
 use Rattle.ct_persist.specs.Persisted.{updated}
-use Rattle.ct_persist.specs.Commits.{begun, is_last, acknowledged}
+use Rattle.ct_persist.specs.Commits.{commit_begun, completes, applied_by}
 use Rattle.ct_rules.specs.Parts.{want}
 use Rattle.ct_rules_node.specs.Laws.{AllAscend}
 use Rattle.ct_rules_node.specs.Node.{Node, Database, Committing, db_at, with_db, state_at, or_nothing, is_present_in, is_among, is_persistent, kind_at}
@@ -215,7 +215,7 @@ awaits_beside : (c : Config) (era : Era) (rules : Rules) (who : Callers) (calls 
 unfolding awaits_others CommitFits record_in sent_label
 awaits_beside c era rules who calls n pend call db seq writes [] t ok untold own l = answers_beside c era rules who calls n pend call (answer.Committed seq) t untold
 awaits_beside c era rules who calls n pend call db seq writes (r ∷ ns) t ok untold own l =
-    let x : Committing = record { call = call; writes = writes; pending = begun seq (r ∷ ns) } in
+    let x : Committing = record { call = call; writes = writes; pending = commit_begun seq (r ∷ ns) } in
     let u = with_commit db (Some x) t in
     beside_then c era rules who calls n pend t u (posts_all t.node.generation n (r ∷ ns) (msg.PUpdate db seq writes) u)
     (with_commit_beside c era rules who calls n pend db (Some x) t (own, l))
@@ -253,10 +253,10 @@ pack_of_beside : (c : Config) (era : Era) (rules : Rules) (who : Callers) (calls
 unfolding on_pack_of CommitFits
 pack_of_beside c era rules who calls n pend sender db seq t None f untold = beside_none c era rules who calls n pend t
 pack_of_beside c era rules who calls n pend sender db seq t (Some x) f untold =
-    cond_both (is_last sender seq x.pending) (answers x.call (answer.Committed seq) (with_commit db None t)) (with_commit db (Some (record x { pending = acknowledged sender seq x.pending })) t) (λ (v : Turn). Goes_beside c era rules who calls n pend t v)
+    cond_both (completes sender seq x.pending) (answers x.call (answer.Committed seq) (with_commit db None t)) (with_commit db (Some (record x { pending = applied_by sender seq x.pending })) t) (λ (v : Turn). Goes_beside c era rules who calls n pend t v)
     (λ _. beside_then c era rules who calls n pend t (with_commit db None t) (answers x.call (answer.Committed seq) (with_commit db None t)) (with_commit_beside c era rules who calls n pend db None t tt)
     (answers_beside c era rules who calls n pend x.call (answer.Committed seq) (with_commit db None t) (untold x.call x.writes f.0)))
-    (λ _. with_commit_beside c era rules who calls n pend db (Some (record x { pending = acknowledged sender seq x.pending })) t f)
+    (λ _. with_commit_beside c era rules who calls n pend db (Some (record x { pending = applied_by sender seq x.pending })) t f)
 
 -- PAck: the commit that waits is answered, and whoever made it asked a commit of this database
 pub pack_beside : (c : Config) (era : Era) (rules : Rules) (who : Callers) (calls n : ℕ) (pend : List PendingCall) (sender db seq : ℕ) (t : Turn) → NodeStays c era rules who calls n t.node →

@@ -1,5 +1,6 @@
 -- Whatever comes to a node: every call that waits after it waited before, or is the call of the event.
 use Rattle.std.proofs.Common.{◌≡◌, ℕ, ◌+◌, Bool, true, false, cond, List, [], ◌∷◌, Option, Some, None, refl, sym, subst, arith}
+use Rattle.ct_bytes.specs.Words.{others}
 use Rattle.ct_msg.specs.declared.client.ClientOp.{ClientOp}
 use Rattle.ct_msg.specs.declared.client.ClientOp.TheVariants as op
 use Rattle.ct_msg.specs.declared.client.Pair.{Pair}
@@ -14,7 +15,6 @@ use Rattle.ct_frame.specs.declared.frame.Msg.TheVariants as msg
 use Rattle.ct_frame.specs.declared.frame.PTable.{PTable}
 use Rattle.ct_frame.specs.declared.frame.TableRow.{TableRow}
 use Rattle.ct_call.specs.Rules.{Rules}
-use Rattle.ct_deleg.specs.Tracked.{others}
 use Rattle.ct_store.specs.Map.{Pairs}
 use Rattle.ct_rules.specs.Parts.{Moving, send, acts, keeps, want}
 use Rattle.ct_rules.specs.Moves.{call_again_of, call_again, revoke_again_of, revoke_again, release}

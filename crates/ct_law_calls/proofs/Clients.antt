@@ -3,6 +3,7 @@ use Rattle.std.proofs.Common.{◌≡◌, ℕ, zero, suc, ◌<◌, Bool, true, fa
 use Rattle.std.specs.Prelude.{is_none, is_some, slice_get}
 use Rattle.std.proofs.lemmas.Bool.{cond_both}
 use Rattle.std.proofs.lemmas.List.{length-set}
+use Rattle.ct_bytes.specs.Words.{others}
 use Rattle.ct_msg.specs.declared.client.Answer.{Answer}
 use Rattle.ct_msg.specs.declared.client.ClientOp.{ClientOp}
 use Rattle.ct_msg.specs.declared.client.ClientOp.TheVariants as op
@@ -12,8 +13,7 @@ use Rattle.ct_msg.specs.declared.config.Config.{Config}
 use Rattle.ct_msg.specs.declared.config.DbDecl.{DbDecl}
 use Rattle.ct_frame.specs.declared.event.Out.{Out}
 use Rattle.ct_call.specs.Rules.{Rules}
-use Rattle.ct_deleg.specs.Tracked.{others}
-use Rattle.ct_persist.specs.Commits.{begun}
+use Rattle.ct_persist.specs.Commits.{commit_begun}
 use Rattle.ct_rules.specs.Form.{is_wanting}
 use Rattle.ct_rules.specs.Parts.{want}
 use Rattle.ct_rules.specs.Moves.{store, release, unlock}
@@ -131,7 +131,7 @@ updates_come who c n call db seq ws t h = record { nothing = h.nothing; fresh = 
 awaits_kept : (who : Opened) (c : Config) (n call db seq : ℕ) (ws : List Pair) (ns : List ℕ) (t : Turn) → Comes who c n call t → db < length c.dbs → (db_at db t.node).commit ≡ None → Account (with_call call (n, op.Commit db ws) who) n (awaits_others n call db seq ws ns t)
 unfolding awaits_others with_commit
 awaits_kept who c n call db seq ws [] t h has none = answer_kept who c n call (op.Commit db ws) _ t h
-awaits_kept who c n call db seq ws (m ∷ ms) t h has none = posts_all_kept _ _ _ _ _ (waits_kept who c n call db (record { call = call; writes = ws; pending = begun seq (m ∷ ms) }) t h has none refl)
+awaits_kept who c n call db seq ws (m ∷ ms) t h has none = posts_all_kept _ _ _ _ _ (waits_kept who c n call db (record { call = call; writes = ws; pending = commit_begun seq (m ∷ ms) }) t h has none refl)
 
 commit_kept : (who : Opened) (c : Config) (n call db : ℕ) (ws : List Pair) (t : Turn) → Comes who c n call t → db < length c.dbs → (db_at db t.node).commit ≡ None → Account (with_call call (n, op.Commit db ws) who) n (commit n call db ws t)
 unfolding commit commits_at

@@ -1,5 +1,6 @@
 -- Every event leaves the calls of its node even.
 use Rattle.std.proofs.Common.{◌≡◌, ℕ, ◌+◌, List, [], ◌∷◌, length, Option, Some, None, refl, arith}
+use Rattle.ct_bytes.specs.Words.{others}
 use Rattle.ct_msg.specs.declared.client.ClientOp.{ClientOp}
 use Rattle.ct_msg.specs.declared.config.Config.{Config}
 use Rattle.ct_frame.specs.declared.event.Event.{Event}
@@ -9,7 +10,7 @@ use Rattle.ct_frame.specs.declared.frame.Msg.{Msg}
 use Rattle.ct_frame.specs.declared.frame.Msg.TheVariants as msg
 use Rattle.ct_call.specs.Rules.{Rules}
 use Rattle.ct_store.specs.Map.{Pairs}
-use Rattle.ct_deleg.specs.Tracked.{others, Revocation}
+use Rattle.ct_deleg.specs.Tracked.{Revocation}
 use Rattle.ct_rules.specs.Parts.{Moving, keeps, send, acts}
 use Rattle.ct_rules.specs.Moves.{call_again_of, call_again, revoke_again_of, revoke_again}
 use Rattle.ct_rules.specs.declared.event.Place.{Place}

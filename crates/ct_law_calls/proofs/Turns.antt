@@ -25,7 +25,7 @@ use Rattle.ct_rules_node.specs.Node.{name_of, Node, Database, Phase, Committing,
 use Rattle.ct_rules_node.specs.Turn.{Turn, does, with_node, with_lead, with_phase, makes, answers, notes, posts, posts_all}
 use Rattle.ct_rules_node.specs.Records.{kept, with_state}
 use Rattle.ct_rules_node.specs.Clients.{frozen_if_unlocked}
-use Rattle.ct_persist.specs.Commits.{is_last}
+use Rattle.ct_persist.specs.Commits.{completes}
 use Rattle.ct_persist.specs.Persisted.{updated}
 use Rattle.ct_rules_node.specs.Databases.{updates, with_commit, commit, acknowledges, on_pupdate, on_pack_of, on_pack}
 use Rattle.ct_rules_node.specs.Rounds.{row_master, begin_round, frozen_state, changed, frozen_db, ends_lock, ends_commit, ends_commits, freezes, on_freeze, all_frozen, on_freezeack, on_pull, push_of, pushes, all_pulled, on_pullreply, bared, installed_state, install_row, install_rows, installed_db, installed_dbs, installed_node, releases, makes_rows, installs, on_push, all_installed, on_pushack}
@@ -200,7 +200,7 @@ on_pupdate_kept _ _ _ _ _ s = either _ (posts_kept _ _ _ _ (updates_kept _ _ _ s
 on_pack_of_kept : {who : Opened} {here : ℕ} (n db seq : ℕ) (u : Turn) (x : Option Committing) → (db_at db u.node).commit ≡ x → Account who here u → Account who here (on_pack_of n db seq u x)
 unfolding on_pack_of
 on_pack_of_kept n db seq u None is s = s
-on_pack_of_kept n db seq u (Some x) is s = either (is_last n seq x.pending) (commit_answered _ db x is (pack_outs db x seq u) (pack_node db x seq u) s) (commit_goes db x _ is refl refl s)
+on_pack_of_kept n db seq u (Some x) is s = either (completes n seq x.pending) (commit_answered _ db x is (pack_outs db x seq u) (pack_node db x seq u) s) (commit_goes db x _ is refl refl s)
 
 pub on_pack_kept : {who : Opened} {here : ℕ} {u : Turn} (n db seq : ℕ) → Account who here u → Account who here (on_pack n db seq u)
 unfolding on_pack

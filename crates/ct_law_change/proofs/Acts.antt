@@ -1,6 +1,7 @@
 -- Each part of the rule keeps the invariant: what is sent, told, given, revoked, granted, drained.
 use Rattle.std.proofs.Common.{◌≡◌, ◌≢◌, ◌⊎◌, ℕ, ◌<◌, ◌≤◌, Bool, true, false, Option, Some, None, List, [], ◌∷◌, ◌++◌, length, length-append, refl, sym, ap, ◌∙◌, inl, inr, ⊎_elim, arith, append_assoc, subst, not, ◌&&◌, ◌||◌, ◌==◌, le_of_eq}
 use Rattle.std.proofs.lemmas.Bool.{and_parts, not-true, cond_both, cases_eq, eqb-false, lt-leb, le-leb, ne_eqb, eq-eqb}
+use Rattle.ct_deleg.specs.Awaited.{including}
 use Rattle.ct_law_fact.proofs.Invariant.{span_of, Goes, Start, Waits, readers_of, is_revoking, Ghost, RevokeAt, Says, BodyAt, Recalled, NodeInv, MasterFacts, MasterInv, GlobalInv, Good, Holds, Kept}
 use Rattle.ct_law_fact.proofs.Nodes.{and_frame, NodeInv-frame, given, NodeInv-given, rank_of, NodeInv-nowish, NodeInv-recalls, seeing, NodeInv-seeing}
 use Rattle.ct_law_change.proofs.Markings.{grows_none, goes_on, goes_told}
@@ -16,7 +17,7 @@ use Rattle.ct_call.specs.Table.{applied}
 use Rattle.ct_call.specs.declared.fault.CallFault.{CallFault}
 use Rattle.ct_call.specs.declared.fault.CallFault.TheVariants as fault
 use Rattle.ct_msg.specs.declared.client.Why.TheVariants as why
-use Rattle.ct_deleg.specs.Tracked.{Revocation, placed}
+use Rattle.ct_deleg.specs.Tracked.{Revocation}
 use Rattle.ct_vacuum.specs.Vacuum.{Vacuuming}
 use Rattle.ct_rules.specs.State.{is_nil, is_read_op, is_read_kind}
 use Rattle.ct_rules.specs.declared.state.Entry.{Entry}
@@ -360,7 +361,7 @@ module _ (rules : Rules) (ps : List ℕ) (m me : ℕ) (nodes : ℕ → Node) (fr
   unfolding Recalled Says
   recalled_low g n node x h s at = subst (λ b. Says g n node.copy node.next node.wish s.0.from s.0.to b) s.2 (h.frames s.0 s.1) at
 
-  covered_track : (k n : ℕ) (rs ns : List ℕ) (b : Bool) → rs ≡ ns → b ≡ false → (has_node k rs || b) ≡ true → (has_node k (placed n ns) || false) ≡ true
+  covered_track : (k n : ℕ) (rs ns : List ℕ) (b : Bool) → rs ≡ ns → b ≡ false → (has_node k rs || b) ≡ true → (has_node k (including n ns) || false) ≡ true
   covered_track k n rs ns b e f h =
       let z : (has_node k ns || false) ≡ true = subst (λ (x : List ℕ × Bool). (has_node k x.0 || x.1) ≡ true) (λ i. (e i, f i)) h in
       let t = has-track k n ns in grind arith
@@ -385,13 +386,13 @@ module _ (rules : Rules) (ps : List ℕ) (m me : ℕ) (nodes : ℕ → Node) (fr
   grant_holds x g o here unlocked idle calm asked h = cond_both (x.node == me) _ _ (λ y. Kept rules ps m me nodes frames r (send me m (Done x.node x.request) y))
       (λ _. (let k = read_here_holds x.request g o o.node.wish refl here unlocked h in done k.0 _ k.1))
       (λ t. (let ne : x.node ≢ me = eqb-false x.node me t in done _ _
-      (send_holds x.node (Grant x.request (rsn_of o.node.copy) (value_of o.node.copy)) more (with_node (record o.node { tracked = placed x.node o.node.tracked }) o) (λ _ _ _ _. refl) tracking
+      (send_holds x.node (Grant x.request (rsn_of o.node.copy) (value_of o.node.copy)) more (with_node (record o.node { tracked = including x.node o.node.tracked }) o) (λ _ _ _ _. refl) tracking
       (λ e. absurd (ne e))
       (λ n apart e. (let low = recalled_low g n (nodes n) x (h.good.others n apart) asked e in let k = rank_of o.node.copy here in let b = holds in record {
         low = low.0;
         apart = (λ z. ne (e ∙ sym z));
         below = omega arith;
-        current = λ w _ _ _. (subst (λ (k : ℕ). has_node k (placed x.node o.node.tracked) ≡ true) e (has-track_new x.node o.node.tracked), holds.1, sym k ∙ holds.0);
+        current = λ w _ _ _. (subst (λ (k : ℕ). has_node k (including x.node o.node.tracked) ≡ true) e (has-track_new x.node o.node.tracked), holds.1, sym k ∙ holds.0);
       })))))
     where
       at : (me ≡ g.entry.holder) × (g.entry.least < rank o.node.copy)
@@ -407,14 +408,14 @@ module _ (rules : Rules) (ps : List ℕ) (m me : ℕ) (nodes : ℕ → Node) (fr
       done g' y k = (_, send_holds m (Done x.node x.request) g' y (λ q s v is. absurd (cc)) k tt (λ _ _. tt))
 
       more : Ghost
-      more = tracks (placed x.node o.node.tracked) false g.top g
+      more = tracks (including x.node o.node.tracked) false g.top g
 
-      stays : (k : ℕ) → has_node k g.readers ≡ true → has_node k (placed x.node o.node.tracked) ≡ true
+      stays : (k : ℕ) → has_node k g.readers ≡ true → has_node k (including x.node o.node.tracked) ≡ true
       stays k a = has-track k x.node o.node.tracked (subst (λ l. has_node k l ≡ true) same.0 a)
 
-      tracking : Holds rules ps m me nodes frames r more (with_node (record o.node { tracked = placed x.node o.node.tracked }) o)
-      tracking = own_holds g more o (record o.node { tracked = placed x.node o.node.tracked }) here (global_tracks ps m g (placed x.node o.node.tracked) false g.top calm (omega arith) h.good.all)
-          (change_tracks g (placed x.node o.node.tracked) false g.top (inr (refl, λ a. absurd (let b = same.1 in cc))))
+      tracking : Holds rules ps m me nodes frames r more (with_node (record o.node { tracked = including x.node o.node.tracked }) o)
+      tracking = own_holds g more o (record o.node { tracked = including x.node o.node.tracked }) here (global_tracks ps m g (including x.node o.node.tracked) false g.top calm (omega arith) h.good.all)
+          (change_tracks g (including x.node o.node.tracked) false g.top (inr (refl, λ a. absurd (let b = same.1 in cc))))
           (record {
             here = here;
             up = omega arith;
@@ -429,12 +430,12 @@ module _ (rules : Rules) (ps : List ℕ) (m me : ℕ) (nodes : ℕ → Node) (fr
             wishes = λ w e. inl e;
             runs = λ v e. absurd (cc);
             quiet = λ _. idle;
-            readers = sym (ap (readers_of (placed x.node o.node.tracked)) idle);
+            readers = sym (ap (readers_of (including x.node o.node.tracked)) idle);
             revoking = sym (ap is_revoking idle);
-            granted = granted_to g (placed x.node o.node.tracked) false me o.node.copy o.node.wish (inl (stays me));
+            granted = granted_to g (including x.node o.node.tracked) false me o.node.copy o.node.wish (inl (stays me));
             seen = h.good.mine.seen;
           })
-          (λ n ne. shift_to g (placed x.node o.node.tracked) false n (nodes n) (covered_track n x.node g.readers o.node.tracked g.revoking same.0 same.1) (inl (stays n)) (h.good.others n ne))
+          (λ n ne. shift_to g (including x.node o.node.tracked) false n (nodes n) (covered_track n x.node g.readers o.node.tracked g.revoking same.0 same.1) (inl (stays n)) (h.good.others n ne))
           h.good.master (λ _. refl) refl h
 
   pub yield_holds : (g : Ghost) (o : Out) → is_here o.node.copy ≡ true → o.node.locked ≡ false → o.node.revoking ≡ None → g.vacuum ≡ None → Holds rules ps m me nodes frames r g o → Kept rules ps m me nodes frames r (yield_record me m o)

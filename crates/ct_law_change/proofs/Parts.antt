@@ -2,12 +2,13 @@
 use Rattle.std.proofs.Common.{◌≡◌, ◌≢◌, ◌⊎◌, ℕ, ◌+◌, ◌<◌, ◌≤◌, Bool, true, false, Option, Some, None, List, [], ◌∷◌, ◌++◌, length, take, refl, sym, ap, ◌∙◌, inl, inr, ⊎_elim, arith, subst, ◌||◌, cond, leb, length-append}
 use Rattle.std.proofs.lemmas.Bool.{lt-leb, le-leb}
 use Rattle.std.proofs.lemmas.List.{take-append-le}
+use Rattle.ct_deleg.specs.Awaited.{including}
 use Rattle.ct_law_fact.proofs.Invariant.{readers_of, is_revoking, Ghost, Ungranted, Emptied, Joined, Says, NodeInv, GlobalInv}
 use Rattle.ct_law_change.proofs.Holder.{Change, Shift, Granted}
 use Rattle.ct_law_change.proofs.Markings.{grows_top, grows_grown, marking_top, marking_grown}
 use Rattle.std.specs.Prelude.{List}
 use Rattle.ct_call.specs.Rules.{Rules}
-use Rattle.ct_deleg.specs.Tracked.{Revocation, placed}
+use Rattle.ct_deleg.specs.Tracked.{Revocation}
 use Rattle.ct_rules.specs.State.{is_nil}
 use Rattle.ct_register.specs.Register.{Register, reading}
 use Rattle.ct_register.specs.Words.{at as changed}
@@ -28,12 +29,12 @@ nil_none [] h = refl
 nil_none (x ∷ xs) h = absurd (cc)
 
 -- who tracks, still tracks
-pub has-track : (k n : ℕ) (ns : List ℕ) → has_node k ns ≡ true → has_node k (placed n ns) ≡ true
+pub has-track : (k n : ℕ) (ns : List ℕ) → has_node k ns ≡ true → has_node k (including n ns) ≡ true
 unfolding has_node
 has-track k n [] h = absurd (cc)
 has-track k n (m ∷ ms) h = grind (arith, has-track k n ms)
 
-pub has-track_new : (n : ℕ) (ns : List ℕ) → has_node n (placed n ns) ≡ true
+pub has-track_new : (n : ℕ) (ns : List ℕ) → has_node n (including n ns) ≡ true
 unfolding has_node
 has-track_new n [] = grind arith
 has-track_new n (m ∷ ms) = grind (arith, has-track_new n ms)

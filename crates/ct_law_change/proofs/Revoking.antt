@@ -1,6 +1,7 @@
 -- Revocations and copies for reading.
 use Rattle.std.proofs.Common.{◌≡◌, ◌≢◌, ◌⊎◌, ℕ, ◌+◌, ◌<◌, Bool, true, false, Option, Some, None, List, [], ◌∷◌, refl, sym, ap, ◌∙◌, inl, inr, ⊎_elim, arith, subst, not, ◌&&◌, ◌||◌, ◌==◌, nat_le, eqb-true, eq-eqb}
 use Rattle.std.proofs.lemmas.Bool.{and_parts, not-true, cond_both, cases_eq, false_from_ne_true}
+use Rattle.ct_bytes.specs.Words.{others}
 use Rattle.ct_law_fact.proofs.Invariant.{Start, Sent, readers_of, is_revoking, Ghost, Ungranted, RevokeAt, AckAt, Says, BodyAt, NodeInv, Holds, Kept}
 use Rattle.ct_law_fact.proofs.Nodes.{and_frame, NodeInv-called, called, rank_of, ungranted_new, NodeInv-stale, reading-stale, rank-stale}
 use Rattle.ct_law_fact.proofs.Copies.{NodeInv-granted, granted}
@@ -10,7 +11,7 @@ use Rattle.ct_law_change.proofs.Small.{reads_is_read}
 use Rattle.std.specs.Prelude.{List}
 use Rattle.ct_frame.specs.declared.frame.CallKind.TheVariants as kind
 use Rattle.ct_call.specs.Rules.{Rules}
-use Rattle.ct_deleg.specs.Tracked.{Revocation, others}
+use Rattle.ct_deleg.specs.Tracked.{Revocation}
 use Rattle.ct_rules.specs.State.{is_nil}
 use Rattle.ct_rules.specs.declared.state.Entry.{Entry}
 use Rattle.ct_law_fact.proofs.Rule.{risen, reads, is_kind_here, Body, Call, Copy, For_reading, Frame, Grant, Here, Node, Out, Revoke, RevokeAck, Wish, end_revocation, end_wish, has_node, is_here, is_reading, is_wish, on_ack, on_grant, on_revoke, rank, reads_op, rsn_of, send, stale, value_of, with_node}

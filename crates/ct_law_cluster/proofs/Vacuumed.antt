@@ -3,13 +3,19 @@ use Rattle.std.proofs.Common.{◌≡◌, ℕ, zero, suc, ◌+◌, ◌<◌, Bool,
 use Rattle.std.specs.Prelude.{Contains, Ok, nat_eq, nat_lt, not, slice_get}
 use Rattle.std.proofs.lemmas.Bool.{cond_both, eqb-true, eq-eqb, ltb-true, and_parts}
 use Rattle.std.proofs.lemmas.List.Elements.{All-contains, filter_passes}
+use Rattle.std.specs.Cmp.{nat_cmp_is, nat_cmp_total}
+use Rattle.std.specs.List.{AllByRecursion}
+use Rattle.std.specs.List.Sorted.{IsStrictlyIncreasing, IsStrictlySortedBy}
+use Rattle.std.specs.Ordering.{nat_cmp}
+use Rattle.std.specs.declared.cmp.Ordering.TheVariants.{Less}
+use Rattle.std.proofs.lemmas.Map.Keys.{IsStrictlyIncreasing-from_sorted}
+use Rattle.ct_bytes.specs.Words.{others}
 use Rattle.ct_msg.specs.declared.client.Answer.{Answer}
 use Rattle.ct_msg.specs.declared.client.ClientOp.{ClientOp}
 use Rattle.ct_msg.specs.declared.config.Config.{Config}
 use Rattle.ct_frame.specs.Fields.{ascends, ascends_after, is_db}
 use Rattle.ct_frame.specs.declared.event.Event.TheVariants as node_event
 use Rattle.ct_call.specs.Rules.{Rules}
-use Rattle.ct_deleg.specs.Tracked.{Ascends, AscendsFrom, others}
 use Rattle.ct_deleg.proofs.Nodes.{ascends_others}
 use Rattle.ct_store.specs.Map.{Pairs}
 use Rattle.ct_rules.specs.Moves.{vacuum}
@@ -73,20 +79,29 @@ asks_amid g s n w calls t u asks f = asks_on s (amid g s.db s.key n w t) (amid g
 
 -- ---- the members but this one
 
-ascends_on : (x : ℕ) (ns : List ℕ) → ascends_after nat_lt x ns ≡ true → AscendsFrom (x + 1) ns
-ascends_on x [] e = tt
-ascends_on x (n ∷ ns) e = (let p = and_parts _ _ e in let l = ltb-true x n p.0 in (omega arith, ascends_on n ns p.1))
+less : (a b : ℕ) → nat_lt a b ≡ true → nat_cmp a b ≡ Less
+less a b h = sym (nat_cmp_is a b Less (ltb-true a b h))
 
-ascends_so : (ns : List ℕ) → ascends nat_lt ns ≡ true → AscendsFrom 0 ns
-ascends_so [] e = tt
-ascends_so (n ∷ ns) e = (omega arith, ascends_on n ns e)
+above : (a b : ℕ) (ns : List ℕ) → nat_cmp a b ≡ Less → AllByRecursion (λ n. nat_cmp b n ≡ Less) ns → AllByRecursion (λ n. nat_cmp a n ≡ Less) ns
+above a b [] l h = tt
+above a b (n ∷ ns) l h = (nat_cmp_total.trans a b n l h.0, above a b ns l h.1)
+
+sorted_on : (x : ℕ) (ns : List ℕ) → ascends_after nat_lt x ns ≡ true → AllByRecursion (λ n. nat_cmp x n ≡ Less) ns × IsStrictlySortedBy nat_cmp ns
+unfolding IsStrictlySortedBy
+sorted_on x [] e = (tt, tt)
+sorted_on x (n ∷ ns) e = (let p = and_parts _ _ e in let l = less x n p.0 in let s = sorted_on n ns p.1 in ((l, above x n ns l s.0), s))
+
+sorted_so : (ns : List ℕ) → ascends nat_lt ns ≡ true → IsStrictlySortedBy nat_cmp ns
+unfolding IsStrictlySortedBy
+sorted_so [] e = tt
+sorted_so (n ∷ ns) e = sorted_on n ns e
 
 not_there : (n : ℕ) (ns : List ℕ) → ¬ (Contains (others n ns) n)
 not_there n ns h = (let p : not (nat_eq n n) ≡ true = All-contains (λ m. not (nat_eq m n) ≡ true) (others n ns) n (filter_passes (λ m. not (nat_eq m n)) ns) h in
     let q = eq-eqb n n refl in absurd (let r = ap not q in let z = sym r ∙ p in cc))
 
-pub others_come : (members : List ℕ) (n : ℕ) → ascends nat_lt members ≡ true → Ascends (others n members) × ¬ (Contains (others n members) n)
-others_come members n up = (ascends_others n 0 members (ascends_so members up), not_there n members)
+pub others_come : (members : List ℕ) (n : ℕ) → ascends nat_lt members ≡ true → IsStrictlyIncreasing (others n members) × ¬ (Contains (others n members) n)
+others_come members n up = (ascends_others n members (IsStrictlyIncreasing-from_sorted members (sorted_so members up)), not_there n members)
 
 -- ---- the calls that wait
 
@@ -152,7 +167,7 @@ unfolding KnownAt state_at node.view
 vacuum_comes c era rules who calls n db key pend w t is small h there all asks spent = record {
   has = small;
   there = there;
-  may = subst (λ (ms : List ℕ). Ascends (others n ms) × ¬ (Contains (others n ms) n)) (sym h.knows) (others_come era.members n is.ascend);
+  may = subst (λ (ms : List ℕ). IsStrictlyIncreasing (others n ms) × ¬ (Contains (others n ms) n)) (sym h.knows) (others_come era.members n is.ascend);
   from = refl;
   whole = whole_part c n db key (vacuumed n t) t spent;
   known = vacuum_wish (Known who calls n db key) (place_of c n db key t.node) (others n t.node.members) (node.view db key t.node) ((h.known.dbs db).records key);

@@ -2,6 +2,7 @@
 use Rattle.std.proofs.Common.{◌≡◌, ◌≢◌, ℕ, ◌+◌, Bool, true, false, List, [], ◌∷◌, length, Option, Some, None, refl, sym, ap, ◌∙◌, subst, ⊎_elim}
 use Rattle.std.specs.Prelude.{nat_lt, Result, Ok, Err}
 use Rattle.std.proofs.lemmas.Bool.{cond_both, cases_eq, ltb-true, ltb-false}
+use Rattle.ct_bytes.specs.Words.{others}
 use Rattle.ct_msg.specs.declared.client.ClientOp.{ClientOp}
 use Rattle.ct_msg.specs.declared.client.ClientOp.TheVariants as op
 use Rattle.ct_msg.specs.declared.client.Why.{Why}
@@ -13,7 +14,6 @@ use Rattle.ct_frame.specs.declared.frame.Msg.{Msg}
 use Rattle.ct_frame.specs.declared.frame.Msg.TheVariants as msg
 use Rattle.ct_call.specs.Rules.{Rules}
 use Rattle.ct_store.specs.Map.{Pairs, look}
-use Rattle.ct_deleg.specs.Tracked.{others}
 use Rattle.ct_rules.specs.Parts.{Moving, want}
 use Rattle.ct_rules.specs.Moves.{call_again, revoke_again}
 use Rattle.ct_rules.specs.declared.event.Place.{Place}

@@ -1,20 +1,24 @@
 -- Small lemmas of a vacuum: whom it misses, its phases, and copies that are absent or far enough.
 use Rattle.std.proofs.Common.{◌≡◌, ◌≢◌, ◌⊎◌, ℕ, ◌≤◌, Bool, true, false, Option, Some, None, List, [], ◌∷◌, refl, ap, inl, inr, ⊎_elim, arith, ◌&&◌, ◌==◌, eqb-true}
 use Rattle.std.proofs.lemmas.Bool.{and_parts, cases_eq, false_from_ne_true}
+use Rattle.ct_bytes.specs.Words.{is_nil, others}
+use Rattle.ct_bytes.proofs.Words.{nil_is}
+use Rattle.ct_deleg.specs.Awaited.{is_last}
 use Rattle.ct_law_fact.proofs.Invariant.{Past}
 use Rattle.ct_law_change.proofs.Revoking.{has-without}
-use Rattle.std.specs.Prelude.{List}
-use Rattle.ct_vacuum.specs.Vacuum.{Vacuuming, is_phase, awaits, without, is_last, is_none as is_none_left}
+use Rattle.std.specs.Prelude.{List, nat_eq}
+use Rattle.std.specs.List.{list_any}
+use Rattle.ct_vacuum.specs.Vacuum.{Vacuuming, is_phase, is_in, ends_phase}
 use Rattle.ct_vacuum.specs.declared.vacuum.VacuumPhase.{VacuumPhase}
 use Rattle.ct_vacuum.specs.declared.vacuum.VacuumPhase.TheVariants.{Storing, Deleting}
 use Rattle.ct_law_fact.proofs.Rule.{is_storing, Copy, has_node, rank, value_of}
 
-pub fewer_has : (k n : ℕ) (ns : List ℕ) → has_node k ns ≡ false → has_node k (without n ns) ≡ false
+pub fewer_has : (k n : ℕ) (ns : List ℕ) → has_node k ns ≡ false → has_node k (others n ns) ≡ false
 unfolding has_node
 fewer_has k n [] h = refl
 fewer_has k n (m ∷ ms) h = grind (arith, fewer_has k n ms)
 
-pub not_has : (k n : ℕ) (ns : List ℕ) → k ≢ n → has_node k (without n ns) ≡ false → has_node k ns ≡ false
+pub not_has : (k n : ℕ) (ns : List ℕ) → k ≢ n → has_node k (others n ns) ≡ false → has_node k ns ≡ false
 not_has k n ns ne e = false_from_ne_true _ (λ t. (let a = has-without k n ns ne t in cc))
 
 pub bool_true : (b : Bool) → (b ≡ false → ⊥) → b ≡ true
@@ -49,18 +53,13 @@ unfolding is_storing
 phase_deleting Storing h = absurd (cc)
 phase_deleting Deleting h = refl
 
-pub none_left : (l : List ℕ) → is_none_left l ≡ true → l ≡ []
-none_left [] h = refl
-none_left (x ∷ xs) h = absurd (cc)
-
-pub awaits_parts : (phase : VacuumPhase) (n rsn : ℕ) (v : Vacuuming) → awaits phase n rsn v ≡ true → (is_phase phase v.phase ≡ true) × (v.rsn ≡ rsn)
-awaits_parts phase n rsn v t =
-    let p = and_parts (is_phase phase v.phase && (v.rsn == rsn)) _ t in
-    let q = and_parts (is_phase phase v.phase) (v.rsn == rsn) p.0 in
+pub in_parts : (phase : VacuumPhase) (rsn : ℕ) (v : Vacuuming) → is_in phase rsn v ≡ true → (is_phase phase v.phase ≡ true) × (v.rsn ≡ rsn)
+in_parts phase rsn v t =
+    let q = and_parts (is_phase phase v.phase) (v.rsn == rsn) t in
     (q.0, eqb-true v.rsn rsn q.1)
 
-pub last_parts : (phase : VacuumPhase) (n rsn : ℕ) (v : Vacuuming) → is_last phase n rsn v ≡ true → (is_phase phase v.phase ≡ true) × (v.rsn ≡ rsn) × (without n v.missing ≡ [])
+pub last_parts : (phase : VacuumPhase) (n rsn : ℕ) (v : Vacuuming) → ends_phase phase n rsn v ≡ true → (is_phase phase v.phase ≡ true) × (v.rsn ≡ rsn) × (others n v.missing ≡ [])
 last_parts phase n rsn v t =
-    let p = and_parts (awaits phase n rsn v) (is_none_left (without n v.missing)) t in
-    let q = awaits_parts phase n rsn v p.0 in
-    (q.0, q.1, none_left (without n v.missing) p.1)
+    let p = and_parts (is_in phase rsn v) (is_last n v.missing) t in
+    let q = in_parts phase rsn v p.0 in
+    (q.0, q.1, nil_is (others n v.missing) (and_parts (list_any (nat_eq n) v.missing) (is_nil (others n v.missing)) p.1).1)

@@ -1,6 +1,7 @@
 -- The frames of a vacuum, and the vacuum event.
 use Rattle.std.proofs.Common.{◌≡◌, ◌≢◌, ℕ, ◌+◌, ◌<◌, ◌≤◌, true, false, Option, Some, None, List, [], ◌∷◌, take, refl, sym, ap, ◌∙◌, inl, inr, ⊎_elim, arith, subst, ◌&&◌, ◌==◌, eqb-true}
 use Rattle.std.proofs.lemmas.Bool.{and_parts, cond_both, cases_eq, eq-eqb, eqb-false, false_from_ne_true}
+use Rattle.ct_bytes.specs.Words.{others}
 use Rattle.ct_law_fact.proofs.Invariant.{span_of, Start, readers_of, Ghost, Past, Emptied, Joined, VStoreAt, VDeleteAt, Says, VacuumAt, NodeInv, Emptying, GlobalInv, Holds, Kept}
 use Rattle.ct_law_fact.proofs.Nodes.{rank_of, past_none}
 use Rattle.ct_law_fact.proofs.Copies.{touched, NodeInv-raised, NodeInv-dropped, raised_past, dropped_past, lt_cases, whole_reading}
@@ -10,11 +11,11 @@ use Rattle.ct_law_change.proofs.Parts.{nil_none, nobody_has, readers_idle, grant
 use Rattle.ct_law_change.proofs.Acts.{send_holds, node_holds, own_holds, Others, master_copy, calm_other, below_top, give_holds, free_parts}
 use Rattle.ct_law_change.proofs.Revoking.{risen_is, Came}
 use Rattle.ct_law_event.proofs.Finish.{finish_holds}
-use Rattle.ct_law_event.proofs.Phases.{fewer_has, not_has, bool_true, rank_none, none_rank, value_none, past_is, phase_storing, phase_deleting, awaits_parts, last_parts}
+use Rattle.ct_law_event.proofs.Phases.{fewer_has, not_has, bool_true, rank_none, none_rank, value_none, past_is, phase_storing, phase_deleting, in_parts, last_parts}
 use Rattle.std.specs.Prelude.{is_none, List}
 use Rattle.ct_call.specs.Rules.{Rules}
 use Rattle.ct_deleg.specs.Tracked.{Revocation}
-use Rattle.ct_vacuum.specs.Vacuum.{Vacuuming, begun, awaits, without, acknowledged, is_last, stored, deleting as in_deleting}
+use Rattle.ct_vacuum.specs.Vacuum.{Vacuuming, vacuum_begun, is_in, done_by, ends_phase, stored, deleting as in_deleting}
 use Rattle.ct_vacuum.specs.declared.vacuum.VacuumPhase.{VacuumPhase}
 use Rattle.ct_vacuum.specs.declared.vacuum.VacuumPhase.TheVariants.{Storing, Deleting}
 use Rattle.ct_rules.specs.State.{is_nil}
@@ -280,15 +281,15 @@ module _ (rules : Rules) (ps : List ℕ) (m me : ℕ) (nodes : ℕ → Node) (fr
 
   -- an acknowledgement of the running phase
   less_holds : (phase : VacuumPhase) (x rsn : ℕ) (g : Ghost) (o : Out) (v : Vacuuming) → o.node.vacuum ≡ Some v → me ≡ m →
-      (awaits phase x rsn v ≡ true → (n : ℕ) → n ≢ me → VacuumAt (record v { missing = without x v.missing }) n (nodes n).copy) → Holds rules ps m me nodes frames r g o →
-      Kept rules ps m me nodes frames r (Rule.set_vacuum (acknowledged phase x rsn v) o)
+      (is_in phase rsn v ≡ true → (n : ℕ) → n ≢ me → VacuumAt (record v { missing = others x v.missing }) n (nodes n).copy) → Holds rules ps m me nodes frames r g o →
+      Kept rules ps m me nodes frames r (Rule.set_vacuum (done_by phase x rsn v) o)
   unfolding Rule.set_vacuum
-  less_holds phase x rsn g o v is at each h = cond_both (awaits phase x rsn v) (record v { missing = without x v.missing }) v (λ (y : Vacuuming). Kept rules ps m me nodes frames r (Rule.set_vacuum y o))
-      (λ t. (_, missing_holds v (without x v.missing) g o at (fewer_has m x v.missing) (runs_is g o v at is h) (each t) h))
+  less_holds phase x rsn g o v is at each h = cond_both (is_in phase rsn v) (record v { missing = others x v.missing }) v (λ (y : Vacuuming). Kept rules ps m me nodes frames r (Rule.set_vacuum y o))
+      (λ t. (_, missing_holds v (others x v.missing) g o at (fewer_has m x v.missing) (runs_is g o v at is h) (each t) h))
       (λ _. same_holds v g o is h)
 
   past_stored : (x rsn : ℕ) (g : Ghost) (o : Out) (v : Vacuuming) → g.vacuum ≡ Some v → v.rsn ≡ rsn → is_storing v.phase ≡ true → Came rules ps m me nodes frames r g o x (VStored rsn) → Holds rules ps m me nodes frames r g o →
-      (n : ℕ) → n ≢ me → has_node n (without x v.missing) ≡ false → Past (v.rsn + 1) (nodes n).copy
+      (n : ℕ) → n ≢ me → has_node n (others x v.missing) ≡ false → Past (v.rsn + 1) (nodes n).copy
   unfolding Says
   past_stored x rsn g o v running same phase came h n ne e = ⊎_elim
       (λ (j : n ≡ x). subst (λ (q : ℕ). Past (q + 1) (nodes n).copy) (sym same) (came.1 n ne (sym j)).past)
@@ -296,7 +297,7 @@ module _ (rules : Rules) (ps : List ℕ) (m me : ℕ) (nodes : ℕ → Node) (fr
       (cases_eq n x)
 
   past_deleted : (x rsn : ℕ) (g : Ghost) (o : Out) (v : Vacuuming) → g.vacuum ≡ Some v → v.rsn ≡ rsn → is_storing v.phase ≡ false → Came rules ps m me nodes frames r g o x (VDeleted rsn) → Holds rules ps m me nodes frames r g o →
-      (n : ℕ) → n ≢ me → has_node n (without x v.missing) ≡ false → Past (v.rsn + 2) (nodes n).copy
+      (n : ℕ) → n ≢ me → has_node n (others x v.missing) ≡ false → Past (v.rsn + 2) (nodes n).copy
   unfolding Says
   past_deleted x rsn g o v running same phase came h n ne e = ⊎_elim
       (λ (j : n ≡ x). subst (λ (q : ℕ). Past (q + 2) (nodes n).copy) (sym same) (came.1 n ne (sym j)).past)
@@ -307,7 +308,7 @@ module _ (rules : Rules) (ps : List ℕ) (m me : ℕ) (nodes : ℕ → Node) (fr
       Kept rules ps m me nodes frames r (Rule.on_vstored me x rsn o vac)
   unfolding Rule.on_vstored
   on_vstored_holds x rsn g o None is at outside came h = (g, h)
-  on_vstored_holds x rsn g o (Some v) is at outside came h = cond_both (is_last Storing x rsn v) _ _ (Kept rules ps m me nodes frames r)
+  on_vstored_holds x rsn g o (Some v) is at outside came h = cond_both (ends_phase Storing x rsn v) _ _ (Kept rules ps m me nodes frames r)
       (λ t.
       let p = last_parts Storing x rsn v t in
       let running = runs_is g o v at is h in
@@ -317,10 +318,10 @@ module _ (rules : Rules) (ps : List ℕ) (m me : ℕ) (nodes : ℕ → Node) (fr
       (start_deleting_holds v g o at running outside (λ n ne. past_stored x rsn g o v running p.1 (phase_storing v.phase p.0) came h n ne (ap (has_node n) p.2 ∙ has_none n)) h)))
       (λ f.
       let running = runs_is g o v at is h in
-      let after : stored x rsn v ≡ acknowledged Storing x rsn v = rw f refl in
+      let after : stored x rsn v ≡ done_by Storing x rsn v = rw f refl in
       subst (λ (y : Vacuuming). Kept rules ps m me nodes frames r (Rule.set_vacuum y o)) (sym after)
       (less_holds Storing x rsn g o v is at
-      (λ t n ne. (let p = awaits_parts Storing x rsn v t in let phase = phase_storing v.phase p.0 in record {
+      (λ t n ne. (let p = in_parts Storing rsn v t in let phase = phase_storing v.phase p.0 in record {
         storing = λ _ b. past_stored x rsn g o v running p.1 phase came h n ne b;
         deleted = λ a. absurd (let z : is_storing v.phase ≡ false = a in cc);
       })) h))
@@ -329,7 +330,7 @@ module _ (rules : Rules) (ps : List ℕ) (m me : ℕ) (nodes : ℕ → Node) (fr
       Kept rules ps m me nodes frames r (Rule.on_vdeleted me x rsn o vac)
   unfolding Rule.on_vdeleted
   on_vdeleted_holds x rsn g o None is at came h = (g, h)
-  on_vdeleted_holds x rsn g o (Some v) is at came h = cond_both (is_last Deleting x rsn v) _ _ (Kept rules ps m me nodes frames r)
+  on_vdeleted_holds x rsn g o (Some v) is at came h = cond_both (ends_phase Deleting x rsn v) _ _ (Kept rules ps m me nodes frames r)
       (λ t.
       let p = last_parts Deleting x rsn v t in
       let same = p.1 in
@@ -348,18 +349,18 @@ module _ (rules : Rules) (ps : List ℕ) (m me : ℕ) (nodes : ℕ → Node) (fr
       (λ _.
       let running = runs_is g o v at is h in
       less_holds Deleting x rsn g o v is at
-      (λ t n ne. (let p = awaits_parts Deleting x rsn v t in let phase = phase_deleting v.phase p.0 in record {
+      (λ t n ne. (let p = in_parts Deleting rsn v t in let phase = phase_deleting v.phase p.0 in record {
         storing = λ a. absurd (let z : is_storing v.phase ≡ true = a in cc);
         deleted = λ _ b. past_deleted x rsn g o v running p.1 phase came h n ne b;
       })) h)
 
   -- a vacuum begins
   start_storing_holds : (g : Ghost) (o : Out) → has_node m ps ≡ false → me ≡ m → g.vacuum ≡ None → Formed o → value_of o.node.copy ≡ [] → Apart → Holds rules ps m me nodes frames r g o →
-      Kept rules ps m me nodes frames r (send_all me ps (VStore (rsn_of o.node.copy)) (with_node (record o.node { copy = risen o.node.copy; vacuum = Some (begun (rsn_of o.node.copy) ps) }) o))
+      Kept rules ps m me nodes frames r (send_all me ps (VStore (rsn_of o.node.copy)) (with_node (record o.node { copy = risen o.node.copy; vacuum = Some (vacuum_begun (rsn_of o.node.copy) ps) }) o))
   unfolding Others is_storing Emptied rank is_here Rule.is_kind_here value_of
   start_storing_holds g o peers at calm form empty outside h =
       let rsn = rsn_of o.node.copy in
-      let v : Vacuuming = begun rsn ps in
+      let v : Vacuuming = vacuum_begun rsn ps in
       let copy : Option Copy = Some (record { rsn = rsn + 1; kind = Here; value = value_of o.node.copy }) in
       let same = rank_of o.node.copy form.0 in
       let up = h.good.mine.here form.0 in
@@ -370,7 +371,7 @@ module _ (rules : Rules) (ps : List ℕ) (m me : ℕ) (nodes : ℕ → Node) (fr
       let all = h.good.all in
       let g' = record g { top = g.top + 1; vacuum = Some v } in
       let past : reading (take (g.place (rsn + 1)) g.register.versions) ≡ [] = sym (whole_reading ps m g (rsn + 1) all (omega arith)) ∙ sym holds.1 ∙ empty in
-      subst (λ (c : Option Copy). Kept rules ps m me nodes frames r (send_all me ps (VStore rsn) (with_node (record o.node { copy = c; vacuum = Some (begun rsn ps) }) o))) (sym (risen_is o.node.copy form.0))
+      subst (λ (c : Option Copy). Kept rules ps m me nodes frames r (send_all me ps (VStore rsn) (with_node (record o.node { copy = c; vacuum = Some (vacuum_begun rsn ps) }) o))) (sym (risen_is o.node.copy form.0))
       (store_all ps rsn g' _ (subst (λ (x : ℕ). has_node x ps ≡ false) (sym at) peers) (omega arith) past
       (own_holds rules ps m me nodes frames r g g' o (record o.node { copy = copy; vacuum = Some v }) form.0
       (record {
@@ -419,7 +420,7 @@ module _ (rules : Rules) (ps : List ℕ) (m me : ℕ) (nodes : ℕ → Node) (fr
       finish_holds rules ps m me nodes frames r (rsn_of o.node.copy) g o at form.0 form.1 form.2 form.3 empty (omega arith)
       (λ n ne. outside n ne (ap (has_node n) (sym is) ∙ has_none n)) h
   begin_holds (n ∷ ns) g o peers is at calm form empty outside h =
-      subst (λ (l : List ℕ). Kept rules ps m me nodes frames r (send_all me l (VStore (rsn_of o.node.copy)) (with_node (record o.node { copy = risen o.node.copy; vacuum = Some (begun (rsn_of o.node.copy) l) }) o))) (sym is)
+      subst (λ (l : List ℕ). Kept rules ps m me nodes frames r (send_all me l (VStore (rsn_of o.node.copy)) (with_node (record o.node { copy = risen o.node.copy; vacuum = Some (vacuum_begun (rsn_of o.node.copy) l) }) o))) (sym is)
       (start_storing_holds g o peers at calm form empty outside h)
 
   vacuum_of_holds : (g : Ghost) (o : Out) (vac : Option Vacuuming) → has_node m ps ≡ false → o.node.vacuum ≡ vac → me ≡ m → Formed o → value_of o.node.copy ≡ [] → Apart → Holds rules ps m me nodes frames r g o →

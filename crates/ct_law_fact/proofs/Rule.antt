@@ -1,6 +1,8 @@
 -- One record as its law sees it: the rules of ct_rules, part by part, over what the facts of the law speak of.
 use Rattle.std.specs.Prelude.{ℕ, ◌+◌, ◌-◌, Bool, true, false, not, ◌&&◌, ◌||◌, ◌==◌, nat_lt, nat_le, if◌then◌else◌, Option, Some, None, is_none, List, [], ◌∷◌, ◌++◌, Result, Ok, Err}
 use Rattle.std.specs.List.{list_any}
+use Rattle.ct_bytes.specs.Words.{others}
+use Rattle.ct_deleg.specs.Awaited.{including}
 use Rattle.ct_msg.specs.declared.client.Answer.TheVariants as answer
 use Rattle.ct_msg.specs.declared.client.ClientOp.{ClientOp}
 use Rattle.ct_msg.specs.declared.client.ClientOp.TheVariants as op
@@ -11,8 +13,8 @@ use Rattle.ct_call.specs.Rules.{Rules}
 use Rattle.ct_call.specs.Table.{applied}
 use Rattle.ct_call.specs.declared.fault.CallFault.{CallFault}
 use Rattle.ct_call.specs.declared.fault.CallFault.TheVariants as fault
-use Rattle.ct_deleg.specs.Tracked.{Revocation, placed, others}
-use Rattle.ct_vacuum.specs.Vacuum.{Vacuuming, begun, is_last, stored, deleted}
+use Rattle.ct_deleg.specs.Tracked.{Revocation}
+use Rattle.ct_vacuum.specs.Vacuum.{Vacuuming, vacuum_begun, ends_phase, stored, deleted}
 use Rattle.ct_vacuum.specs.declared.vacuum.VacuumPhase.{VacuumPhase}
 use Rattle.ct_vacuum.specs.declared.vacuum.VacuumPhase.TheVariants.{Storing, Deleting}
 use Rattle.ct_rules.specs.State.{is_nil, is_read_op, is_read_kind, kind_of}
@@ -206,7 +208,7 @@ grant me master r o =
     send me master (Done r.node r.request)
     (if r.node == me
     then read_here me r.request o o.node.wish
-    else send me r.node (Grant r.request (rsn_of o.node.copy) (value_of o.node.copy)) (with_node (record o.node { tracked = placed r.node o.node.tracked }) o))
+    else send me r.node (Grant r.request (rsn_of o.node.copy) (value_of o.node.copy)) (with_node (record o.node { tracked = including r.node o.node.tracked }) o))
 
 -- Handle a recall of kind Lock
 unfoldable pub yield_record : ℕ → ℕ → Out → Out
@@ -456,12 +458,12 @@ set_vacuum v o = with_node (record o.node { vacuum = Some v }) o
 unfoldable pub on_vstored : ℕ → ℕ → ℕ → Out → Option Vacuuming → Out
 on_vstored me n rsn o None = o
 on_vstored me n rsn o (Some v) =
-    if is_last Storing n rsn v then send_all me v.others (VDelete rsn) (set_vacuum (stored n rsn v) o) else set_vacuum (stored n rsn v) o
+    if ends_phase Storing n rsn v then send_all me v.others (VDelete rsn) (set_vacuum (stored n rsn v) o) else set_vacuum (stored n rsn v) o
 
 unfoldable pub on_vdeleted : ℕ → ℕ → ℕ → Out → Option Vacuuming → Out
 on_vdeleted me n rsn o None = o
 on_vdeleted me n rsn o (Some v) =
-    if is_last Deleting n rsn v then finish me rsn o else set_vacuum (deleted n rsn v) o
+    if ends_phase Deleting n rsn v then finish me rsn o else set_vacuum (deleted n rsn v) o
 
 unfoldable pub phase_frame : ℕ → VacuumPhase → Body
 phase_frame rsn Storing = VStore rsn
@@ -475,7 +477,7 @@ unfoldable pub begin_vacuum : ℕ → Out → List ℕ → Out
 begin_vacuum me o [] = finish me (rsn_of o.node.copy) o
 begin_vacuum me o (n ∷ ns) = send_all me (n ∷ ns) (VStore (rsn_of o.node.copy)) (with_node (record o.node {
   copy = risen o.node.copy;
-  vacuum = Some (begun (rsn_of o.node.copy) (n ∷ ns));
+  vacuum = Some (vacuum_begun (rsn_of o.node.copy) (n ∷ ns));
 }) o)
 
 unfoldable pub vacuum_of : ℕ → List ℕ → Out → Option Vacuuming → Out

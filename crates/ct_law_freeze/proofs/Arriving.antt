@@ -2,6 +2,7 @@
 use Rattle.std.proofs.Common.{◌≡◌, ◌≢◌, ℕ, Bool, true, false, cond, ◌&&◌, ◌||◌, List, [], ◌∷◌, ◌++◌, append-nil, append_assoc, inl, inr, ⊎_elim, refl, sym, ap, ◌∙◌, subst}
 use Rattle.std.specs.List.{AllByRecursion}
 use Rattle.std.proofs.lemmas.Bool.{cases_eq, and_parts}
+use Rattle.ct_bytes.specs.Words.{others}
 use Rattle.ct_msg.specs.declared.config.Config.{Config}
 use Rattle.ct_frame.specs.declared.event.Event.TheVariants as event
 use Rattle.ct_frame.specs.declared.event.Out.TheVariants as out
@@ -25,7 +26,6 @@ use Rattle.ct_rules_node.specs.Node.{Nothing}
 use Rattle.ct_law_freeze.proofs.Turning.{was_said}
 use Rattle.std.specs.Prelude.{nat_eq, nat_lt}
 use Rattle.std.proofs.lemmas.Bool.{eqb-true}
-use Rattle.ct_deleg.specs.Tracked.{others}
 use Rattle.ct_merge.specs.Gathered.{nothing}
 use Rattle.ct_rules_node.specs.Node.{Freezes, Pulls, Installs, Completed, is_frozen_in}
 use Rattle.ct_rules_node.specs.Rounds.{on_freeze, on_freezeack, all_frozen}

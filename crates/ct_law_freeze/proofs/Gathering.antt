@@ -1,5 +1,6 @@
 -- A PullReply while others are missing: it is gathered.
 use Rattle.std.proofs.Common.{◌≡◌, ◌≢◌, ℕ, Bool, true, false, cond, ◌&&◌, List, [], ◌∷◌, ◌++◌, inl, inr, ⊎_elim, refl, sym, ap, ◌∙◌, subst}
+use Rattle.ct_bytes.specs.Words.{others}
 use Rattle.ct_msg.specs.declared.config.Config.{Config}
 use Rattle.ct_frame.specs.declared.event.Event.TheVariants as event
 use Rattle.ct_frame.specs.declared.frame.Frame.{Frame}
@@ -20,7 +21,6 @@ use Rattle.ct_law_freeze.proofs.Freezing.{HasCome}
 use Rattle.ct_rules_node.specs.Node.{Nothing}
 use Rattle.std.specs.Prelude.{◌⊎◌, nat_eq, nat_lt}
 use Rattle.std.proofs.lemmas.Bool.{eqb-true}
-use Rattle.ct_deleg.specs.Tracked.{others}
 use Rattle.ct_frame.specs.declared.frame.TableRow.{TableRow}
 use Rattle.ct_merge.specs.Gathered.{Gathered, nothing, gathered_all}
 use Rattle.ct_rules_node.specs.Node.{Freezes, Pulls, Installs, Completed}

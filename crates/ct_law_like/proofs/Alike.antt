@@ -2,6 +2,7 @@
 use Rattle.std.proofs.Common.{◌≡◌, ◌≢◌, ℕ, Bool, true, false, cond, Option, Some, None, List, [], ◌∷◌, refl, sym, ap, ◌∙◌, arith, not}
 use Rattle.std.proofs.lemmas.Bool.{cond_both}
 use Rattle.std.specs.Prelude.{is_none, is_some, nat_eq, Result, Ok, Err}
+use Rattle.ct_deleg.specs.Awaited.{including}
 use Rattle.ct_msg.specs.declared.client.Answer.TheVariants as answer
 use Rattle.ct_msg.specs.declared.client.ClientOp.{ClientOp}
 use Rattle.ct_msg.specs.declared.client.ClientOp.TheVariants as op
@@ -23,7 +24,7 @@ use Rattle.ct_rules.specs.declared.state.Wish.{Wish}
 use Rattle.ct_law_world.specs.Labels.{Told}
 use Rattle.ct_law_fact.proofs.Rule
 use Rattle.ct_law_fact.proofs.Rule.{Out}
-use Rattle.ct_deleg.specs.Tracked.{Tracked, added, begun, placed}
+use Rattle.ct_deleg.specs.Tracked.{Tracked, added, revocation_begun}
 use Rattle.ct_law_like.proofs.Likeness.{copy_of, wish_of, body_of, out_of, FineAt, like_send, like_send_all, like_reply, rsn_like, value_like, with_value_like, gives_like, flags_like, own_like, free_like, wished_like}
 
 pub none_is_not_some : {X : Type 0} → (x : Option X) → is_none x ≡ not (is_some x)
@@ -94,7 +95,7 @@ module _ (at : Place) (asks : ℕ → Option ClientOp) (ne : at.me ≢ nobody) w
 
   pub like_revoke : (o : Moving) → State.is_mastered at.me o.state.copy ≡ true → Rule.is_odd (copy_of at.me o.state.copy) ≡ false → out_of at asks (Parts.revoke at o) ≡ Rule.revoke at.me (out_of at asks o)
   unfolding Parts.revoke Parts.keeps Rule.revoke Rule.with_node body_of
-  like_revoke o held even = like_send_all at asks o.state.tracking.tracked (msg.Revoke at.db at.key (State.rsn_of o.state.copy)) (Parts.keeps (record o.state { copy = State.with_flags being_revoked o.state.copy; tracking = begun (State.rsn_of o.state.copy) o.state.tracking }) o)
+  like_revoke o held even = like_send_all at asks o.state.tracking.tracked (msg.Revoke at.db at.key (State.rsn_of o.state.copy)) (Parts.keeps (record o.state { copy = State.with_flags being_revoked o.state.copy; tracking = revocation_begun (State.rsn_of o.state.copy) o.state.tracking }) o)
       ∙ (λ i. Rule.send_all at.me o.state.tracking.tracked (Rule.Revoke (rsn_like at.me o.state.copy i)) (Rule.with_node (record (out_of at asks o).node { copy = flags_like at.me being_revoked o.state.copy (λ e. absurd (cc)) held even i; revoking = Some (record { rsn = rsn_like at.me o.state.copy i; missing = o.state.tracking.tracked }) }) (out_of at asks o)))
 
   like_read_here : (q : ℕ) (o : Moving) (w : Option Wish) → ((v : Wish) → w ≡ Some v → asks v.call ≡ Some v.op) → out_of at asks (Parts.read_here at q o w) ≡ Rule.read_here at.me q (out_of at asks o) (wish_of at.readonly w)
@@ -106,10 +107,10 @@ module _ (at : Place) (asks : ℕ → Option ClientOp) (ne : at.me ≢ nobody) w
       (λ _. refl)
 
   like_delegate : (node q : ℕ) (o : Moving) → State.is_mastered at.me o.state.copy ≡ true → Rule.is_odd (copy_of at.me o.state.copy) ≡ false →
-      out_of at asks (Parts.delegate at node q o) ≡ Rule.send at.me node (Rule.Grant q (Rule.rsn_of (copy_of at.me o.state.copy)) (Rule.value_of (copy_of at.me o.state.copy))) (Rule.with_node (record (out_of at asks o).node { tracked = placed node o.state.tracking.tracked }) (out_of at asks o))
+      out_of at asks (Parts.delegate at node q o) ≡ Rule.send at.me node (Rule.Grant q (Rule.rsn_of (copy_of at.me o.state.copy)) (Rule.value_of (copy_of at.me o.state.copy))) (Rule.with_node (record (out_of at asks o).node { tracked = including node o.state.tracking.tracked }) (out_of at asks o))
   unfolding Parts.delegate Parts.keeps Rule.with_node body_of
   like_delegate node q o held even = like_send at asks node (msg.Grant at.db at.key q (State.rsn_of o.state.copy) (State.value_of o.state.copy)) (Parts.keeps (record o.state { copy = State.with_flags delegated o.state.copy; tracking = added node o.state.tracking }) o)
-      ∙ (λ i. Rule.send at.me node (Rule.Grant q (rsn_like at.me o.state.copy i) (value_like at.me o.state.copy i)) (Rule.with_node (record (out_of at asks o).node { copy = flags_like at.me delegated o.state.copy (λ e. absurd (cc)) held even i; tracked = placed node o.state.tracking.tracked }) (out_of at asks o)))
+      ∙ (λ i. Rule.send at.me node (Rule.Grant q (rsn_like at.me o.state.copy i) (value_like at.me o.state.copy i)) (Rule.with_node (record (out_of at asks o).node { copy = flags_like at.me delegated o.state.copy (λ e. absurd (cc)) held even i; tracked = including node o.state.tracking.tracked }) (out_of at asks o)))
 
   pub like_grant : (r : RecallNote) (o : Moving) → State.is_mastered at.me o.state.copy ≡ true → FineAt at asks o → out_of at asks (Parts.grant at r.node r.request o) ≡ Rule.grant at.me at.lmaster r (out_of at asks o)
   unfolding Parts.grant Rule.grant body_of

@@ -2,6 +2,7 @@
 use Rattle.std.proofs.Common.{◌≡◌, ◌≢◌, ℕ, ◌+◌, Bool, true, false, cond, Option, Some, None, List, [], ◌∷◌, refl, sym, ap, ◌∙◌, arith, not, ◌&&◌, ◌==◌, nat_lt, nat_le, eqb-true}
 use Rattle.std.proofs.lemmas.Bool.{ne_eqb}
 use Rattle.std.specs.Prelude.{is_none, is_some, nat_eq}
+use Rattle.ct_bytes.specs.Words.{others, is_nil as is_none_left}
 use Rattle.ct_msg.specs.declared.client.Answer.TheVariants as answer
 use Rattle.ct_msg.specs.declared.client.ClientOp.{ClientOp}
 use Rattle.ct_msg.specs.declared.client.ClientOp.TheVariants as op
@@ -20,13 +21,13 @@ use Rattle.ct_rules.specs.declared.state.Wish.{Wish}
 use Rattle.ct_law_world.specs.Labels.{Told, Vacuumed}
 use Rattle.ct_law_fact.proofs.Rule
 use Rattle.ct_law_fact.proofs.Rule.{Copy, Body, Out}
-use Rattle.ct_deleg.specs.Tracked.{Tracked, untracked, Revocation, others, awaiting, acked_by, is_last, is_none_left}
+use Rattle.ct_deleg.specs.Tracked.{Tracked, untracked, Revocation, awaiting, called_back_in, ends_revocation}
 use Rattle.ct_law_like.proofs.Likeness.{kind_at, copy_of, wish_of, body_of, out_of, FineAt, like_send, like_send_all, like_reply, like_finished, rsn_like, rank_like, value_like, mastered_like, with_value_like, risen_like, own_like, free_like, wished_like}
 use Rattle.ct_law_like.proofs.Alike.{none_is_not_some, if_like, like_give, like_satisfy, like_drained}
 use Rattle.ct_rules.specs.Frames
 use Rattle.ct_law_like.proofs.Likewise.{stale_like, read_like, even_own, unwished, fine_satisfy, like_end_revocation, like_next, like_keep}
 use Rattle.ct_rules.specs.Moves
-use Rattle.ct_vacuum.specs.Vacuum.{Vacuuming, is_last as is_last_vacuum, begun as vacuum_begun}
+use Rattle.ct_vacuum.specs.Vacuum.{Vacuuming, ends_phase, vacuum_begun}
 use Rattle.ct_vacuum.specs.declared.vacuum.VacuumPhase.{VacuumPhase}
 use Rattle.ct_vacuum.specs.declared.vacuum.VacuumPhase.TheVariants.{Storing, Deleting}
 
@@ -148,7 +149,7 @@ module _ (at : Place) (asks : ℕ → Option ClientOp) (ne : at.me ≢ nobody) w
   ack_cases rules n rsn o v true (x ∷ xs) is held fine = λ i. record (out_of at asks o) { node = record (out_of at asks o).node { revoking = Some (record { rsn = sym (eqb-true v.rsn rsn is) i; missing = x ∷ xs }) } }
 
   like_ack_of : (rules : Rules) (n rsn : ℕ) (o : Moving) (r : Option Revocation) → ((v : Revocation) → r ≡ Some v → State.is_mastered at.me o.state.copy ≡ true) → FineAt at asks o →
-      out_of at asks (cond (is_last r n rsn) (Parts.end_revocation at rules (Parts.keeps (record o.state { tracking = acked_by r n rsn o.state.tracking }) o)) (Parts.keeps (record o.state { tracking = acked_by r n rsn o.state.tracking }) o)) ≡ Rule.on_ack rules at.me at.lmaster n rsn (out_of at asks o) r
+      out_of at asks (cond (ends_revocation r n rsn) (Parts.end_revocation at rules (Parts.keeps (record o.state { tracking = called_back_in r n rsn o.state.tracking }) o)) (Parts.keeps (record o.state { tracking = called_back_in r n rsn o.state.tracking }) o)) ≡ Rule.on_ack rules at.me at.lmaster n rsn (out_of at asks o) r
   unfolding Rule.on_ack Parts.keeps
   like_ack_of rules n rsn o None held fine = refl
   like_ack_of rules n rsn o (Some v) held fine = ack_cases rules n rsn o v (nat_eq v.rsn rsn) (others n v.missing) refl (held v refl) fine
@@ -174,12 +175,12 @@ module _ (at : Place) (asks : ℕ → Option ClientOp) (ne : at.me ≢ nobody) w
   pub like_on_vstored_of : (n rsn : ℕ) (o : Moving) (v : Option Vacuuming) → out_of at asks (Frames.on_vstored_of at n rsn o v) ≡ Rule.on_vstored at.me n rsn (out_of at asks o) v
   unfolding Frames.on_vstored_of Parts.keeps Rule.on_vstored Rule.set_vacuum Rule.with_node body_of
   like_on_vstored_of n rsn o None = refl
-  like_on_vstored_of n rsn o (Some v) = if_like at asks ne (is_last_vacuum Storing n rsn v) _ _ _ _ _ refl (λ _. like_send_all at asks v.others (msg.VDelete at.db at.key rsn) _) (λ _. refl)
+  like_on_vstored_of n rsn o (Some v) = if_like at asks ne (ends_phase Storing n rsn v) _ _ _ _ _ refl (λ _. like_send_all at asks v.others (msg.VDelete at.db at.key rsn) _) (λ _. refl)
 
   pub like_on_vdeleted_of : (n rsn : ℕ) (o : Moving) (v : Option Vacuuming) → out_of at asks (Frames.on_vdeleted_of n rsn o v) ≡ Rule.on_vdeleted at.me n rsn (out_of at asks o) v
   unfolding Frames.on_vdeleted_of Parts.keeps Rule.on_vdeleted Rule.set_vacuum Rule.with_node
   like_on_vdeleted_of n rsn o None = refl
-  like_on_vdeleted_of n rsn o (Some v) = if_like at asks ne (is_last_vacuum Deleting n rsn v) _ _ _ _ _ refl (λ _. like_finish rsn o) (λ _. refl)
+  like_on_vdeleted_of n rsn o (Some v) = if_like at asks ne (ends_phase Deleting n rsn v) _ _ _ _ _ refl (λ _. like_finish rsn o) (λ _. refl)
 
   like_begin : (o : Moving) (ns : List ℕ) → out_of at asks (Moves.begin_vacuum at o ns) ≡ Rule.begin_vacuum at.me (out_of at asks o) ns
   unfolding Moves.begin_vacuum Parts.makes Parts.keeps Rule.begin_vacuum Rule.with_node body_of

@@ -2,6 +2,7 @@
 use Rattle.std.proofs.Common.{length, Bool, ◌≡◌, ◌≢◌, ℕ, true, false, Option, Some, None, List, [], ◌∷◌, ◌++◌, refl, sym, ap, ◌∙◌, arith, append-nil, not, ◌&&◌, eqb-true, subst, inl, inr, eq-eqb, ◌⊎◌, ⊎_elim, slice_get, zero, suc}
 use Rattle.std.proofs.lemmas.Bool.{cond_both, and_parts, ne_eqb, eqb-false}
 use Rattle.std.specs.Prelude.{is_some, nat_eq}
+use Rattle.ct_bytes.specs.Words.{others}
 use Rattle.ct_msg.specs.declared.client.ClientOp.{ClientOp}
 use Rattle.ct_msg.specs.declared.client.ClientOp.TheVariants as op
 use Rattle.ct_call.specs.Rules.{Rules}
@@ -17,7 +18,6 @@ use Rattle.ct_law_fact.proofs.Rule
 use Rattle.ct_law_fact.proofs.Rule.{Node, Frame}
 use Rattle.ct_law_like.proofs.Likeness.{copy_of, node_of, out_of, frame_of, frames_of, frames_append}
 use Rattle.ct_rules.specs.Frames
-use Rattle.ct_deleg.specs.Tracked.{others}
 use Rattle.ct_rules.specs.Moves
 use Rattle.ct_rules_node.specs.Rounds
 use Rattle.ct_rules_node.specs.Node.{is_among}

@@ -18,7 +18,7 @@ use Rattle.ct_rules.specs.declared.state.Waiter.{Waiter}
 use Rattle.ct_rules.specs.declared.state.Wish.{Wish}
 use Rattle.ct_rules.specs.Moves.{is_vacuumed, store, release, unlock, begin_vacuum, vacuum_at_home, vacuum, call_again_of, call_again, revoke_again_of, revoke_again, at_home, from_home, arrive}
 use Rattle.ct_rules_node.specs.Rounds.{want_again_of, want_again}
-use Rattle.ct_vacuum.specs.Vacuum.{Vacuuming, is_last}
+use Rattle.ct_vacuum.specs.Vacuum.{Vacuuming, ends_phase}
 use Rattle.ct_vacuum.specs.declared.vacuum.VacuumPhase.TheVariants.{Deleting}
 use Rattle.ct_rules.specs.declared.event.Act.{Act}
 use Rattle.ct_rules.specs.declared.event.Act.TheVariants as act
@@ -259,7 +259,7 @@ vacuum_finishes at ns o h = cond_both (is_vacuumed at.me o.state) _ o (λ (p : M
 deleted_finishes : (at : Place) (n rsn : ℕ) (o : Moving) (v : Option Vacuuming) → at.me ≡ at.lmaster → Unfinished o.acts → Finishes at (on_vdeleted_of n rsn o v)
 unfolding on_vdeleted_of keeps
 deleted_finishes at n rsn o None e h = inl h
-deleted_finishes at n rsn o (Some v) e h = cond_both (is_last Deleting n rsn v) (finish rsn o) _ (λ (p : Moving). Finishes at p) (λ _. finish_finishes at rsn o e) (λ _. inl h)
+deleted_finishes at n rsn o (Some v) e h = cond_both (ends_phase Deleting n rsn v) (finish rsn o) _ (λ (p : Moving). Finishes at p) (λ _. finish_finishes at rsn o e) (λ _. inl h)
 
 pub arrive_finishes : (at : Place) (rules : Rules) (n : ℕ) (m : Msg) (o : Moving) → Unfinished o.acts → Finishes at (arrive at rules n m o)
 unfolding arrive at_home on_vdeleted

@@ -1,13 +1,13 @@
 -- All nodes of one record in one generation, and every message about it that was ever sent.
 use Rattle.std.specs.Prelude.{◌≡◌, ◌↔◌, ℕ, ◌≤◌, ◌<◌, nat_eq, Bool, true, not, ◌&&◌, ◌||◌, if◌then◌else◌, Option, Some, None, is_none, is_some, List, [], ◌∷◌, ◌++◌, slice_get, take, length}
 use Rattle.std.specs.List.{list_all}
+use Rattle.ct_bytes.specs.Words.{others}
 use Rattle.ct_msg.specs.declared.client.ClientOp.{ClientOp}
 use Rattle.ct_msg.specs.declared.client.ClientOp.TheVariants as op
 use Rattle.ct_frame.specs.Fields.{is_node}
 use Rattle.ct_frame.specs.declared.frame.Msg.{Msg}
 use Rattle.ct_frame.specs.declared.header.RecCopy.{RecCopy}
 use Rattle.ct_call.specs.Rules.{Rules}
-use Rattle.ct_deleg.specs.Tracked.{others}
 use Rattle.ct_rules.specs.State.{nothing_kept, for_reading, is_read_op}
 use Rattle.ct_rules.specs.Parts.{Moving}
 use Rattle.ct_rules.specs.Frames.{greater}

@@ -1,6 +1,7 @@
 -- An update in its place: the three passes make what the writes make in order, and the last undoes the first.
 use Rattle.std.proofs.Common.{◌≡◌, ℕ, ◌+◌, ◌<◌, length, get_or, Bool, true, false, cond, List, [], ◌∷◌, ◌++◌, take, drop, Option, Some, None, refl, sym, ◌∙◌, ap}
 use Rattle.std.proofs.lemmas.List.{take-append-drop, take_more}
+use Rattle.ct_bytes.specs.Words.{or_empty}
 use Rattle.ct_msg.specs.declared.client.Pair.{Pair}
 use Rattle.ct_store.specs.Map.{Pairs, Ascends, look}
 use Rattle.ct_store.proofs.Maps.{same_map}
@@ -95,15 +96,13 @@ look-written_none q (w ∷ ws) m a h =
     look-written_none q ws (stored w.key w.value m) (stored_ascends w.key w.value m a) (right (at q w.key) (has q ws) h) ∙ look-stored q w.key w.value m a ∙ ap (λ b. stored_at b w.value (look q m)) (left (at q w.key) (has q ws) h)
 
 -- the value that stands where room was made
-abbrev or_empty : Option V → V
-or_empty None = []
-or_empty (Some x) = x
-
 added_some : (o : Option V) → added_at true o ≡ Some (or_empty o)
+unfolding or_empty
 added_some None = refl
 added_some (Some x) = refl
 
 trimmed_some : (o : Option V) → trimmed o ≡ o → o ≡ trimmed (Some (or_empty o))
+unfolding or_empty
 trimmed_some None t = refl
 trimmed_some (Some x) t = sym t
 

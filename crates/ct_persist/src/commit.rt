@@ -1,10 +1,11 @@
 //! A commit that waits for the acknowledgements of the other members.
 ghost use Rattle.std.specs.Prelude.{◌≡◌, ◌≢◌, [], IfOk};
 ghost use Rattle.std.specs.List.Sorted.{IsStrictlyIncreasing};
-ghost use Rattle.ct_persist.specs.Commits.{acknowledged, awaits, begun, is_last, without};
+ghost use Rattle.ct_persist.specs.Commits.{applied_by, commit_begun, completes};
 
 use ct_bytes::copies::Duplicate;
 use ct_bytes::memory::NoMemory;
+use ct_deleg::awaited::Awaited;
 use std::alloc::Global;
 use std::marker::Model;
 
@@ -12,11 +13,10 @@ use std::marker::Model;
 #[derive(Debug, Drop)]
 pub struct Commit {
     seq: u64,
-    missing: Vec<u32>,
+    members: Awaited,
 }
 
 impl Model for Commit {
-    ghost use Rattle.std.specs.List.Sorted.{IsStrictlyIncreasing};
     ghost use Rattle.ct_persist.specs.Commits.{Pending};
     ghost use Rattle.ct_persist.specs.Code.{pending_code};
 
@@ -24,17 +24,7 @@ impl Model for Commit {
 
     ghost coded = { pending_code };
 
-    ghost view = { λ c. record { seq = c.seq; missing = c.missing.items } };
-
-    ghost invariant = { λ c. IsStrictlyIncreasing c.missing.items };
-}
-
-/// Takes the node out of the list.
-fn remove(nodes: &mut Vec<u32>, node: u32)
-    ensures removed { nodes.new.items ≡ without node nodes.old.items }
-    ensures ascending { IsStrictlyIncreasing nodes.old.items → IsStrictlyIncreasing nodes.new.items }
-{
-    nodes.retain(|n| *n != node);
+    ghost view = { λ c. record { seq = c.seq; missing = c.members.missing } };
 }
 
 impl Commit {
@@ -43,32 +33,21 @@ impl Commit {
     pub fn begin(alloc: Global, seq: u64, others: &[u32]) -> Result<Commit, NoMemory>
         requires ascending { IsStrictlyIncreasing others.now }
         requires some { others.now ≢ [] }
-        ensures { IfOk result (λ c. c ≡ begun seq others.now) }
+        ensures { IfOk result (λ c. c ≡ commit_begun seq others.now) }
     {
         Ok(Commit {
             seq,
-            missing: Vec::from_slice(alloc, others)?,
+            members: Awaited::begin(alloc, others)?,
         })
-    }
-
-    /// Is an acknowledgement by the node awaited, of this number?
-    fn awaits(&self, node: u32, seq: u64) -> bool
-        ensures { result ≡ awaits node seq self.now }
-    {
-        self.seq == seq && self.missing.contains(&node)
     }
 
     /// The node has applied the commit of this number. True exactly where it was the last one missing. What is not
     /// awaited changes nothing.
     pub fn ack(&mut self, node: u32, seq: u64) -> bool
-        ensures last { result ≡ is_last node seq self.old }
-        ensures after { self.new ≡ acknowledged node seq self.old }
+        ensures last { result ≡ completes node seq self.old }
+        ensures after { self.new ≡ applied_by node seq self.old }
     {
-        if !self.awaits(node, seq) {
-            return false;
-        }
-        remove(&mut self.missing, node);
-        self.missing.is_empty()
+        self.seq == seq && self.members.ack(node)
     }
 
     /// The members that have not acknowledged it, ascending.
@@ -76,7 +55,7 @@ impl Commit {
         ensures missing { result.now ≡ self.now.missing }
         ensures ascending { IsStrictlyIncreasing self.now.missing }
     {
-        self.missing.as_slice()
+        self.members.missing()
     }
 
     /// Its number.
@@ -92,7 +71,7 @@ impl Commit {
     {
         Ok(Commit {
             seq: self.seq,
-            missing: self.missing.clone()?,
+            members: self.members.copy()?,
         })
     }
 }

@@ -22,7 +22,7 @@ use Rattle.ct_rules.proofs.Growing.{move_grows}
 use Rattle.ct_rules.proofs.Arriving.{call_formed, recall_formed, on_give_formed, on_refuse_formed, pass_formed, on_grant_formed, on_done_formed, on_revoke_formed, on_revokeack_formed, on_vstore_formed, on_vdelete_formed, finish_formed, on_vstored_formed, on_vdeleted_formed}
 use Rattle.ct_rules.proofs.Formed.{Formed, send_formed, reply_formed, send_all_formed, opened_formed, end_vacuum_formed, give_formed, revoke_formed, satisfy_formed, if_formed, drained_formed}
 use Rattle.ct_deleg.specs.Tracked.{Revocation}
-use Rattle.ct_vacuum.specs.Vacuum.{Vacuuming, begun}
+use Rattle.ct_vacuum.specs.Vacuum.{Vacuuming, vacuum_begun}
 
 -- ---- WANT
 
@@ -90,7 +90,7 @@ unlock_formed at call o h = drained_formed at _ (release_formed at call o h)
 
 -- ---- a vacuum of the database
 
-begun_formed : (at : Place) (ns : List ℕ) (o : Moving) → at.me ≡ at.lmaster → is_vacuumed at.me o.state ≡ true → Formed at o → Formed at (makes (rsn_of o.state.copy + 1) (keeps (record o.state { copy = risen o.state.copy; vacuum = Some (begun (rsn_of o.state.copy) ns) }) o))
+begun_formed : (at : Place) (ns : List ℕ) (o : Moving) → at.me ≡ at.lmaster → is_vacuumed at.me o.state ≡ true → Formed at o → Formed at (makes (rsn_of o.state.copy + 1) (keeps (record o.state { copy = risen o.state.copy; vacuum = Some (vacuum_begun (rsn_of o.state.copy) ns) }) o))
 unfolding Formed makes keeps is_vacuumed is_free is_mastered risen rsn_of vacuumed_rsn
 begun_formed at ns o home t h = grind arith
 

@@ -126,7 +126,7 @@ pub give_sent : (at : Place) (o : Moving) → Sent at o → Sent at (give at o)
 unfolding give
 give_sent at o h = send_sent at _ _ _ (same_spent _ o (λ e. (rsn_sound at.me at.db _ at.key (value_of o.state.copy) (db_of at o h) (copy_of at o h e)).0)) (gave_sent at o h)
 
-called_sent : (at : Place) (o : Moving) → Sent at o → Sent at (keeps (record o.state { copy = with_flags being_revoked o.state.copy; tracking = tracked.begun (rsn_of o.state.copy) o.state.tracking }) o)
+called_sent : (at : Place) (o : Moving) → Sent at o → Sent at (keeps (record o.state { copy = with_flags being_revoked o.state.copy; tracking = tracked.revocation_begun (rsn_of o.state.copy) o.state.tracking }) o)
 unfolding Sent keeps with_flags rsn_of revoked_rsn
 called_sent at o h = grind arith
 

@@ -14,7 +14,7 @@ use Rattle.ct_msg.specs.declared.client.Answer.TheVariants as answer
 use Rattle.ct_msg.specs.declared.client.ClientOp.{ClientOp}
 use Rattle.ct_vacuum.specs.declared.vacuum.VacuumPhase.{VacuumPhase}
 use Rattle.ct_vacuum.specs.declared.vacuum.VacuumPhase.TheVariants.{Storing, Deleting}
-use Rattle.ct_vacuum.specs.Vacuum.{Vacuuming, begun, stored, deleted}
+use Rattle.ct_vacuum.specs.Vacuum.{Vacuuming, vacuum_begun, stored, deleted}
 use Rattle.ct_rules.specs.State.{plain, for_reading, rank, is_given, kind_of, a_copy, is_nil, rsn_of, is_mastered, is_free, risen, is_read_op, is_for_reading, value_of}
 use Rattle.ct_rules.specs.Parts.{Moving, acts, send, keeps, makes, opened, open_of, end_vacuum, next, next_of, keep, call_for, wait_for_copies, want_of, opened_at_home, want}
 use Rattle.ct_rules.specs.Frames.{pass_again, enqueue, on_call_of, called, on_call, wait, handle, recalled, on_recall, hand_on, on_give_of, on_give, becomes, take, refuse, on_pass, on_refuse_of, on_refuse, reads, on_grant, on_done_of, on_done, called_in, acknowledge, on_revoke_of, on_revoke, acknowledged, on_revokeack, stored_copy, deleted_copy, on_vstore, on_vdelete, finish, greater, on_vstored_of, on_vstored, on_vdeleted_of, on_vdeleted}
@@ -301,7 +301,7 @@ pub want_sent : (at : Place) (rules : Rules) (call : ℕ) (o_p : ClientOp) (o : 
 unfolding want opened_at_home
 want_sent at rules call o_p o h = want_of_sent at rules call o_p _ (if_sent at _ _ _ (ended_sent at _ (opened_sent at o h)) h)
 
-begun_sent : (at : Place) (ns : List ℕ) (o : Moving) → Sent at o → Sent at (makes (rsn_of o.state.copy + 1) (keeps (record o.state { copy = risen o.state.copy; vacuum = Some (begun (rsn_of o.state.copy) ns) }) o))
+begun_sent : (at : Place) (ns : List ℕ) (o : Moving) → Sent at o → Sent at (makes (rsn_of o.state.copy + 1) (keeps (record o.state { copy = risen o.state.copy; vacuum = Some (vacuum_begun (rsn_of o.state.copy) ns) }) o))
 unfolding Sent makes keeps risen rsn_of vacuumed_rsn
 begun_sent at ns o h = grind arith
 

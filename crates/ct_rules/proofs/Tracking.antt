@@ -13,7 +13,7 @@ use Rattle.ct_msg.specs.declared.client.Answer.{Answer}
 use Rattle.ct_msg.specs.declared.client.Answer.TheVariants as answer
 use Rattle.ct_msg.specs.declared.client.ClientOp.{ClientOp}
 use Rattle.ct_msg.specs.declared.client.ClientOp.TheVariants as op
-use Rattle.ct_vacuum.specs.Vacuum.{Vacuuming, begun, stored, deleted}
+use Rattle.ct_vacuum.specs.Vacuum.{Vacuuming, vacuum_begun, stored, deleted}
 use Rattle.ct_rules.specs.State.{is_nil, rsn_of, is_mastered, is_free, given, with_flags, with_value, risen, is_read_op, is_for_reading, value_of}
 use Rattle.ct_rules.specs.Parts.{Moving, acts, send, send_all, reply, keeps, makes, opened, open_of, end_vacuum, give, applies, satisfy, revoke, read_here, delegate, grant, yield_record, drain, drained, satisfy_own, raise, end_revocation, next, next_of, keep, call_for, wait_for_copies, want_of, opened_at_home, want}
 use Rattle.ct_rules.specs.Frames.{pass_again, enqueue, on_call_of, called, on_call, wait, handle, recalled, on_recall, hand_on, on_give_of, on_give, satisfy_wish, becomes, take, refuse, on_pass, on_refuse_of, on_refuse, reads, on_grant, on_done_of, on_done, called_in, acknowledge, on_revoke_of, on_revoke, acknowledged, on_revokeack, stored_copy, deleted_copy, on_vstore, on_vdelete, finish, on_vstored_of, on_vstored, on_vdeleted_of, on_vdeleted}
@@ -316,7 +316,7 @@ vacuumed_untracked : (me : ℕ) (s : RecState) → is_vacuumed me s ≡ true →
 unfolding is_vacuumed is_free
 vacuumed_untracked me s t = (grind arith, grind arith)
 
-begun_tracks : (at : Place) (ns : List ℕ) (o : Moving) → is_nil o.state.tracking.tracked ≡ true → Tracks at o → Tracks at (makes (rsn_of o.state.copy + 1) (keeps (record o.state { copy = risen o.state.copy; vacuum = Some (begun (rsn_of o.state.copy) ns) }) o))
+begun_tracks : (at : Place) (ns : List ℕ) (o : Moving) → is_nil o.state.tracking.tracked ≡ true → Tracks at o → Tracks at (makes (rsn_of o.state.copy + 1) (keeps (record o.state { copy = risen o.state.copy; vacuum = Some (vacuum_begun (rsn_of o.state.copy) ns) }) o))
 unfolding Tracks makes keeps
 begun_tracks at ns o none h = grind arith
 

@@ -1,13 +1,14 @@
 -- States that can stand at a place, and what keeps them so.
 use Rattle.std.specs.Prelude.{◌≡◌, ◌≢◌, ℕ, ◌<◌, ◌≤◌, ◌^◌, Bool, true, false, ◌&&◌, List, Contains, Option, None, Some, is_none, is_some}
 use Rattle.std.specs.List.{list_all}
+use Rattle.std.specs.List.Sorted.{IsStrictlyIncreasing}
 use Rattle.ct_msg.specs.declared.client.ClientOp.{ClientOp}
 use Rattle.ct_msg.specs.declared.client.ClientOp.TheVariants as op
 use Rattle.ct_frame.specs.Fields.{is_from_one, is_below_limit, is_message}
 use Rattle.ct_frame.specs.declared.frame.Msg.{Msg}
 use Rattle.ct_frame.specs.declared.frame.Msg.TheVariants as msg
 use Rattle.ct_frame.specs.declared.header.RecCopy.{RecCopy}
-use Rattle.ct_deleg.specs.Tracked.{Tracked, Revocation, Ascends}
+use Rattle.ct_deleg.specs.Tracked.{Tracked, Revocation}
 use Rattle.ct_vacuum.specs.Vacuum.{Vacuuming}
 use Rattle.ct_rules.specs.State.{is_nil, rsn_of, is_mastered, is_quiet, is_read_op}
 use Rattle.ct_rules.specs.Parts.{Moving}
@@ -139,7 +140,7 @@ MayCome at s (event.Want call o_p) = (is_wanting o_p ≡ true) × (s.wish ≡ No
 MayCome at s (event.Store call v) = is_some s.locked ≡ true
 MayCome at s (event.Unlock call) = is_some s.locked ≡ true
 MayCome at s (event.Arrive sender m) = (is_of_record m ≡ true) × (is_message sender m ≡ true)
-MayCome at s (event.Vacuum others) = Ascends others × ¬ (Contains others at.me)
+MayCome at s (event.Vacuum others) = IsStrictlyIncreasing others × ¬ (Contains others at.me)
 MayCome at s event.Resend = Unit {0}
 
 -- what a whole step leaves: a state in form, a next request number that is not smaller, a floor that is not smaller

@@ -7,8 +7,8 @@ use Rattle.ct_frame.specs.declared.frame.CallKind.{CallKind}
 use Rattle.ct_frame.specs.declared.frame.CallKind.TheVariants as kind
 use Rattle.ct_frame.specs.declared.header.RecCopy.{RecCopy}
 use Rattle.ct_call.specs.Rules.{Rules}
-use Rattle.ct_deleg.specs.Tracked.{untracked, acked, ends}
-use Rattle.ct_vacuum.specs.Vacuum.{Vacuuming, is_last, stored, deleted}
+use Rattle.ct_deleg.specs.Tracked.{untracked, called_back, ends}
+use Rattle.ct_vacuum.specs.Vacuum.{Vacuuming, ends_phase, stored, deleted}
 use Rattle.ct_vacuum.specs.declared.vacuum.VacuumPhase.TheVariants.{Storing, Deleting}
 use Rattle.ct_rules.specs.State.{plain, for_reading, a_copy, rank, rsn_of, value_of, is_mastered, is_given, is_free, is_read_kind, same_kind, kind_of, is_wished}
 use Rattle.ct_rules.specs.Parts.{Moving, acts, send, send_all, reply, keeps, makes, opened, end_vacuum, satisfy, grant, yield_record, drained, end_revocation, next, keep}
@@ -201,7 +201,7 @@ on_revoke at h rsn o = on_revoke_of at h rsn o o.state.wish
 
 -- RevokeAck: the sender is no longer missing
 unfoldable pub acknowledged : ℕ → ℕ → Moving → Moving
-acknowledged n rsn o = keeps (record o.state { tracking = acked n rsn o.state.tracking }) o
+acknowledged n rsn o = keeps (record o.state { tracking = called_back n rsn o.state.tracking }) o
 
 -- RevokeAck: the last one is followed by End of revocation
 unfoldable pub on_revokeack : Place → Rules → ℕ → ℕ → Moving → Moving
@@ -249,7 +249,7 @@ unfoldable pub on_vstored_of : Place → ℕ → ℕ → Moving → Option Vacuu
 on_vstored_of at n rsn o None = o
 on_vstored_of at n rsn o (Some v) =
     let o' = keeps (record o.state { vacuum = Some (stored n rsn v) }) o in
-    if is_last Storing n rsn v then send_all v.others (msg.VDelete at.db at.key rsn) o' else o'
+    if ends_phase Storing n rsn v then send_all v.others (msg.VDelete at.db at.key rsn) o' else o'
 
 -- VStored
 unfoldable pub on_vstored : Place → ℕ → ℕ → Moving → Moving
@@ -259,7 +259,7 @@ on_vstored at n rsn o = on_vstored_of at n rsn o o.state.vacuum
 unfoldable pub on_vdeleted_of : ℕ → ℕ → Moving → Option Vacuuming → Moving
 on_vdeleted_of n rsn o None = o
 on_vdeleted_of n rsn o (Some v) =
-    if is_last Deleting n rsn v then finish rsn o else keeps (record o.state { vacuum = Some (deleted n rsn v) }) o
+    if ends_phase Deleting n rsn v then finish rsn o else keeps (record o.state { vacuum = Some (deleted n rsn v) }) o
 
 -- VDeleted
 unfoldable pub on_vdeleted : ℕ → ℕ → Moving → Moving

@@ -5,7 +5,7 @@ use Rattle.ct_frame.specs.declared.frame.Msg.{Msg}
 use Rattle.ct_frame.specs.declared.frame.Msg.TheVariants as msg
 use Rattle.ct_call.specs.Rules.{Rules}
 use Rattle.ct_deleg.specs.Tracked.{Revocation}
-use Rattle.ct_vacuum.specs.Vacuum.{Vacuuming, begun}
+use Rattle.ct_vacuum.specs.Vacuum.{Vacuuming, vacuum_begun}
 use Rattle.ct_vacuum.specs.declared.vacuum.VacuumPhase.{VacuumPhase}
 use Rattle.ct_vacuum.specs.declared.vacuum.VacuumPhase.TheVariants.{Storing, Deleting}
 use Rattle.ct_rules.specs.State.{is_nil, rsn_of, value_of, with_value, risen, is_free, kind_of}
@@ -47,7 +47,7 @@ unfoldable pub begin_vacuum : Place → Moving → List ℕ → Moving
 begin_vacuum at o [] = finish (rsn_of o.state.copy) o
 begin_vacuum at o (n ∷ ns) = send_all (n ∷ ns) (msg.VStore at.db at.key (rsn_of o.state.copy)) (makes (rsn_of o.state.copy + 1) (keeps (record o.state {
   copy = risen o.state.copy;
-  vacuum = Some (begun (rsn_of o.state.copy) (n ∷ ns));
+  vacuum = Some (vacuum_begun (rsn_of o.state.copy) (n ∷ ns));
 }) o))
 
 -- Vacuum at L: one that runs asks the missing nodes again, and else one begins

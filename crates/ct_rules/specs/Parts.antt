@@ -12,7 +12,7 @@ use Rattle.ct_call.specs.Rules.{Rules}
 use Rattle.ct_call.specs.Table.{applied}
 use Rattle.ct_call.specs.declared.fault.CallFault.{CallFault}
 use Rattle.ct_call.specs.declared.fault.CallFault.TheVariants as fault
-use Rattle.ct_deleg.specs.Tracked.{untracked, added, begun}
+use Rattle.ct_deleg.specs.Tracked.{untracked, added, revocation_begun}
 use Rattle.ct_rules.specs.State.{is_nil, plain, delegated, being_revoked, a_copy, rsn_of, value_of, is_mastered, is_for_reading, with_value, with_flags, raised, given, is_quiet, is_free, is_read_op, is_read_kind, kind_of, is_wished}
 use Rattle.ct_rules.specs.declared.state.Entry.{Entry}
 use Rattle.ct_rules.specs.declared.state.RecState.{RecState}
@@ -91,7 +91,7 @@ satisfy rules call _ o = o
 unfoldable pub revoke : Place → Moving → Moving
 revoke at o = send_all o.state.tracking.tracked (msg.Revoke at.db at.key (rsn_of o.state.copy)) (keeps (record o.state {
   copy = with_flags being_revoked o.state.copy;
-  tracking = begun (rsn_of o.state.copy) o.state.tracking;
+  tracking = revocation_begun (rsn_of o.state.copy) o.state.tracking;
 }) o)
 
 -- Give: the record goes back to its location master

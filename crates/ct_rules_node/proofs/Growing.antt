@@ -1,6 +1,7 @@
 -- What a step of a node adds to: the promise, the next request number, what was spent and what is done.
 use Rattle.std.proofs.Common.{◌≡◌, ℕ, ◌+◌, ◌≤◌, ◌==◌, Bool, true, false, cond, ◌||◌, List, [], ◌∷◌, ◌++◌, length, map, Option, Some, None, refl, sym, ap, ◌∙◌, append_assoc, append-nil, arith}
 use Rattle.std.proofs.lemmas.List.{length-set}
+use Rattle.ct_bytes.specs.Words.{others}
 use Rattle.ct_msg.specs.declared.client.ClientOp.{ClientOp}
 use Rattle.ct_msg.specs.declared.client.ClientOp.TheVariants as op
 use Rattle.ct_msg.specs.declared.client.Why.{Why}
@@ -11,7 +12,7 @@ use Rattle.ct_frame.specs.declared.frame.Frame.{Frame}
 use Rattle.ct_frame.specs.declared.frame.Msg.{Msg}
 use Rattle.ct_frame.specs.declared.frame.Msg.TheVariants as msg
 use Rattle.ct_call.specs.Rules.{Rules}
-use Rattle.ct_deleg.specs.Tracked.{Revocation, others}
+use Rattle.ct_deleg.specs.Tracked.{Revocation}
 use Rattle.ct_store.specs.Map.{Pairs}
 use Rattle.ct_rules.specs.Parts.{Moving, acts, send, send_all, reply, keeps, want}
 use Rattle.ct_rules.specs.Moves.{release, call_again_of, call_again, revoke_again_of, revoke_again}

@@ -1,12 +1,12 @@
 -- Persistent databases: every member has the whole of each, and a commit is stored at all before it is acknowledged.
 use Rattle.std.specs.Prelude.{ℕ, ◌+◌, nat_le, if◌then◌else◌, List, [], ◌∷◌, Option, None, Some}
+use Rattle.ct_bytes.specs.Words.{others}
 use Rattle.ct_msg.specs.declared.client.Answer.TheVariants as answer
 use Rattle.ct_msg.specs.declared.client.Pair.{Pair}
 use Rattle.ct_frame.specs.declared.frame.Msg.TheVariants as msg
 use Rattle.ct_store.specs.Map.{look}
-use Rattle.ct_deleg.specs.Tracked.{others}
 use Rattle.ct_persist.specs.Persisted.{updated}
-use Rattle.ct_persist.specs.Commits.{begun, is_last, acknowledged}
+use Rattle.ct_persist.specs.Commits.{commit_begun, completes, applied_by}
 use Rattle.ct_rules_node.specs.Node.{Committing, db_at, with_db}
 use Rattle.ct_rules_node.specs.Turn.{Turn, with_node, makes, answers, posts, posts_all}
 
@@ -23,7 +23,7 @@ unfoldable pub awaits_others : ℕ → ℕ → ℕ → ℕ → List Pair → Lis
 awaits_others me call db seq writes [] t = answers call (answer.Committed seq) t
 awaits_others me call db seq writes (n ∷ ns) t =
     posts_all t.node.generation me (n ∷ ns) (msg.PUpdate db seq writes)
-    (with_commit db (Some (record { call = call; writes = writes; pending = begun seq (n ∷ ns) })) t)
+    (with_commit db (Some (record { call = call; writes = writes; pending = commit_begun seq (n ∷ ns) })) t)
 
 -- Commit under this number: Update, and then the other members
 unfoldable pub commits_at : ℕ → ℕ → ℕ → ℕ → List Pair → Turn → Turn
@@ -45,8 +45,8 @@ on_pupdate me sender db seq writes t = acknowledges me sender db seq (updates db
 unfoldable pub on_pack_of : ℕ → ℕ → ℕ → Turn → Option Committing → Turn
 on_pack_of n db seq t None = t
 on_pack_of n db seq t (Some c) =
-    if is_last n seq c.pending then answers c.call (answer.Committed seq) (with_commit db None t)
-    else with_commit db (Some (record c { pending = acknowledged n seq c.pending })) t
+    if completes n seq c.pending then answers c.call (answer.Committed seq) (with_commit db None t)
+    else with_commit db (Some (record c { pending = applied_by n seq c.pending })) t
 
 -- PAck: an acknowledgement of the commit that waits
 unfoldable pub on_pack : ℕ → ℕ → ℕ → Turn → Turn

@@ -1,6 +1,7 @@
 -- The two phases of a vacuum of one key.
-use Rattle.std.specs.Prelude.{ℕ, Bool, true, false, not, ◌&&◌, ◌==◌, if◌then◌else◌, List, [], ◌∷◌, filter}
-use Rattle.std.specs.List.{list_any}
+use Rattle.std.specs.Prelude.{ℕ, Bool, true, false, ◌&&◌, ◌==◌, if◌then◌else◌, List}
+use Rattle.ct_bytes.specs.Words.{others}
+use Rattle.ct_deleg.specs.Awaited.{is_last}
 use Rattle.ct_vacuum.specs.declared.vacuum.VacuumPhase.{VacuumPhase}
 use Rattle.ct_vacuum.specs.declared.vacuum.VacuumPhase.TheVariants.{Storing, Deleting}
 
@@ -13,8 +14,8 @@ pub record Vacuuming : Type 0 where
   pub others : List ℕ
 
 -- it begins with `Storing`, and all others are missing
-abbrev pub begun : ℕ → List ℕ → Vacuuming
-begun rsn others = record { phase = Storing; rsn = rsn; missing = others; others = others }
+abbrev pub vacuum_begun : ℕ → List ℕ → Vacuuming
+vacuum_begun rsn nodes = record { phase = Storing; rsn = rsn; missing = nodes; others = nodes }
 
 abbrev pub is_phase : VacuumPhase → VacuumPhase → Bool
 is_phase Storing Storing = true
@@ -22,25 +23,17 @@ is_phase Storing Deleting = false
 is_phase Deleting Storing = false
 is_phase Deleting Deleting = true
 
--- does the vacuum wait for this node's acknowledgement of this phase and sequence number?
-abbrev pub awaits : VacuumPhase → ℕ → ℕ → Vacuuming → Bool
-awaits phase node rsn v = is_phase phase v.phase && (v.rsn == rsn) && list_any (λ n. n == node) v.missing
+-- is the vacuum of this sequence number, and in this phase?
+abbrev pub is_in : VacuumPhase → ℕ → Vacuuming → Bool
+is_in phase rsn v = is_phase phase v.phase && (v.rsn == rsn)
 
--- all nodes but this one
-abbrev pub without : ℕ → List ℕ → List ℕ
-without node nodes = filter (λ n. not (n == node)) nodes
+-- a node acknowledged this phase: it is not missing any more
+abbrev pub done_by : VacuumPhase → ℕ → ℕ → Vacuuming → Vacuuming
+done_by phase node rsn v = if is_in phase rsn v then record v { missing = others node v.missing } else v
 
--- a node is no longer missing, where its acknowledgement was awaited
-abbrev pub acknowledged : VacuumPhase → ℕ → ℕ → Vacuuming → Vacuuming
-acknowledged phase node rsn v = if awaits phase node rsn v then record v { missing = without node v.missing } else v
-
-abbrev pub is_none : List ℕ → Bool
-is_none [] = true
-is_none (n ∷ ns) = false
-
--- is it awaited, and of no other node?
-abbrev pub is_last : VacuumPhase → ℕ → ℕ → Vacuuming → Bool
-is_last phase node rsn v = awaits phase node rsn v && is_none (without node v.missing)
+-- does the node's acknowledgement end this phase?
+abbrev pub ends_phase : VacuumPhase → ℕ → ℕ → Vacuuming → Bool
+ends_phase phase node rsn v = is_in phase rsn v && is_last node v.missing
 
 -- `Deleting` begins, and all others are missing
 abbrev pub deleting : Vacuuming → Vacuuming
@@ -48,7 +41,7 @@ deleting v = record v { phase = Deleting; missing = v.others }
 
 -- after the last one `Deleting` begins
 abbrev pub stored : ℕ → ℕ → Vacuuming → Vacuuming
-stored node rsn v = if is_last Storing node rsn v then deleting v else acknowledged Storing node rsn v
+stored node rsn v = if ends_phase Storing node rsn v then deleting v else done_by Storing node rsn v
 
 abbrev pub deleted : ℕ → ℕ → Vacuuming → Vacuuming
-deleted node rsn v = acknowledged Deleting node rsn v
+deleted node rsn v = done_by Deleting node rsn v

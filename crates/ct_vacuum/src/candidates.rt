@@ -2,6 +2,7 @@
 ghost use Rattle.std.specs.Prelude.{◌≡◌, [], IfOk, OnOk, OnErr};
 ghost use Rattle.ct_vacuum.specs.Candidates.{Ascends, forgotten, noted};
 
+use ct_bytes::copies::Duplicate;
 use ct_bytes::key::Key;
 use ct_bytes::memory::NoMemory;
 use std::alloc::Global;
@@ -60,5 +61,26 @@ impl Candidates {
             keys.push(key.copy()?)?;
         }
         Ok(keys)
+    }
+
+    /// A copy that equals it.
+    #[tactic(auto, using(crate::proofs::Keys::one_more))]
+    pub fn copy(&self) -> Result<Candidates, NoMemory>
+        ensures { IfOk result (λ c. c ≡ self.now) }
+    {
+        let mut copied = BTreeSet::new(self.alloc);
+        for key in &self.set {
+            copied.insert(key.copy()?)?;
+        }
+        Ok(Candidates {
+            alloc: self.alloc,
+            set: copied,
+        })
+    }
+}
+
+impl Duplicate for Candidates {
+    fn duplicate(&self) -> Result<Candidates, NoMemory> {
+        self.copy()
     }
 }

@@ -84,11 +84,15 @@ fn candidates(rt: HostRuntime) -> Result<(), Fail> {
             Call::Note(byte) => candidates.note(&Key::new(alloc, &[byte])?)?,
             Call::Forget(byte) => candidates.forget(&Key::new(alloc, &[byte])?),
         }
-        let mut seen = Vec::new(alloc);
-        for key in &candidates.sorted()? {
-            seen.extend_from_slice(key.bytes())?;
+        let copy = candidates.copy()?;
+        let again = copy.duplicate()?;
+        for set in [&candidates, &copy, &again] {
+            let mut seen = Vec::new(alloc);
+            for key in &set.sorted()? {
+                seen.extend_from_slice(key.bytes())?;
+            }
+            assert_eq!(rt; seen.as_slice(), wanted.as_bytes(), "{wanted}");
         }
-        assert_eq!(rt; seen.as_slice(), wanted.as_bytes(), "{wanted}");
     }
     Ok(())
 }

@@ -1,14 +1,14 @@
 //! The two phases of a vacuum of one key: all other nodes store the newest copy, and then all delete theirs.
 ghost use Rattle.std.specs.Prelude.{◌≡◌, ◌≢◌, [], IfOk};
 ghost use Rattle.std.specs.List.Sorted.{IsStrictlyIncreasing};
-ghost use Rattle.ct_vacuum.specs.Vacuum.{acknowledged, awaits, begun, deleted, is_last, stored, without};
+ghost use Rattle.ct_vacuum.specs.Vacuum.{deleted, done_by, ends_phase, is_in, stored, vacuum_begun};
 ghost use Rattle.ct_vacuum.specs.declared.vacuum.VacuumPhase.TheVariants.{Storing, Deleting};
 
 use ct_bytes::copies::Duplicate;
 use ct_bytes::memory::NoMemory;
+use ct_deleg::awaited::Awaited;
 use std::alloc::Global;
 use std::marker::Model;
-use std::mem;
 
 /// What the other nodes are asked for: to store the newest copy, and once all have done that, to delete theirs.
 #[derive(Clone, Copy, Debug, PartialEq, Eq)]
@@ -18,22 +18,16 @@ pub enum VacuumPhase {
 }
 
 /// A vacuum of one key: its phase, the sequence number of the copy that is stored, and the nodes that have not
-/// acknowledged the phase. It holds the other nodes for each phase from the start, so that no acknowledgement needs
-/// memory.
+/// acknowledged the phase. No acknowledgement needs memory.
 #[derive(Debug, Drop)]
 pub struct Vacuum {
     phase: VacuumPhase,
     rsn: u64,
-    missing: Vec<u32>,
-    others: Vec<u32>,
-    /// The nodes that are missing once `Deleting` begins. Unused from then on.
-    next: Vec<u32>,
+    others: Awaited,
 }
 
 impl Model for Vacuum {
-    ghost use Rattle.std.specs.Prelude.{◌≡◌, ◌≢◌, []};
-    ghost use Rattle.std.specs.List.Sorted.{IsStrictlyIncreasing};
-    ghost use Rattle.ct_vacuum.specs.declared.vacuum.VacuumPhase.TheVariants.{Storing};
+    ghost use Rattle.std.specs.Prelude.{◌≢◌, []};
     ghost use Rattle.ct_vacuum.specs.Vacuum.{Vacuuming};
     ghost use Rattle.ct_vacuum.specs.Code.{vacuuming_code};
 
@@ -41,17 +35,9 @@ impl Model for Vacuum {
 
     ghost coded = { vacuuming_code };
 
-    ghost view = { λ v. record { phase = v.phase; rsn = v.rsn; missing = v.missing.items; others = v.others.items } };
+    ghost view = { λ v. record { phase = v.phase; rsn = v.rsn; missing = v.others.missing; others = v.others.asked } };
 
-    ghost invariant = { λ v. IsStrictlyIncreasing v.missing.items × IsStrictlyIncreasing v.others.items × (v.others.items ≢ []) × (v.phase ≡ Storing → v.next.items ≡ v.others.items) };
-}
-
-/// Takes the node out of the list.
-fn remove(nodes: &mut Vec<u32>, node: u32)
-    ensures removed { nodes.new.items ≡ without node nodes.old.items }
-    ensures ascending { IsStrictlyIncreasing nodes.old.items → IsStrictlyIncreasing nodes.new.items }
-{
-    nodes.retain(|n| *n != node);
+    ghost invariant = { λ v. v.others.asked ≢ [] };
 }
 
 impl Vacuum {
@@ -59,46 +45,40 @@ impl Vacuum {
     pub fn begin(alloc: Global, rsn: u64, others: &[u32]) -> Result<Vacuum, NoMemory>
         requires ascending { IsStrictlyIncreasing others.now }
         requires some { others.now ≢ [] }
-        ensures { IfOk result (λ v. v ≡ begun rsn others.now) }
+        ensures { IfOk result (λ v. v ≡ vacuum_begun rsn others.now) }
     {
         Ok(Vacuum {
             phase: VacuumPhase::Storing,
             rsn,
-            missing: Vec::from_slice(alloc, others)?,
-            others: Vec::from_slice(alloc, others)?,
-            next: Vec::from_slice(alloc, others)?,
+            others: Awaited::begin(alloc, others)?,
         })
     }
 
-    /// Is an acknowledgement by the node awaited, of this phase and sequence number?
-    fn awaits(&self, phase: VacuumPhase, node: u32, rsn: u64) -> bool
-        ensures { result ≡ awaits phase node rsn self.now }
+    /// Is the vacuum of this sequence number, and in this phase?
+    fn is_in(&self, phase: VacuumPhase, rsn: u64) -> bool
+        ensures { result ≡ is_in phase rsn self.now }
     {
-        self.phase == phase && self.rsn == rsn && self.missing.contains(&node)
+        self.phase == phase && self.rsn == rsn
     }
 
     /// Takes an acknowledgement. True where it was the last one that its phase waited for.
     fn acknowledge(&mut self, phase: VacuumPhase, node: u32, rsn: u64) -> bool
-        ensures last { result ≡ is_last phase node rsn self.old }
-        ensures after { self.new ≡ acknowledged phase node rsn self.old }
+        ensures ends { result ≡ ends_phase phase node rsn self.old }
+        ensures after { self.new ≡ done_by phase node rsn self.old }
     {
-        if !self.awaits(phase, node, rsn) {
-            return false;
-        }
-        remove(&mut self.missing, node);
-        self.missing.is_empty()
+        self.is_in(phase, rsn) && self.others.ack(node)
     }
 
     /// The node has stored the copy of this sequence number. True exactly where this ends `Storing`; then all others
     /// are missing in `Deleting`. What is not awaited changes nothing.
     pub fn stored(&mut self, node: u32, rsn: u64) -> bool
-        ensures ends { result ≡ is_last Storing node rsn self.old }
+        ensures ends { result ≡ ends_phase Storing node rsn self.old }
         ensures after { self.new ≡ stored node rsn self.old }
     {
         let ends = self.acknowledge(VacuumPhase::Storing, node, rsn);
         if ends {
             self.phase = VacuumPhase::Deleting;
-            mem::swap(&mut self.missing, &mut self.next);
+            self.others.ask_again();
         }
         ends
     }
@@ -106,7 +86,7 @@ impl Vacuum {
     /// The node has deleted its copy in the vacuum of this sequence number. True exactly where this ends `Deleting`;
     /// then no node is missing. What is not awaited changes nothing.
     pub fn deleted(&mut self, node: u32, rsn: u64) -> bool
-        ensures ends { result ≡ is_last Deleting node rsn self.old }
+        ensures ends { result ≡ ends_phase Deleting node rsn self.old }
         ensures after { self.new ≡ deleted node rsn self.old }
     {
         self.acknowledge(VacuumPhase::Deleting, node, rsn)
@@ -130,7 +110,7 @@ impl Vacuum {
         ensures missing { result.now ≡ self.now.missing }
         ensures ascending { IsStrictlyIncreasing self.now.missing }
     {
-        self.missing.as_slice()
+        self.others.missing()
     }
 
     /// A copy that equals it.
@@ -140,9 +120,7 @@ impl Vacuum {
         Ok(Vacuum {
             phase: self.phase,
             rsn: self.rsn,
-            missing: self.missing.clone()?,
-            others: self.others.clone()?,
-            next: self.next.clone()?,
+            others: self.others.copy()?,
         })
     }
 }
