@@ -31,7 +31,7 @@ use Rattle.ct_rules_node.specs.Retries.{update_again, update_in, retry_run, retr
 use Rattle.ct_rules_node.specs.Laws.{changed_at, AllAscend, NodeAscends}
 use Rattle.ct_rules_node.proofs.Keys.{changed_seen, changed_ascends, kept_seen, kept_others, kept_ascends}
 use Rattle.ct_rules_node.proofs.Installed.{install_ascends}
-use Rattle.ct_rules_node.proofs.Whole.{freezes_each}
+use Rattle.ct_rules_node.proofs.Rounds.{freezes_each}
 use Rattle.ct_rules_node.proofs.AtRecord.{at_set, at_other, set_past, all_set, at_ascends}
 use Rattle.ct_law_shown.proofs.Weave.{true_or_false}
 use Rattle.ct_law_removal.proofs.Removing.{kept_entry}

@@ -41,7 +41,7 @@ use Rattle.ct_rules_node.specs.Laws.{first_row}
 use Rattle.ct_rules_node.specs.Rounds.{on_pull, table_of, ptables_of, row_of}
 use Rattle.ct_rules_node.specs.Steps.{if_sound, arrives}
 use Rattle.ct_rules_node.specs.Turn.{does, posts}
-use Rattle.ct_rules_node.proofs.Told.{tells_at}
+use Rattle.ct_rules_node.proofs.Tables.{tells_at}
 use Rattle.ct_promise.proofs.Follows.{filter_more}
 use Rattle.ct_law_freeze.proofs.Leading.{Led, lead_turned, later_none}
 

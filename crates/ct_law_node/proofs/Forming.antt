@@ -8,7 +8,7 @@ use Rattle.ct_frame.specs.declared.frame.Msg.{Msg}
 use Rattle.ct_msg.specs.declared.client.ClientOp.{ClientOp}
 use Rattle.ct_rules.specs.Form.{IsInForm, MayCome, is_of_record}
 use Rattle.ct_rules.specs.Laws.{TracksAsHolder}
-use Rattle.ct_rules.specs.Sent.{is_sound, waits_for_nodes, is_from_node}
+use Rattle.ct_rules.specs.Sent.{is_well_formed, waits_for_nodes, is_from_node}
 use Rattle.ct_rules.specs.Moves.{move, unless_spent}
 use Rattle.ct_rules.specs.Parts.{Moving}
 use Rattle.ct_rules.specs.declared.event.Act.{Act}
@@ -18,7 +18,7 @@ use Rattle.ct_rules.specs.declared.event.MoveEvent.TheVariants as event
 use Rattle.ct_rules.specs.declared.event.Place.{Place}
 use Rattle.ct_rules.proofs.Events.{form_kept}
 use Rattle.ct_rules.proofs.Tracking.{holder_tracks}
-use Rattle.ct_rules.proofs.Sound.{what_is_sent}
+use Rattle.ct_rules.proofs.SentEvents.{what_is_sent}
 use Rattle.ct_rules_node.specs.Admission.{record_in}
 use Rattle.ct_rules_node.specs.Laws.{unless_blank}
 use Rattle.ct_rules_node.specs.Node.{or_nothing}
@@ -111,8 +111,8 @@ of_record_is : (m : Msg) (r : ℕ × List ℕ) → record_in m ≡ Some r → is
 unfolding record_in is_of_record
 of_record_is m r e = grind arith
 
-sound_mails : (s : Scene) (n : ℕ) (at : Place) (as' : List Act) → is_node n ≡ true → Told at as' → list_all (is_sound n) as' ≡ true → AllByRecursion Is_sound_mail (sent n as')
-unfolding Told About is_sound sent sends
+sound_mails : (s : Scene) (n : ℕ) (at : Place) (as' : List Act) → is_node n ≡ true → Told at as' → list_all (is_well_formed n) as' ≡ true → AllByRecursion Is_sound_mail (sent n as')
+unfolding Told About is_well_formed sent sends
 sound_mails s n at [] node t h = tt
 sound_mails s n at (act.Send receiver m ∷ as') node t h = (let p = and_parts _ _ h in (record { record_is = of_record_is m (at.db, at.key) t.0; fields = p.0; sender = node }, sound_mails s n at as' node t.1 p.1))
 sound_mails s n at (act.Answer call a ∷ as') node t h = sound_mails s n at as' node t.1 h

@@ -16,7 +16,7 @@ use Rattle.ct_rules_node.specs.Node.{Node, Database, Idle, is_among, db_at, stat
 use Rattle.ct_rules_node.specs.Rounds.{row_of}
 use Rattle.ct_rules_node.proofs.Refusals.{first_none, required}
 use Rattle.ct_rules_node.proofs.Starting.{restarts_in_order}
-use Rattle.ct_rules_node.proofs.Whole.{restarts_each}
+use Rattle.ct_rules_node.proofs.Rounds.{restarts_each}
 use Rattle.ct_cluster.specs.Cluster.{Cluster, is_true, is_up, node_at, pending_at}
 use Rattle.ct_cluster.specs.Faults.{fault_of, is_holder, no_such_node}
 use Rattle.ct_cluster.specs.Labels.{Label, Stopped}

@@ -135,7 +135,7 @@ is_of_record _ = false
 -- under the lock; only who has the lock stores and unlocks; a message speaks of a record and keeps the rules of its
 -- fields; the nodes that a vacuum asks ascend, and this node is none of them
 abbrev pub MayCome : Place → RecState → MoveEvent → Type 0
-MayCome at s (event.Want call o_p) = (is_wanting o_p ≡ true) × (s.wish ≡ None) × (is_read_op o_p ≡ false → s.locked ≡ None)
+MayCome at s (event.Want call asked) = (is_wanting asked ≡ true) × (s.wish ≡ None) × (is_read_op asked ≡ false → s.locked ≡ None)
 MayCome at s (event.Store call v) = is_some s.locked ≡ true
 MayCome at s (event.Unlock call) = is_some s.locked ≡ true
 MayCome at s (event.Arrive sender m) = (is_of_record m ≡ true) × (is_message sender m ≡ true)

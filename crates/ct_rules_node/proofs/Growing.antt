@@ -13,7 +13,7 @@ use Rattle.ct_frame.specs.declared.frame.Msg.TheVariants as msg
 use Rattle.ct_call.specs.Rules.{Rules}
 use Rattle.ct_deleg.specs.Tracked.{Revocation, others}
 use Rattle.ct_store.specs.Map.{Pairs}
-use Rattle.ct_rules.specs.Parts.{Moving, acts, send, send_all, reply, keeps, want}
+use Rattle.ct_rules.specs.Parts.{Moving, performs, send, send_all, reply, keeps, want}
 use Rattle.ct_rules.specs.Moves.{release, call_again_of, call_again, revoke_again_of, revoke_again}
 use Rattle.ct_rules.specs.Laws.{IsFront as IsActsFront, Grows}
 use Rattle.ct_rules.specs.declared.event.Act.{Act}
@@ -32,7 +32,7 @@ use Rattle.ct_rules_node.specs.Steps.{on_record_of, if_persistent, if_sound, if_
 use Rattle.ct_rules_node.specs.Admission.{record_in}
 use Rattle.ct_rules_node.specs.Laws.{TurnGrows, StaysInOrder}
 use Rattle.ct_rules_node.proofs.AtRecord.{moves_at}
-use Rattle.ct_rules_node.proofs.Steady.{front_same, front_more, front_after, Steady, same, steady_grows, with_phase_steady, answers_steady, notes_steady, makes_steady, commit_steady, on_pupdate_steady, on_pack_steady, read_pair_steady, begin_round_steady, frozen_steady, on_freeze_steady, on_freezeack_steady, on_pull_steady, on_pullreply_steady, on_push_steady, on_pushack_steady, begin_takeover_steady, on_release_steady, on_releaseack_steady, on_take_steady, update_in_steady, retry_lead_steady}
+use Rattle.ct_rules_node.proofs.BesideRecords.{front_same, front_more, front_after, Steady, same, steady_grows, with_phase_steady, answers_steady, notes_steady, makes_steady, commit_steady, on_pupdate_steady, on_pack_steady, read_pair_steady, begin_round_steady, frozen_steady, on_freeze_steady, on_freezeack_steady, on_pull_steady, on_pullreply_steady, on_push_steady, on_pushack_steady, begin_takeover_steady, on_release_steady, on_releaseack_steady, on_take_steady, update_in_steady, retry_lead_steady}
 
 -- ---- the parts of the rules of one record that are not events of their own
 
@@ -45,7 +45,7 @@ unfolding IsActsFront
 no_grows o = record { next = omega arith; floor = omega arith; spent = λ e. e; acts = ([], sym (append-nil o.acts)) }
 
 send_grows : (n : ℕ) (m : Msg) (o : Moving) → Grows o (send n m o)
-unfolding send acts IsActsFront
+unfolding send performs IsActsFront
 send_grows n m o = record { next = omega arith; floor = omega arith; spent = λ e. e; acts = (_, refl) }
 
 moving_after : (o p q : Moving) → Grows o p → Grows p q → Grows o q
@@ -57,7 +57,7 @@ send_all_grows [] m o = no_grows o
 send_all_grows (n ∷ ns) m o = moving_after o (send n m o) (send_all ns m (send n m o)) (send_grows n m o) (send_all_grows ns m (send n m o))
 
 pub release_grows : (call : ℕ) (o : Moving) → Grows o (release call o)
-unfolding release keeps reply acts IsActsFront
+unfolding release keeps reply performs IsActsFront
 release_grows call o = record { next = omega arith; floor = omega arith; spent = λ e. e; acts = (_, refl) }
 
 moving_either : (o p q : Moving) (b : Bool) → Grows o p → Grows o q → Grows o (cond b p q)
@@ -153,10 +153,10 @@ unlocks_grown c me call db key u Serving rules s = at_record_grown c me db key _
 unlocks_grown c me call db key u Installed rules s = at_record_grown c me db key _ u (λ at o. move_grows at rules (move_event.Unlock call) o) s
 unlocks_grown c me call db key u (Frozen g) rules s = at_record_grown c me db key _ u (λ at o. move_grows at rules (move_event.Unlock call) o) s
 
-wants_grown : {t : Turn} (c : Config) (rules : Rules) (me call db : ℕ) (key : List ℕ) (o_p : ClientOp) (u : Turn) → Grown t u → Grown t (at_record c me db key (λ at o. want at rules call o_p o) u)
-wants_grown c rules me call db key o_p u s = at_record_grown c me db key _ u (λ at o. move_grows at rules (move_event.Want call o_p) o) s
+wants_grown : {t : Turn} (c : Config) (rules : Rules) (me call db : ℕ) (key : List ℕ) (asked : ClientOp) (u : Turn) → Grown t u → Grown t (at_record c me db key (λ at o. want at rules call asked o) u)
+wants_grown c rules me call db key asked u s = at_record_grown c me db key _ u (λ at o. move_grows at rules (move_event.Want call asked) o) s
 
-serves_grown : {t : Turn} (c : Config) (rules : Rules) (me call : ℕ) (u : Turn) (o_p : ClientOp) → Grown t u → Grown t (serves c rules me call u o_p)
+serves_grown : {t : Turn} (c : Config) (rules : Rules) (me call : ℕ) (u : Turn) (asked : ClientOp) → Grown t u → Grown t (serves c rules me call u asked)
 unfolding serves reads
 serves_grown c rules me call u (op.Read db key) s = either_grown _ (steady_grown (read_pair_steady call db key same) s) (wants_grown c rules me call db key (op.Read db key) u s)
 serves_grown c rules me call u (op.Store db key v) s = at_record_grown c me db key _ u (λ at o. move_grows at rules (move_event.Store call v) o) s
@@ -166,14 +166,14 @@ serves_grown c rules me call u (op.Lock db key) s = wants_grown c rules me call 
 serves_grown c rules me call u (op.Write db key v) s = wants_grown c rules me call db key (op.Write db key v) u s
 serves_grown c rules me call u (op.Apply db key f arg) s = wants_grown c rules me call db key (op.Apply db key f arg) u s
 
-serves_or_grown : {t : Turn} (c : Config) (rules : Rules) (me call : ℕ) (o_p : ClientOp) (u : Turn) (w : Option Why) → Grown t u → Grown t (serves_or c rules me call o_p u w)
+serves_or_grown : {t : Turn} (c : Config) (rules : Rules) (me call : ℕ) (asked : ClientOp) (u : Turn) (w : Option Why) → Grown t u → Grown t (serves_or c rules me call asked u w)
 unfolding serves_or
-serves_or_grown c rules me call o_p u (Some w) s = steady_grown (answers_steady call _ same) s
-serves_or_grown c rules me call o_p u None s = serves_grown c rules me call u o_p s
+serves_or_grown c rules me call asked u (Some w) s = steady_grown (answers_steady call _ same) s
+serves_or_grown c rules me call asked u None s = serves_grown c rules me call u asked s
 
-client_grown : (c : Config) (rules : Rules) (me call : ℕ) (o_p : ClientOp) (u : Turn) → Grown u (client c rules me call o_p u)
+client_grown : (c : Config) (rules : Rules) (me call : ℕ) (asked : ClientOp) (u : Turn) → Grown u (client c rules me call asked u)
 unfolding client
-client_grown c rules me call o_p u = serves_or_grown c rules me call o_p _ (refusal c rules u.node o_p) (steady_grown (makes_steady call same) grown_same)
+client_grown c rules me call asked u = serves_or_grown c rules me call asked _ (refusal c rules u.node asked) (steady_grown (makes_steady call same) grown_same)
 
 -- ---- thaws
 

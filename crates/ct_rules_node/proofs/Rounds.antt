@@ -16,7 +16,7 @@ use Rattle.ct_call.specs.Rules.{Rules}
 use Rattle.ct_store.specs.Map.{Pairs, Ascends, key_cmp, look}
 use Rattle.ct_store.proofs.Maps.{one_key, equal}
 use Rattle.ct_rules.specs.declared.state.RecState.{RecState}
-use Rattle.ct_rules_node.specs.Node.{Node, Database, untouched, or_untouched, or_nothing, db_at, state_at, is_frozen_in, restarted_db, restarted}
+use Rattle.ct_rules_node.specs.Node.{Node, Database, untouched, or_untouched, or_nothing, db_at, state_at, is_frozen_in, is_present_in, restarted_db, restarted}
 use Rattle.ct_rules_node.specs.Turn.{Turn, does, with_node, notes, posts}
 use Rattle.ct_rules_node.specs.Clients.{is_locked, any_locked_in, any_locked}
 use Rattle.ct_rules_node.specs.Rounds.{changed, frozen_db, freezes, releases, installed_db, installed_dbs, installed_node, installs, on_push}
@@ -82,6 +82,23 @@ installs_frozen c rules me t f members table ptables assigned e s z =
     ap (λ (m : Msg). (arrives c rules me f t m).node) e
     ∙ taken_node (is_sound c f) t (on_push c me f.sender f.generation members table ptables assigned t) _ s
     (taken_node (is_frozen_in f.generation t.node.phase) _ (posts f.generation me f.sender msg.PushAck (installs c me f.sender f.generation members table ptables assigned t)) _ z (installs_node c me f.sender f.generation members table ptables assigned t))
+
+node_of : (b : Bool) (t u : Turn) → u.node ≡ t.node → (cond b u t).node ≡ t.node
+node_of true t u e = e
+node_of false t u e = refl
+
+unless_frozen : (b : Bool) (t u v : Turn) → b ≡ false → v.node ≡ t.node → (cond b u v).node ≡ t.node
+unless_frozen true t u v f e = absurd (cc)
+unless_frozen false t u v f e = e
+
+pub pushed_alone : (c : Config) (rules : Rules) (me : ℕ) (t : Turn) (f : Frame) (members : List ℕ) (table : List TableRow) (ptables : List PTable) (assigned : List Assigned) → f.msg ≡ msg.Push members table ptables assigned
+    → is_frozen_in f.generation t.node.phase ≡ false → (happens c rules me t (event.Arrive f)).node ≡ t.node
+unfolding happens arrives if_sound on_push posts does
+pushed_alone c rules me t f members table ptables assigned e n =
+    ap (λ (m : Msg). (arrives c rules me f t m).node) e
+    ∙ node_of (is_sound c f) t (on_push c me f.sender f.generation members table ptables assigned t)
+    (unless_frozen (is_frozen_in f.generation t.node.phase) t (posts f.generation me f.sender msg.PushAck (installs c me f.sender f.generation members table ptables assigned t)) _ n
+    (node_of (is_present_in f.generation t.node) t (posts f.generation me f.sender msg.PushAck t) refl))
 
 -- ---- the test for locks
 
