@@ -29,7 +29,7 @@ About at (act.Send receiver m) = record_in m ≡ Some (at.db, at.key)
 About at _ = Unit {0}
 
 unfoldable pub Told : Place → List Act → Type 0
-Told at acts = AllByRecursion (About at) performs
+Told at acts = AllByRecursion (About at) acts
 
 more_told : (at : Place) (as' : List Act) (a : Act) → About at a → Told at as' → Told at (as' ++ a ∷ [])
 unfolding Told

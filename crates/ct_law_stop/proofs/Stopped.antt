@@ -11,7 +11,6 @@ use Rattle.ct_frame.specs.declared.frame.TableRow.{TableRow}
 use Rattle.ct_frame.specs.declared.header.RecCopy.{RecCopy}
 use Rattle.ct_call.specs.Rules.{Rules}
 use Rattle.ct_rules.specs.declared.state.RecState.{RecState}
-use Rattle.ct_rules_node.specs.Laws.{first_row}
 use Rattle.ct_rules_node.specs.Node.{Node, Database, Idle, is_among, db_at, state_at, untouched, restarted_db, restarted}
 use Rattle.ct_rules_node.specs.Rounds.{row_of}
 use Rattle.ct_rules_node.proofs.Refusals.{first_none, required}
@@ -193,7 +192,7 @@ module _ (c : Config) (rules : Rules) (w : Cluster) (r : Lines) (h : Lives c rul
     still = λ some. absurd (some out);
     past = λ l e. absurd (cc);
     stuck = λ some e. absurd (some (sym e ∙ out));
-    some = λ ne. (let q = p.some ne in (q.0, q.1, λ db key. q.2 db key ∙ ap (λ (o : Option RecCopy). first_row (row_of n db key o)) (sym (left.copies vbase db key))));
+    some = λ ne. (let q = p.some ne in (q.0, q.1, λ db key. q.2 db key ∙ ap (λ (o : Option RecCopy). row_of n db key o) (sym (left.copies vbase db key))));
     order = p.order;
     polder = p.polder;
     phad = p.phad;

@@ -20,17 +20,17 @@ use Rattle.ct_rules.specs.declared.event.Act.{Act}
 
 -- ---- what is done before stays in front
 
-front_same : (a : List Act) → IsFront a a
+pub front_same : {X : Type 0} (a : List X) → IsFront a a
 unfolding IsFront
 front_same a = ([], sym (append-nil a))
 
-front_more : (a b : List Act) (x : Act) → IsFront a b → IsFront a (b ++ x ∷ [])
+pub front_more : {X : Type 0} (a b xs : List X) → IsFront a b → IsFront a (b ++ xs)
 unfolding IsFront
-front_more a b x f = (f.0 ++ x ∷ [], ap (λ (l : List Act). l ++ x ∷ []) f.1 ∙ append_assoc a f.0 (x ∷ []))
+front_more a b xs f = (f.0 ++ xs, ap (λ l. l ++ xs) f.1 ∙ append_assoc a f.0 xs)
 
-front_after : (a b c : List Act) → IsFront a b → IsFront b c → IsFront a c
+pub front_after : {X : Type 0} (a b c : List X) → IsFront a b → IsFront b c → IsFront a c
 unfolding IsFront
-front_after a b c f g = (f.0 ++ g.0, g.1 ∙ ap (λ (l : List Act). l ++ g.0) f.1 ∙ append_assoc a f.0 g.0)
+front_after a b c f g = (f.0 ++ g.0, g.1 ∙ ap (λ l. l ++ g.0) f.1 ∙ append_assoc a f.0 g.0)
 
 -- ---- the parts
 
@@ -40,7 +40,7 @@ grows_same o = record { next = omega arith; floor = omega arith; spent = λ e. e
 pub grows_after : (o p q : Moving) → Grows o p → Grows p q → Grows o q
 grows_after o p q f g = record { next = omega arith; floor = omega arith; spent = λ e. g.spent (f.spent e); acts = front_after o.acts p.acts q.acts f.acts g.acts }
 
-if_grows : (o : Moving) (b : Bool) (x y : Moving) → Grows o x → Grows o y → Grows o (cond b x y)
+pub if_grows : (o : Moving) (b : Bool) (x y : Moving) → Grows o x → Grows o y → Grows o (cond b x y)
 if_grows o true x y f g = f
 if_grows o false x y f g = g
 
@@ -48,11 +48,11 @@ performs_grows : (a : Act) (o : Moving) → Grows o (performs a o)
 unfolding performs
 performs_grows a o = grind (arith, front_same, front_more)
 
-send_grows : (n : ℕ) (m : Msg) (o : Moving) → Grows o (send n m o)
+pub send_grows : (n : ℕ) (m : Msg) (o : Moving) → Grows o (send n m o)
 unfolding send
 send_grows n m o = performs_grows _ o
 
-send_all_grows : (ns : List ℕ) (m : Msg) (o : Moving) → Grows o (send_all ns m o)
+pub send_all_grows : (ns : List ℕ) (m : Msg) (o : Moving) → Grows o (send_all ns m o)
 unfolding send_all
 send_all_grows [] m o = grows_same o
 send_all_grows (n ∷ ns) m o = grows_after o (send n m o) (send_all ns m (send n m o)) (send_grows n m o) (send_all_grows ns m (send n m o))
@@ -212,13 +212,13 @@ pub want_grows : (at : Place) (rules : Rules) (call : ℕ) (asked : ClientOp) (o
 unfolding send performs reply keeps reaches want opened_at_home end_vacuum
 want_grows at rules call asked o = grind (arith, front_same, front_more, front_after, want_of_grows, opened_grows)
 
-pub release_grows : (at : Place) (call : ℕ) (o : Moving) → Grows o (release call o)
+pub release_grows : (call : ℕ) (o : Moving) → Grows o (release call o)
 unfolding release keeps reply performs
-release_grows at call o = grind (arith, front_same, front_more)
+release_grows call o = grind (arith, front_same, front_more)
 
 pub unlock_grows : (at : Place) (call : ℕ) (o : Moving) → Grows o (unlock at call o)
 unfolding unlock
-unlock_grows at call o = grows_after o _ _ (release_grows at call o) (drained_grows at (release call o))
+unlock_grows at call o = grows_after o _ _ (release_grows call o) (drained_grows at (release call o))
 
 begin_grows : (at : Place) (o : Moving) (ns : List ℕ) → Grows o (begin_vacuum at o ns)
 unfolding send performs reply keeps reaches begin_vacuum
@@ -232,9 +232,9 @@ pub call_again_grows : (at : Place) (o : Moving) → Grows o (call_again at o)
 unfolding send performs reply keeps reaches call_again call_again_of
 call_again_grows at o = grind (arith, front_same, front_more, front_after)
 
-pub resend_grows : (at : Place) (o : Moving) → Grows o (revoke_again at o)
+pub revoke_again_grows : (at : Place) (o : Moving) → Grows o (revoke_again at o)
 unfolding send performs reply keeps reaches revoke_again revoke_again_of
-resend_grows at o = grind (arith, front_same, front_more, front_after, send_all_grows)
+revoke_again_grows at o = grind (arith, front_same, front_more, front_after, send_all_grows)
 
 home_grows : (at : Place) (o p : Moving) → Grows o p → Grows o (at_home at p o)
 unfolding at_home
@@ -268,4 +268,4 @@ move_grows at rules (event.Store call v) o = grind (arith, front_same, front_mor
 move_grows at rules (event.Unlock call) o = unlock_grows at call o
 move_grows at rules (event.Arrive sender m) o = arrive_grows at rules sender m o
 move_grows at rules (event.Vacuum others) o = vacuum_grows at others o
-move_grows at rules event.Resend o = grows_after o (call_again at o) _ (call_again_grows at o) (resend_grows at (call_again at o))
+move_grows at rules event.Resend o = grows_after o (call_again at o) _ (call_again_grows at o) (revoke_again_grows at (call_again at o))

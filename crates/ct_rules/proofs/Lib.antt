@@ -6,3 +6,4 @@ pub mod Tracking
 pub mod Names
 pub mod SentParts
 pub mod SentEvents
+pub mod LowCalls

@@ -1,5 +1,5 @@
 -- What every event makes a node send keeps the rules of its fields.
-use Rattle.std.proofs.Common.{◌≡◌, ℕ, ◌+◌, Bool, true, false, List, [], ◌∷◌, Option, Some, None, refl, arith, ◌&&◌, ◌||◌, ◌<◌, ◌≤◌, ◌^◌, ◌++◌, ◌==◌, ◌-◌, subst, ◌∙◌, sym}
+use Rattle.std.proofs.Common.{◌≡◌, ℕ, ◌+◌, Bool, true, false, List, [], ◌∷◌, Option, Some, None, refl, arith, ◌&&◌, ◌||◌, ◌<◌, ◌^◌, ◌++◌, ◌==◌, ◌-◌, subst, ◌∙◌, sym}
 use Rattle.std.proofs.lemmas.Bool.{cond_both, and_parts, and_from}
 use Rattle.std.proofs.lemmas.List.Folds.{list_all-append}
 use Rattle.std.specs.List.{list_all}
@@ -381,7 +381,7 @@ pub resend_sent : (at : Place) (o : Moving) → Sent at o → Sent at (revoke_ag
 unfolding revoke_again call_again
 resend_sent at o h = revoke_again_sent at (call_again_of at o o.state.wish) _ refl (call_again_sent at o o.state.wish refl h)
 
-pub move_sent : (at : Place) (rules : Rules) (e : MoveEvent) (o : Moving) → MayCome at o.state e → is_from_node e ≡ true → Sent at o → Sent at (move at rules e o)
+pub move_sent : (at : Place) (rules : Rules) (e : MoveEvent) (o : Moving) → MayCome o.state e → is_from_node e ≡ true → Sent at o → Sent at (move at rules e o)
 unfolding store unlock release
 move_sent at rules (event.Want call asked) o may node h = want_sent at rules call asked o h
 move_sent at rules (event.Store call v) o may node h = reply_sent at _ _ _ (valued_sent at v o h)
@@ -390,24 +390,24 @@ move_sent at rules (event.Arrive sender m) o may node h = arrive_sent at rules s
 move_sent at rules (event.Vacuum others) o may node h = vacuum_sent at others o h
 move_sent at rules event.Resend o may node h = resend_sent at o h
 
-pub begins_sent : (at : Place) (s : RecState) (next : ℕ) → is_db at.db ≡ true → IsInForm at s → waits_for_nodes s ≡ true → 1 ≤ next → next < 2 ^ 62 → at.floor < 2 ^ 62 → Sent at (begins s next at.floor)
+pub begins_sent : (at : Place) (s : RecState) (next : ℕ) → is_db at.db ≡ true → IsInForm at next s → waits_for_nodes s ≡ true → Sent at (begins s next at.floor)
 unfolding Sent
-begins_sent at s next d f nodes one below low = (let p = and_parts (list_all is_of_node s.queue) (list_all is_for_node s.waiting) nodes in record {
+begins_sent at s next d f nodes = (let p = and_parts (list_all is_of_node s.queue) (list_all is_for_node s.waiting) nodes in record {
   db = d;
   sound = λ _. refl;
   queue_asked = f.shape.queue_asked;
   queue_nodes = p.0;
   waiting_recalled = f.shape.waiting_recalled;
   waiting_nodes = p.1;
-  from_one = one;
+  from_one = f.counters.from_one;
   copy_limit = λ _. f.numbers.copy_limit;
   least_limit = λ _. f.numbers.least_limit;
   request_limit = λ _. f.numbers.request_limit;
   revocation_limit = λ _. f.numbers.revocation_limit;
   vacuum_limit = λ _. f.numbers.vacuum_limit;
   wish_limit = λ _. f.numbers.wish_limit;
-  next_limit = λ _. below;
-  floor_limit = λ _. low;
+  next_limit = λ _. f.counters.next_limit;
+  floor_limit = λ _. f.counters.floor_limit;
 })
 
 pub sent_sound : (at : Place) (o : Moving) → o.spent ≡ false → Sent at o → (list_all (is_well_formed at.me) o.acts ≡ true) × (waits_for_nodes o.state ≡ true)
@@ -415,5 +415,5 @@ unfolding Sent
 sent_sound at o u h = (h.sound u, and_from _ _ h.queue_nodes h.waiting_nodes)
 
 pub what_is_sent : SendsSound
-what_is_sent at rules e s next o d f nodes one below low may node whole = (let u = unspent_same (move at rules e (begins s next at.floor)) o whole in
-    subst (λ (x : Moving). (list_all (is_well_formed at.me) x.acts ≡ true) × (waits_for_nodes x.state ≡ true)) u.1 (sent_sound at (move at rules e (begins s next at.floor)) u.0 (move_sent at rules e (begins s next at.floor) may node (begins_sent at s next d f nodes one below low))))
+what_is_sent at rules e s next o d f nodes may node whole = (let u = unspent_same (move at rules e (begins s next at.floor)) o whole in
+    subst (λ (x : Moving). (list_all (is_well_formed at.me) x.acts ≡ true) × (waits_for_nodes x.state ≡ true)) u.1 (sent_sound at (move at rules e (begins s next at.floor)) u.0 (move_sent at rules e (begins s next at.floor) may node (begins_sent at s next d f nodes))))

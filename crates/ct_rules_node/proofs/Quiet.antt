@@ -1,5 +1,6 @@
 -- A node that is not present sends no message of a record.
 use Rattle.std.proofs.Common.{◌≡◌, ℕ, Bool, true, false, cond, not, ◌&&◌, ◌||◌, List, [], ◌++◌, map, Option, Some, None, refl, ap, ◌∙◌, append-nil}
+use Rattle.std.proofs.lemmas.Bool.{or_left}
 use Rattle.std.specs.Prelude.{is_none, is_some, nat_eq}
 use Rattle.ct_msg.specs.declared.client.Answer.TheVariants as answer
 use Rattle.ct_msg.specs.declared.client.ClientOp.{ClientOp}
@@ -55,10 +56,6 @@ taken : {X : Type 0} (b : Bool) (t u : X) → b ≡ true → cond b u t ≡ u
 taken true t u e = refl
 taken false t u e = absurd (cc)
 
-left_or : (a b : Bool) → a ≡ true → (a || b) ≡ true
-left_or true b e = refl
-left_or false b e = absurd (cc)
-
 not_both : (a b : Bool) → b ≡ false → (a && b) ≡ false
 not_both true b e = e
 not_both false b e = refl
@@ -68,7 +65,7 @@ read_locked : (at : Place) (rules : Rules) (call db : ℕ) (key : List ℕ) (o :
 unfolding want opened_at_home want_of is_read_op
 read_locked at rules call db key o l h =
     ap (want_of at rules call (op.Read db key)) (skipped (nat_eq at.me at.lmaster && is_none o.state.locked) o _ (not_both _ _ l))
-    ∙ taken (is_mastered at.me o.state.copy || is_for_reading o.state.copy) _ (reply call (answer.Read (value_of o.state.copy)) o) (left_or _ _ h)
+    ∙ taken (is_mastered at.me o.state.copy || is_for_reading o.state.copy) _ (reply call (answer.Read (value_of o.state.copy)) o) (or_left _ _ h)
 
 some_none : {X : Type 0} (x : Option X) → is_some x ≡ true → is_none x ≡ false
 some_none None e = absurd (cc)

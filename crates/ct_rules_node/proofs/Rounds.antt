@@ -1,5 +1,6 @@
 -- What a round and a stop make of a whole node, database by database.
 use Rattle.std.proofs.Common.{◌≡◌, ℕ, zero, suc, ◌+◌, ◌<◌, Bool, true, false, cond, ◌||◌, List, [], ◌∷◌, length, map, Option, Some, None, refl, sym, ◌∙◌, ap, subst, arith}
+use Rattle.std.proofs.lemmas.Bool.{or_parts}
 use Rattle.std.specs.Prelude.{slice_get, is_some}
 use Rattle.std.specs.Ordering.{is_eq}
 use Rattle.std.specs.List.Sorted.{IsStrictlySortedBy}
@@ -102,23 +103,19 @@ pushed_alone c rules me t f members table ptables assigned e n =
 
 -- ---- the test for locks
 
-neither : (a b : Bool) → (a || b) ≡ false → (a ≡ false) × (b ≡ false)
-neither true b e = absurd (cc)
-neither false b e = (refl, e)
-
 none_locked_in : (m : Pairs RecState) (key : List ℕ) → any_locked_in m ≡ false → is_some (or_nothing (look key m)).locked ≡ false
 unfolding any_locked_in or_nothing
 none_locked_in [] key e = refl
 none_locked_in (x ∷ m) key e =
-    let n = neither (is_some x.1.locked) _ e in
+    let n = or_parts (is_some x.1.locked) _ e in
     let r = none_locked_in m key n.1 in
     elim (is_eq (key_cmp key x.0)) as (λ b. is_some (or_nothing (cond b (Some x.1) (look key m))).locked ≡ false) [ true ↦ n.0 | false ↦ r ]
 
 none_locked : (dbs : List Database) (db : ℕ) (key : List ℕ) → any_locked dbs ≡ false → is_some (or_nothing (look key (or_untouched (slice_get dbs db)).records)).locked ≡ false
 unfolding any_locked or_untouched untouched or_nothing
 none_locked [] db key e = refl
-none_locked (d ∷ ds) zero key e = none_locked_in d.records key (neither (any_locked_in d.records) _ e).0
-none_locked (d ∷ ds) (suc db) key e = none_locked ds db key (neither (any_locked_in d.records) _ e).1
+none_locked (d ∷ ds) zero key e = none_locked_in d.records key (or_parts (any_locked_in d.records) _ e).0
+none_locked (d ∷ ds) (suc db) key e = none_locked ds db key (or_parts (any_locked_in d.records) _ e).1
 
 no_lock : (o : Option RecState) → o ≡ None → is_some (or_nothing o).locked ≡ false
 unfolding or_nothing
