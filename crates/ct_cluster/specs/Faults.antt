@@ -2,7 +2,7 @@
 use Rattle.std.specs.Prelude.{ℕ, nat_eq, nat_lt, Bool, true, false, not, if◌then◌else◌, List, [], ◌∷◌, Option, None, Some, is_none}
 use Rattle.ct_msg.specs.declared.config.Config.{Config}
 use Rattle.ct_frame.specs.Fields.{ascends}
-use Rattle.ct_rules_node.specs.Given.{is_allowed_op}
+use Rattle.ct_rules_node.specs.Coming.{is_allowed_op}
 use Rattle.ct_rules_node.specs.Node.{Lead, Completed, is_serving, is_persistent, is_among, kind_at}
 use Rattle.ct_rules_node.specs.Refusals.{refused_if, first_of}
 use Rattle.ct_cluster.specs.Cluster.{Cluster, is_up, node_at, sent_at, is_waiting, is_delivered}

@@ -6,7 +6,7 @@ use Rattle.ct_msg.specs.declared.config.Config.{Config}
 use Rattle.ct_frame.specs.declared.frame.TableRow.{TableRow}
 use Rattle.ct_frame.specs.declared.header.RecCopy.{RecCopy}
 use Rattle.ct_call.specs.Rules.{Rules}
-use Rattle.ct_rules.specs.Form.{IsInForm, least_of, sent_for, wished_as, wants_record, revoked_rsn, vacuumed_rsn}
+use Rattle.ct_rules.specs.Form.{HasCounters, IsInForm, least_of, sent_for, wished_as, wants_record, revoked_rsn, vacuumed_rsn}
 use Rattle.ct_rules.specs.State.{nothing_kept, rsn_of, is_quiet}
 use Rattle.ct_rules.specs.declared.event.Place.{Place}
 use Rattle.ct_rules.specs.declared.state.Entry.{Entry}
@@ -37,10 +37,10 @@ wish_low db key next (Some x) h low = (let l = h.drawn in omega arith)
 abbrev kept_with : Option RecCopy → Option Entry → Option Wish → RecState
 kept_with copy entry wish = record nothing_kept { copy = copy; entry = entry; wish = wish }
 
-with_form : (at : Place) (copy : Option RecCopy) (entry : Option Entry) (wish : Option Wish) → sent_for entry ≡ 0 → wants_record wish ≡ true → rsn_of copy < 2 ^ 62 → least_of entry < 2 ^ 62 → wished_as wish < 2 ^ 62 →
-    IsInForm at (kept_with copy entry wish)
+with_form : (at : Place) (next : ℕ) (copy : Option RecCopy) (entry : Option Entry) (wish : Option Wish) → sent_for entry ≡ 0 → wants_record wish ≡ true → rsn_of copy < 2 ^ 62 → least_of entry < 2 ^ 62 → wished_as wish < 2 ^ 62 → HasCounters next at.floor →
+    IsInForm at next (kept_with copy entry wish)
 unfolding is_quiet revoked_rsn vacuumed_rsn
-with_form at copy entry wish unsent wants rsn least low = record {
+with_form at next copy entry wish unsent wants rsn least low counters = record {
   shape = record {
     sent_on = λ ne. absurd (ne unsent);
     queue_entry = λ e. absurd (cc);
@@ -66,17 +66,15 @@ with_form at copy entry wish unsent wants rsn least low = record {
     vacuum_limit = omega arith;
     wish_limit = low;
   };
+  counters = counters;
 }
 
 with_formed : (s : Scene) (n next : ℕ) (copy : Option RecCopy) (entry : Option Entry) (wish : Option Wish) → 1 ≤ next → next < 2 ^ 62 → sent_for entry ≡ 0 → wants_record wish ≡ true → rsn_of copy < 2 ^ 62 → least_of entry < 2 ^ 62 → wished_as wish < 2 ^ 62 →
     Is_formed s n (record { state = kept_with copy entry wish; next = next; floor = 0 })
 with_formed s n next copy entry wish some few unsent wants rsn least low = record {
-  form = with_form (place s n (record { state = kept_with copy entry wish; next = next; floor = 0 })) copy entry wish unsent wants rsn least low;
+  form = with_form (place s n (record { state = kept_with copy entry wish; next = next; floor = 0 })) next copy entry wish unsent wants rsn least low (record { from_one = some; next_limit = few; floor_limit = omega arith });
   tracks = record { tracked_held = λ e. absurd (cc); vacuum_untracked = λ e. refl };
   waits = refl;
-  from_one = some;
-  next_limit = few;
-  floor_limit = omega arith;
 }
 
 copy_low : (n : ℕ) (x : TableRow) (m : ℕ) → x.rsn + 1 < 2 ^ 62 → rsn_of (Some (copy_from n x m)) < 2 ^ 62

@@ -8,8 +8,8 @@ use Rattle.ct_frame.specs.declared.frame.Msg.{Msg}
 use Rattle.ct_frame.specs.declared.frame.Msg.TheVariants as msg
 use Rattle.ct_msg.specs.declared.client.Answer.{Answer}
 use Rattle.ct_msg.specs.declared.client.ClientOp.{ClientOp}
-use Rattle.ct_rules.specs.Parts.{Moving, acts, send, send_all, reply, keeps, makes, opened, open_of, end_vacuum, give, applies, satisfy, revoke, read_here, delegate, grant, yield_record, drain, drained, satisfy_own, raise, end_revocation, next, next_of, keep, call_for, wait_for_copies, want_of, opened_at_home, want}
-use Rattle.ct_rules.specs.Frames.{pass_again, enqueue, on_call_of, called, on_call, wait, handle, recalled, on_recall, hand_on, on_give_of, on_give, satisfy_wish, becomes, take, refuse, on_pass, on_refuse_of, on_refuse, reads, on_grant, on_done_of, on_done, acknowledge, on_revoke_of, on_revoke, acknowledged, on_revokeack, on_vstore, on_vdelete, finish, greater, on_vstored_of, on_vstored, on_vdeleted_of, on_vdeleted}
+use Rattle.ct_rules.specs.Parts.{Moving, performs, send, send_all, reply, keeps, reaches, opened, open_of, end_vacuum, give, applies, satisfy, revoke, read_here, delegate, grant, yield_record, drain, drained, satisfy_own, raise, end_revocation, next, next_of, keep, call_for, wait_for_copies, want_of, opened_at_home, want}
+use Rattle.ct_rules.specs.Messages.{pass_again, enqueue, on_call_of, called, on_call, wait, handle, recalled, on_recall, hand_on, on_give_of, on_give, satisfy_wish, becomes, accept, refuse, on_pass, on_refuse_of, on_refuse, read_granted, on_grant, on_done_of, on_done, acknowledge, renew, on_revoke_of, on_revoke, acknowledged, on_revokeack, on_vstore, on_vdelete, finish, greater, on_vstored_of, on_vstored, on_vdeleted_of, on_vdeleted}
 use Rattle.ct_rules.specs.declared.event.Place.{Place}
 use Rattle.ct_rules.specs.declared.state.RecallNote.{RecallNote}
 use Rattle.ct_rules.specs.declared.state.Entry.{Entry}
@@ -39,11 +39,11 @@ more_of P [] a k h = (k, tt)
 more_of P (b ∷ bs) a k h = (h.0, more_of P bs a k h.1)
 
 send_tells : (P : ℕ → ClientOp → Type 0) (n : ℕ) (m : Msg) (o : Moving) → Ofs P o.acts → Ofs P (send n m o).acts
-unfolding send acts IsOf
+unfolding send performs IsOf
 send_tells P n m o h = more_of P o.acts (act.Send n m) tt h
 
 reply_tells : (P : ℕ → ClientOp → Type 0) (call : ℕ) (asked : ClientOp) (a : Answer) (o : Moving) → P call asked → Ofs P o.acts → Ofs P (reply call a o).acts
-unfolding reply acts IsOf
+unfolding reply performs IsOf
 reply_tells P call asked a o own h = more_of P o.acts (act.Answer call a) (asked, own) h
 
 send_all_tells : (P : ℕ → ClientOp → Type 0) (ns : List ℕ) (m : Msg) (o : Moving) → Ofs P o.acts → Ofs P (send_all ns m o).acts
@@ -61,15 +61,15 @@ read_here_tells P at request o None v h = h
 read_here_tells P at request o (Some w) v h = either_of P _ _ _ (reply_tells P w.call w.op _ (keeps (record o.state { wish = None }) o) v h) h
 
 grant_tells : (P : ℕ → ClientOp → Type 0) (at : Place) (node request : ℕ) (o : Moving) → Wishful P o.state.wish → Ofs P o.acts → Ofs P (grant at node request o).acts
-unfolding keeps makes grant delegate Wishful
+unfolding keeps reaches grant delegate Wishful
 grant_tells P at node request o v h = grind (arith, h, v, send_tells P, reply_tells P, read_here_tells P, read_here_wish P)
 
 revoke_tells : (P : ℕ → ClientOp → Type 0) (at : Place) (o : Moving) → Ofs P o.acts → Ofs P (revoke at o).acts
-unfolding keeps makes revoke Wishful
+unfolding keeps reaches revoke Wishful
 revoke_tells P at o h = grind (arith, h, send_tells P, reply_tells P, send_all_tells P, send_all_wish P)
 
 give_tells : (P : ℕ → ClientOp → Type 0) (at : Place) (o : Moving) → Ofs P o.acts → Ofs P (give at o).acts
-unfolding keeps makes give Wishful
+unfolding keeps reaches give Wishful
 give_tells P at o h = grind (arith, h, send_tells P, reply_tells P)
 
 yield_tells : (P : ℕ → ClientOp → Type 0) (at : Place) (o : Moving) → Ofs P o.acts → Ofs P (yield_record at o).acts
@@ -111,27 +111,27 @@ wish_tells P rules o None v h = h
 wish_tells P rules o (Some w) v h = satisfy_tells P rules w.call w.op (keeps (record o.state { wish = None }) o) v h
 
 end_revocation_tells : (P : ℕ → ClientOp → Type 0) (at : Place) (rules : Rules) (o : Moving) → Wishful P o.state.wish → Ofs P o.acts → Ofs P (end_revocation at rules o).acts
-unfolding keeps makes end_revocation raise Wishful
+unfolding keeps reaches end_revocation raise Wishful
 end_revocation_tells P at rules o v h = grind (arith, h, v, send_tells P, reply_tells P, own_tells P, own_wish P, drained_tells P, drained_wish P)
 
 next_tells : (P : ℕ → ClientOp → Type 0) (at : Place) (o : Moving) → Ofs P o.acts → Ofs P (next at o).acts
-unfolding keeps makes next next_of Wishful
+unfolding keeps reaches next next_of Wishful
 next_tells P at o h = grind (arith, h, send_tells P, reply_tells P)
 
 keep_tells : (P : ℕ → ClientOp → Type 0) (at : Place) (rsn : ℕ) (value : List ℕ) (o : Moving) → Ofs P o.acts → Ofs P (keep at rsn value o).acts
-unfolding keeps makes keep Wishful
+unfolding keeps reaches keep Wishful
 keep_tells P at rsn value o h = grind (arith, h, send_tells P, reply_tells P, next_tells P)
 
 opened_tells : (P : ℕ → ClientOp → Type 0) (at : Place) (o : Moving) → Ofs P o.acts → Ofs P (opened at o).acts
-unfolding keeps makes opened open_of end_vacuum Wishful
+unfolding keeps reaches opened open_of end_vacuum Wishful
 opened_tells P at o h = grind (arith, h, send_tells P, reply_tells P)
 
 enqueue_tells : (P : ℕ → ClientOp → Type 0) (at : Place) (w : Waiter) (o : Moving) (ws : List Waiter) → Ofs P o.acts → Ofs P (enqueue at w o ws).acts
-unfolding keeps makes enqueue Wishful
+unfolding keeps reaches enqueue Wishful
 enqueue_tells P at w o ws h = grind (arith, h, send_tells P, reply_tells P, next_tells P)
 
 pass_again_tells : (P : ℕ → ClientOp → Type 0) (at : Place) (e : Entry) (o : Moving) → Ofs P o.acts → Ofs P (pass_again at e o).acts
-unfolding keeps makes pass_again Wishful
+unfolding keeps reaches pass_again Wishful
 pass_again_tells P at e o h = grind (arith, h, send_tells P, reply_tells P)
 
 call_of_tells : (P : ℕ → ClientOp → Type 0) (at : Place) (n request : ℕ) (k : CallKind) (o : Moving) (e : Option Entry) → Ofs P o.acts → Ofs P (on_call_of at n request k o e).acts
@@ -139,23 +139,23 @@ unfolding on_call_of Wishful
 call_of_tells P at n request k o e h = grind (arith, h, send_tells P, reply_tells P, pass_again_tells P, next_tells P, enqueue_tells P)
 
 call_tells : (P : ℕ → ClientOp → Type 0) (at : Place) (n request : ℕ) (k : CallKind) (o : Moving) → Ofs P o.acts → Ofs P (on_call at n request k o).acts
-unfolding keeps makes on_call called end_vacuum Wishful
+unfolding keeps reaches on_call called end_vacuum Wishful
 call_tells P at n request k o h = grind (arith, h, send_tells P, reply_tells P, call_of_tells P, opened_tells P)
 
 handle_tells : (P : ℕ → ClientOp → Type 0) (at : Place) (r : RecallNote) (o : Moving) → Wishful P o.state.wish → Ofs P o.acts → Ofs P (handle at r o).acts
-unfolding keeps makes handle end_vacuum Wishful
+unfolding keeps reaches handle end_vacuum Wishful
 handle_tells P at r o v h = grind (arith, h, v, send_tells P, reply_tells P, grant_tells P, grant_wish P, yield_tells P)
 
 recall_tells : (P : ℕ → ClientOp → Type 0) (at : Place) (r : RecallNote) (o : Moving) → Wishful P o.state.wish → Ofs P o.acts → Ofs P (on_recall at r o).acts
-unfolding keeps makes on_recall recalled wait Wishful
+unfolding keeps reaches on_recall recalled wait Wishful
 recall_tells P at r o v h = grind (arith, h, v, send_tells P, reply_tells P, handle_tells P, handle_wish P)
 
 hand_on_tells : (P : ℕ → ClientOp → Type 0) (at : Place) (rsn : ℕ) (value : List ℕ) (o : Moving) (ws : List Waiter) → Ofs P o.acts → Ofs P (hand_on at rsn value o ws).acts
-unfolding keeps makes hand_on Wishful
+unfolding keeps reaches hand_on Wishful
 hand_on_tells P at rsn value o ws h = grind (arith, h, send_tells P, reply_tells P, keep_tells P, next_tells P)
 
 on_give_tells : (P : ℕ → ClientOp → Type 0) (at : Place) (x rsn : ℕ) (value : List ℕ) (o : Moving) → Ofs P o.acts → Ofs P (on_give at x rsn value o).acts
-unfolding keeps makes on_give on_give_of Wishful
+unfolding keeps reaches on_give on_give_of Wishful
 on_give_tells P at x rsn value o h = grind (arith, h, send_tells P, reply_tells P, hand_on_tells P)
 
 took_wish : (P : ℕ → ClientOp → Type 0) (rules : Rules) (o : Moving) (w : Option Wish) → Wishful P o.state.wish → Wishful P (satisfy_wish rules o w).state.wish
@@ -163,20 +163,20 @@ unfolding satisfy_wish keeps Wishful
 took_wish P rules o None v = v
 took_wish P rules o (Some w) v = satisfied_wish P rules w.call w.op (keeps (record o.state { wish = None }) o) tt
 
-take_tells : (P : ℕ → ClientOp → Type 0) (at : Place) (rules : Rules) (rsn : ℕ) (value : List ℕ) (o : Moving) → Wishful P o.state.wish → Ofs P o.acts → Ofs P (take at rules rsn value o).acts
-unfolding keeps makes take becomes
+take_tells : (P : ℕ → ClientOp → Type 0) (at : Place) (rules : Rules) (rsn : ℕ) (value : List ℕ) (o : Moving) → Wishful P o.state.wish → Ofs P o.acts → Ofs P (accept at rules rsn value o).acts
+unfolding keeps reaches accept becomes
 take_tells P at rules rsn value o v h = drained_tells P at (satisfy_wish rules (becomes at (rsn + 1) value o) o.state.wish) (took_wish P rules (becomes at (rsn + 1) value o) o.state.wish v) (wish_tells P rules (becomes at (rsn + 1) value o) o.state.wish v h)
 
 pass_tells : (P : ℕ → ClientOp → Type 0) (at : Place) (rules : Rules) (request rsn : ℕ) (value : List ℕ) (o : Moving) → Wishful P o.state.wish → Ofs P o.acts → Ofs P (on_pass at rules request rsn value o).acts
-unfolding keeps makes on_pass refuse Wishful
+unfolding keeps reaches on_pass refuse Wishful
 pass_tells P at rules request rsn value o v h = grind (arith, h, v, send_tells P, reply_tells P, take_tells P, take_wish P)
 
 on_refuse_tells : (P : ℕ → ClientOp → Type 0) (at : Place) (n request rsn : ℕ) (o : Moving) → Ofs P o.acts → Ofs P (on_refuse at n request rsn o).acts
-unfolding keeps makes on_refuse on_refuse_of Wishful
+unfolding keeps reaches on_refuse on_refuse_of Wishful
 on_refuse_tells P at n request rsn o h = grind (arith, h, send_tells P, reply_tells P, keep_tells P)
 
-reads_tells : (P : ℕ → ClientOp → Type 0) (request : ℕ) (o : Moving) (w : Option Wish) (value : List ℕ) → Wishful P w → Ofs P o.acts → Ofs P (reads request o w value).acts
-unfolding keeps reads Wishful
+reads_tells : (P : ℕ → ClientOp → Type 0) (request : ℕ) (o : Moving) (w : Option Wish) (value : List ℕ) → Wishful P w → Ofs P o.acts → Ofs P (read_granted request o w value).acts
+unfolding keeps read_granted Wishful
 reads_tells P request o None value v h = h
 reads_tells P request o (Some w) value v h = reply_tells P w.call w.op _ (keeps (record o.state { wish = None }) o) v h
 
@@ -185,48 +185,48 @@ unfolding keeps on_grant
 on_grant_tells P at n request rsn value o v h = either_of P _ _ _ (reads_tells P request _ o.state.wish value v h) h
 
 on_done_tells : (P : ℕ → ClientOp → Type 0) (at : Place) (n request : ℕ) (o : Moving) → Ofs P o.acts → Ofs P (on_done at n request o).acts
-unfolding keeps makes on_done on_done_of Wishful
+unfolding keeps reaches on_done on_done_of Wishful
 on_done_tells P at n request o h = grind (arith, h, send_tells P, reply_tells P, next_tells P)
 
 on_revoke_tells : (P : ℕ → ClientOp → Type 0) (at : Place) (n rsn : ℕ) (o : Moving) → Ofs P o.acts → Ofs P (on_revoke at n rsn o).acts
-unfolding keeps makes on_revoke on_revoke_of acknowledge Wishful
+unfolding keeps reaches on_revoke renew on_revoke_of acknowledge Wishful
 on_revoke_tells P at n rsn o h = grind (arith, h, send_tells P, reply_tells P)
 
 on_revokeack_tells : (P : ℕ → ClientOp → Type 0) (at : Place) (rules : Rules) (n rsn : ℕ) (o : Moving) → Wishful P o.state.wish → Ofs P o.acts → Ofs P (on_revokeack at rules n rsn o).acts
-unfolding keeps makes on_revokeack acknowledged Wishful
+unfolding keeps reaches on_revokeack acknowledged Wishful
 on_revokeack_tells P at rules n rsn o v h = grind (arith, h, v, send_tells P, reply_tells P, end_revocation_tells P, end_revocation_wish P)
 
 on_vstore_tells : (P : ℕ → ClientOp → Type 0) (at : Place) (n rsn : ℕ) (o : Moving) → Ofs P o.acts → Ofs P (on_vstore at n rsn o).acts
-unfolding keeps makes on_vstore Wishful
+unfolding keeps reaches on_vstore Wishful
 on_vstore_tells P at n rsn o h = grind (arith, h, send_tells P, reply_tells P)
 
 on_vdelete_tells : (P : ℕ → ClientOp → Type 0) (at : Place) (n rsn : ℕ) (o : Moving) → Ofs P o.acts → Ofs P (on_vdelete at n rsn o).acts
-unfolding keeps makes on_vdelete Wishful
+unfolding keeps reaches on_vdelete Wishful
 on_vdelete_tells P at n rsn o h = grind (arith, h, send_tells P, reply_tells P)
 
 finish_tells : (P : ℕ → ClientOp → Type 0) (rsn : ℕ) (o : Moving) → Ofs P o.acts → Ofs P (finish rsn o).acts
-unfolding finish acts makes IsOf
+unfolding finish performs reaches IsOf
 finish_tells P rsn o h = more_of P o.acts (act.Finished (greater o.floor (rsn + 2))) tt h
 
 on_vstored_tells : (P : ℕ → ClientOp → Type 0) (at : Place) (n rsn : ℕ) (o : Moving) → Ofs P o.acts → Ofs P (on_vstored at n rsn o).acts
-unfolding keeps makes on_vstored on_vstored_of Wishful
+unfolding keeps reaches on_vstored on_vstored_of Wishful
 on_vstored_tells P at n rsn o h = grind (arith, h, send_tells P, reply_tells P, send_all_tells P, send_all_wish P)
 
 on_vdeleted_tells : (P : ℕ → ClientOp → Type 0) (at : Place) (n rsn : ℕ) (o : Moving) → Ofs P o.acts → Ofs P (on_vdeleted n rsn o).acts
-unfolding keeps makes on_vdeleted on_vdeleted_of Wishful
+unfolding keeps reaches on_vdeleted on_vdeleted_of Wishful
 on_vdeleted_tells P at n rsn o h = grind (arith, h, send_tells P, reply_tells P, finish_tells P)
 
-call_for_tells : (P : ℕ → ClientOp → Type 0) (at : Place) (call : ℕ) (o_p : ClientOp) (o : Moving) → Ofs P o.acts → Ofs P (call_for at call o_p o).acts
-unfolding keeps makes call_for Wishful
-call_for_tells P at call o_p o h = grind (arith, h, send_tells P, reply_tells P)
+call_for_tells : (P : ℕ → ClientOp → Type 0) (at : Place) (call : ℕ) (asked : ClientOp) (o : Moving) → Ofs P o.acts → Ofs P (call_for at call asked o).acts
+unfolding keeps reaches call_for Wishful
+call_for_tells P at call asked o h = grind (arith, h, send_tells P, reply_tells P)
 
-wait_tells : (P : ℕ → ClientOp → Type 0) (at : Place) (call : ℕ) (o_p : ClientOp) (o : Moving) → Ofs P o.acts → Ofs P (wait_for_copies at call o_p o).acts
-unfolding keeps makes wait_for_copies Wishful
-wait_tells P at call o_p o h = grind (arith, h, send_tells P, reply_tells P, revoke_tells P)
+wait_tells : (P : ℕ → ClientOp → Type 0) (at : Place) (call : ℕ) (asked : ClientOp) (o : Moving) → Ofs P o.acts → Ofs P (wait_for_copies at call asked o).acts
+unfolding keeps reaches wait_for_copies Wishful
+wait_tells P at call asked o h = grind (arith, h, send_tells P, reply_tells P, revoke_tells P)
 
-want_of_tells : (P : ℕ → ClientOp → Type 0) (at : Place) (rules : Rules) (call : ℕ) (o_p : ClientOp) (o : Moving) → P call o_p → Wishful P o.state.wish → Ofs P o.acts → Ofs P (want_of at rules call o_p o).acts
-unfolding keeps makes want_of Wishful
-want_of_tells P at rules call o_p o own v h = grind (arith, h, v, own, send_tells P, reply_tells P, satisfy_tells P, wait_tells P, call_for_tells P)
+want_of_tells : (P : ℕ → ClientOp → Type 0) (at : Place) (rules : Rules) (call : ℕ) (asked : ClientOp) (o : Moving) → P call asked → Wishful P o.state.wish → Ofs P o.acts → Ofs P (want_of at rules call asked o).acts
+unfolding keeps reaches want_of Wishful
+want_of_tells P at rules call asked o own v h = grind (arith, h, v, own, send_tells P, reply_tells P, satisfy_tells P, wait_tells P, call_for_tells P)
 
 home_opened_tells : (P : ℕ → ClientOp → Type 0) (at : Place) (o : Moving) → Ofs P o.acts → Ofs P (opened_at_home at o).acts
 unfolding opened_at_home end_vacuum keeps
@@ -237,11 +237,11 @@ unfolding want
 want_tells P at rules call asked o own v h = want_of_tells P at rules call asked (opened_at_home at o) own (home_opened_wish P at o v) (home_opened_tells P at o h)
 
 pub store_tells : (P : ℕ → ClientOp → Type 0) (at : Place) (call : ℕ) (asked : ClientOp) (v : List ℕ) (o : Moving) → P call asked → Ofs P o.acts → Ofs P (store call v o).acts
-unfolding keeps makes store Wishful
+unfolding keeps reaches store Wishful
 store_tells P at call asked v o own h = grind (arith, h, own, send_tells P, reply_tells P)
 
 pub release_tells : (P : ℕ → ClientOp → Type 0) (at : Place) (call : ℕ) (asked : ClientOp) (o : Moving) → P call asked → Ofs P o.acts → Ofs P (release call o).acts
-unfolding keeps makes release Wishful
+unfolding keeps reaches release Wishful
 release_tells P at call asked o own h = grind (arith, h, own, send_tells P, reply_tells P)
 
 pub unlock_tells : (P : ℕ → ClientOp → Type 0) (at : Place) (call : ℕ) (asked : ClientOp) (o : Moving) → P call asked → Wishful P o.state.wish → Ofs P o.acts → Ofs P (unlock at call o).acts
@@ -249,19 +249,19 @@ unfolding unlock
 unlock_tells P at call asked o own v h = drained_tells P at (release call o) (release_wish P call o v) (release_tells P at call asked o own h)
 
 begin_tells : (P : ℕ → ClientOp → Type 0) (at : Place) (o : Moving) (ns : List ℕ) → Ofs P o.acts → Ofs P (begin_vacuum at o ns).acts
-unfolding keeps makes begin_vacuum Wishful
+unfolding keeps reaches begin_vacuum Wishful
 begin_tells P at o ns h = grind (arith, h, send_tells P, reply_tells P, finish_tells P, send_all_tells P, send_all_wish P)
 
 pub vacuum_tells : (P : ℕ → ClientOp → Type 0) (at : Place) (ns : List ℕ) (o : Moving) → Ofs P o.acts → Ofs P (vacuum at ns o).acts
-unfolding keeps makes vacuum vacuum_at_home Wishful
+unfolding keeps reaches vacuum vacuum_at_home Wishful
 vacuum_tells P at ns o h = grind (arith, h, send_tells P, reply_tells P, begin_tells P, send_all_tells P, send_all_wish P, give_tells P)
 
 pub call_again_tells : (P : ℕ → ClientOp → Type 0) (at : Place) (o : Moving) → Ofs P o.acts → Ofs P (call_again at o).acts
-unfolding keeps makes call_again call_again_of Wishful
+unfolding keeps reaches call_again call_again_of Wishful
 call_again_tells P at o h = grind (arith, h, send_tells P, reply_tells P)
 
 pub revoke_again_tells : (P : ℕ → ClientOp → Type 0) (at : Place) (o : Moving) → Ofs P o.acts → Ofs P (revoke_again at o).acts
-unfolding keeps makes revoke_again revoke_again_of Wishful
+unfolding keeps reaches revoke_again revoke_again_of Wishful
 revoke_again_tells P at o h = grind (arith, h, send_tells P, reply_tells P, send_all_tells P, send_all_wish P)
 
 home_tells : (P : ℕ → ClientOp → Type 0) (at : Place) (o p : Moving) → Ofs P o.acts → Ofs P p.acts → Ofs P (at_home at p o).acts

@@ -16,7 +16,7 @@ use Rattle.ct_frame.specs.declared.frame.PTable.{PTable}
 use Rattle.ct_frame.specs.declared.frame.TableRow.{TableRow}
 use Rattle.ct_call.specs.Rules.{Rules}
 use Rattle.ct_store.specs.Map.{Pairs}
-use Rattle.ct_rules.specs.Parts.{Moving, send, acts, keeps, want}
+use Rattle.ct_rules.specs.Parts.{Moving, send, performs, keeps, want}
 use Rattle.ct_rules.specs.Moves.{call_again_of, call_again, revoke_again_of, revoke_again, release}
 use Rattle.ct_rules.specs.declared.event.Place.{Place}
 use Rattle.ct_rules.specs.declared.state.RecState.{RecState}
@@ -58,7 +58,7 @@ module _ (P : ℕ → List ℕ → ℕ → ClientOp → Type 0) (Q : ℕ → ℕ
   want_again_calls db key rules at o h = want_again_of_calls db key rules at o o.state.wish h h
 
   call_again_calls : (db : ℕ) (key : List ℕ) → KeepsWish P Q db key call_again
-  unfolding call_again call_again_of send acts
+  unfolding call_again call_again_of send performs
   call_again_calls db key at o h = grind (arith, h)
 
   revoke_again_calls : (db : ℕ) (key : List ℕ) → KeepsWish P Q db key revoke_again

@@ -8,8 +8,8 @@ use Rattle.ct_frame.specs.declared.frame.Msg.{Msg}
 use Rattle.ct_frame.specs.declared.frame.Msg.TheVariants as msg
 use Rattle.ct_msg.specs.declared.client.ClientOp.{ClientOp}
 use Rattle.ct_rules.specs.State.{is_read_kind, kind_of}
-use Rattle.ct_rules.specs.Parts.{Moving, acts, send, send_all, reply, keeps, makes, opened, open_of, end_vacuum, give, applies, satisfy, revoke, read_here, delegate, grant, yield_record, drain, drained, satisfy_own, raise, end_revocation, next, next_of, keep, call_for, wait_for_copies, want_of, opened_at_home, want}
-use Rattle.ct_rules.specs.Frames.{pass_again, enqueue, on_call_of, called, on_call, wait, handle, recalled, on_recall, hand_on, on_give_of, on_give, satisfy_wish, becomes, take, refuse, on_pass, on_refuse_of, on_refuse, reads, on_grant, on_done_of, on_done, acknowledge, on_revoke_of, on_revoke, acknowledged, on_revokeack, on_vstore, on_vdelete, finish, on_vstored_of, on_vstored, on_vdeleted_of, on_vdeleted}
+use Rattle.ct_rules.specs.Parts.{Moving, performs, send, send_all, reply, keeps, reaches, opened, open_of, end_vacuum, give, applies, satisfy, revoke, read_here, delegate, grant, yield_record, drain, drained, satisfy_own, raise, end_revocation, next, next_of, keep, call_for, wait_for_copies, want_of, opened_at_home, want}
+use Rattle.ct_rules.specs.Messages.{pass_again, enqueue, on_call_of, called, on_call, wait, handle, recalled, on_recall, hand_on, on_give_of, on_give, satisfy_wish, becomes, accept, refuse, on_pass, on_refuse_of, on_refuse, read_granted, on_grant, on_done_of, on_done, acknowledge, renew, on_revoke_of, on_revoke, acknowledged, on_revokeack, on_vstore, on_vdelete, finish, on_vstored_of, on_vstored, on_vdeleted_of, on_vdeleted}
 use Rattle.ct_rules.specs.declared.event.Place.{Place}
 use Rattle.ct_rules.specs.declared.state.RecallNote.{RecallNote}
 use Rattle.ct_rules.specs.declared.state.Entry.{Entry}
@@ -92,7 +92,7 @@ unfolding Even
 waits_even xs as' w h k = (h, k)
 
 send_all_even : (xs : List ℕ) (ns : List ℕ) (m : Msg) (o : Moving) → Even xs o.acts o.state.wish → Even xs (send_all ns m o).acts (send_all ns m o).state.wish
-unfolding send_all send acts
+unfolding send_all send performs
 send_all_even xs [] m o h = h
 send_all_even xs (n ∷ ns) m o h = send_all_even xs ns m (send n m o) (send_even xs o.acts o.state.wish n m h)
 
@@ -101,13 +101,13 @@ either_even xs true x y h k = h
 either_even xs false x y h k = k
 
 read_here_even : (xs : List ℕ) (at : Place) (request : ℕ) (o : Moving) (w : Option Wish) → o.state.wish ≡ w → Even xs o.acts o.state.wish → Even xs (read_here at request o w).acts (read_here at request o w).state.wish
-unfolding read_here reply acts keeps
+unfolding read_here reply performs keeps
 read_here_even xs at request o None e h = h
 read_here_even xs at request o (Some w) e h = (let k = subst (λ (x : Option Wish). Even xs o.acts x) e h in
     either_even xs (is_wished at.readonly request kind.Read (Some w)) _ _ (answer_even xs o.acts w.call _ (due xs o.acts w k).0) h)
 
 grant_even : (xs : List ℕ) (at : Place) (node request : ℕ) (o : Moving) → Even xs o.acts o.state.wish → Even xs (grant at node request o).acts (grant at node request o).state.wish
-unfolding send acts keeps grant delegate
+unfolding send performs keeps grant delegate
 grant_even xs at node request o h = grind (arith, h, send_even xs, finished_even xs, read_here_even xs)
 
 revoke_even : (xs : List ℕ) (at : Place) (o : Moving) → Even xs o.acts o.state.wish → Even xs (revoke at o).acts (revoke at o).state.wish
@@ -115,7 +115,7 @@ unfolding keeps revoke
 revoke_even xs at o h = grind (arith, h, send_even xs, finished_even xs, send_all_even xs)
 
 give_even : (xs : List ℕ) (at : Place) (o : Moving) → Even xs o.acts o.state.wish → Even xs (give at o).acts (give at o).state.wish
-unfolding send acts keeps give
+unfolding send performs keeps give
 give_even xs at o h = grind (arith, h, send_even xs, finished_even xs)
 
 yield_even : (xs : List ℕ) (at : Place) (o : Moving) → Even xs o.acts o.state.wish → Even xs (yield_record at o).acts (yield_record at o).state.wish
@@ -139,15 +139,15 @@ applied_never None old arg e = absurd (cc)
 applied_never (Some r) old arg e = bounded_never (call_rules.value_of r old arg) e
 
 applies_even : (xs : List ℕ) (call : ℕ) (o : Moving) (r : Result (List ℕ) CallFault) → r ≢ Err fault.NoMemory → o.state.wish ≡ None → answers_in o.acts ++ call ∷ [] ≡ xs → Even xs (applies call o r).acts (applies call o r).state.wish
-unfolding applies reply acts keeps
+unfolding applies reply performs keeps
 applies_even xs call o (Ok v) never none h = subst (λ (x : Option Wish). Even xs (o.acts ++ act.Answer call (answer.Applied v) ∷ []) x) (sym none) (answer_even xs o.acts call _ h)
 applies_even xs call o (Err (fault.TooLong n)) never none h = subst (λ (x : Option Wish). Even xs (o.acts ++ act.Answer call (answer.Refused (why.TooLong n)) ∷ []) x) (sym none) (answer_even xs o.acts call _ h)
 applies_even xs call o (Err fault.NoSuchCall) never none h = subst (λ (x : Option Wish). Even xs (o.acts ++ act.Answer call (answer.Refused why.NoSuchCall) ∷ []) x) (sym none) (answer_even xs o.acts call _ h)
 applies_even xs call o (Err fault.NoMemory) never none h = absurd (never refl)
 
 -- a call that wants the record, and waits no more, is answered once
-satisfied_even : (xs : List ℕ) (rules : Rules) (call : ℕ) (o_p : ClientOp) (o : Moving) → o.state.wish ≡ None → is_wanting o_p ≡ true → answers_in o.acts ++ call ∷ [] ≡ xs → Even xs (satisfy rules call o_p o).acts (satisfy rules call o_p o).state.wish
-unfolding satisfy reply acts keeps is_wanting
+satisfied_even : (xs : List ℕ) (rules : Rules) (call : ℕ) (asked : ClientOp) (o : Moving) → o.state.wish ≡ None → is_wanting asked ≡ true → answers_in o.acts ++ call ∷ [] ≡ xs → Even xs (satisfy rules call asked o).acts (satisfy rules call asked o).state.wish
+unfolding satisfy reply performs keeps is_wanting
 satisfied_even xs rules call (op.Lock db key) o none is h = subst (λ (x : Option Wish). Even xs (o.acts ++ act.Answer call (answer.Locked (value_of o.state.copy)) ∷ []) x) (sym none) (answer_even xs o.acts call _ h)
 satisfied_even xs rules call (op.Read db key) o none is h = subst (λ (x : Option Wish). Even xs (o.acts ++ act.Answer call (answer.Read (value_of o.state.copy)) ∷ []) x) (sym none) (answer_even xs o.acts call _ h)
 satisfied_even xs rules call (op.Write db key v) o none is h = subst (λ (x : Option Wish). Even xs (o.acts ++ act.Answer call answer.Written ∷ []) x) (sym none) (answer_even xs o.acts call _ h)
@@ -169,15 +169,15 @@ wish_even xs rules o (Some w) e h = (let k = due xs o.acts w (subst (λ (x : Opt
     satisfied_even xs rules w.call w.op (record o { state = record o.state { wish = None } }) refl k.1 k.0)
 
 end_revocation_even : (xs : List ℕ) (at : Place) (rules : Rules) (o : Moving) → Even xs o.acts o.state.wish → Even xs (end_revocation at rules o).acts (end_revocation at rules o).state.wish
-unfolding keeps makes end_revocation raise
+unfolding keeps reaches end_revocation raise
 end_revocation_even xs at rules o h = grind (arith, h, send_even xs, finished_even xs, own_even xs, drained_even xs)
 
 next_even : (xs : List ℕ) (at : Place) (o : Moving) → Even xs o.acts o.state.wish → Even xs (next at o).acts (next at o).state.wish
-unfolding send acts next next_of
+unfolding send performs next next_of
 next_even xs at o h = grind (arith, h, send_even xs, finished_even xs)
 
 keep_even : (xs : List ℕ) (at : Place) (rsn : ℕ) (value : List ℕ) (o : Moving) → Even xs o.acts o.state.wish → Even xs (keep at rsn value o).acts (keep at rsn value o).state.wish
-unfolding keeps makes keep
+unfolding keeps reaches keep
 keep_even xs at rsn value o h = grind (arith, h, send_even xs, finished_even xs, next_even xs)
 
 opened_even : (xs : List ℕ) (at : Place) (o : Moving) → Even xs o.acts o.state.wish → Even xs (opened at o).acts (opened at o).state.wish
@@ -189,7 +189,7 @@ unfolding keeps enqueue
 enqueue_even xs at w o ws h = grind (arith, h, send_even xs, finished_even xs, next_even xs)
 
 pass_again_even : (xs : List ℕ) (at : Place) (e : Entry) (o : Moving) → Even xs o.acts o.state.wish → Even xs (pass_again at e o).acts (pass_again at e o).state.wish
-unfolding send acts pass_again
+unfolding send performs pass_again
 pass_again_even xs at e o h = grind (arith, h, send_even xs, finished_even xs)
 
 call_of_even : (xs : List ℕ) (at : Place) (n request : ℕ) (k : CallKind) (o : Moving) (e : Option Entry) → Even xs o.acts o.state.wish → Even xs (on_call_of at n request k o e).acts (on_call_of at n request k o e).state.wish
@@ -205,27 +205,27 @@ unfolding keeps handle end_vacuum
 handle_even xs at r o h = grind (arith, h, send_even xs, finished_even xs, grant_even xs, yield_even xs)
 
 recall_even : (xs : List ℕ) (at : Place) (r : RecallNote) (o : Moving) → Even xs o.acts o.state.wish → Even xs (on_recall at r o).acts (on_recall at r o).state.wish
-unfolding send acts keeps on_recall recalled wait
+unfolding send performs keeps on_recall recalled wait
 recall_even xs at r o h = grind (arith, h, send_even xs, finished_even xs, handle_even xs)
 
 hand_on_even : (xs : List ℕ) (at : Place) (rsn : ℕ) (value : List ℕ) (o : Moving) (ws : List Waiter) → Even xs o.acts o.state.wish → Even xs (hand_on at rsn value o ws).acts (hand_on at rsn value o ws).state.wish
-unfolding send acts keeps makes hand_on
+unfolding send performs keeps reaches hand_on
 hand_on_even xs at rsn value o ws h = grind (arith, h, send_even xs, finished_even xs, keep_even xs, next_even xs)
 
 on_give_even : (xs : List ℕ) (at : Place) (x rsn : ℕ) (value : List ℕ) (o : Moving) → Even xs o.acts o.state.wish → Even xs (on_give at x rsn value o).acts (on_give at x rsn value o).state.wish
 unfolding on_give on_give_of
 on_give_even xs at x rsn value o h = grind (arith, h, send_even xs, finished_even xs, hand_on_even xs)
 
-take_even : (xs : List ℕ) (at : Place) (rules : Rules) (rsn : ℕ) (value : List ℕ) (o : Moving) → Even xs o.acts o.state.wish → Even xs (take at rules rsn value o).acts (take at rules rsn value o).state.wish
-unfolding keeps makes take becomes
+take_even : (xs : List ℕ) (at : Place) (rules : Rules) (rsn : ℕ) (value : List ℕ) (o : Moving) → Even xs o.acts o.state.wish → Even xs (accept at rules rsn value o).acts (accept at rules rsn value o).state.wish
+unfolding keeps reaches accept becomes
 take_even xs at rules rsn value o h = drained_even xs at _ (wish_even xs rules _ o.state.wish refl h)
 
 pass_even : (xs : List ℕ) (at : Place) (rules : Rules) (request rsn : ℕ) (value : List ℕ) (o : Moving) → Even xs o.acts o.state.wish → Even xs (on_pass at rules request rsn value o).acts (on_pass at rules request rsn value o).state.wish
-unfolding send acts keeps on_pass refuse
+unfolding send performs keeps on_pass refuse
 pass_even xs at rules request rsn value o h = grind (arith, h, send_even xs, finished_even xs, take_even xs)
 
-reads_even : (xs : List ℕ) (request : ℕ) (o : Moving) (w : Option Wish) (value : List ℕ) → o.state.wish ≡ w → Even xs o.acts o.state.wish → Even xs (reads request o w value).acts (reads request o w value).state.wish
-unfolding reads reply acts keeps
+reads_even : (xs : List ℕ) (request : ℕ) (o : Moving) (w : Option Wish) (value : List ℕ) → o.state.wish ≡ w → Even xs o.acts o.state.wish → Even xs (read_granted request o w value).acts (read_granted request o w value).state.wish
+unfolding read_granted reply performs keeps
 reads_even xs request o None value e h = h
 reads_even xs request o (Some w) value e h = answer_even xs o.acts w.call _ (due xs o.acts w (subst (λ (x : Option Wish). Even xs o.acts x) e h)).0
 
@@ -242,7 +242,7 @@ unfolding keeps on_done on_done_of
 on_done_even xs at n request o h = grind (arith, h, send_even xs, finished_even xs, next_even xs)
 
 on_revoke_of_even : (xs : List ℕ) (at : Place) (n rsn : ℕ) (o : Moving) (w : Option Wish) → o.state.wish ≡ w → Even xs o.acts w → Even xs (on_revoke_of at n rsn o w).acts (on_revoke_of at n rsn o w).state.wish
-unfolding send acts keeps makes on_revoke_of acknowledge
+unfolding send performs keeps reaches renew on_revoke_of acknowledge
 on_revoke_of_even xs at n rsn o None e h = send_even xs o.acts _ n _ (subst (λ (x : Option Wish). Even xs o.acts x) (sym e) h)
 on_revoke_of_even xs at n rsn o (Some w) e h =
     either_even xs (is_read_kind (kind_of at.readonly w.op)) _ _ (send_even xs _ _ at.lmaster _ (send_even xs o.acts _ n _ (waits_even xs o.acts (record w { request = o.next }) (due xs o.acts w h).0 (due xs o.acts w h).1)))
@@ -257,15 +257,15 @@ unfolding keeps on_revokeack acknowledged
 on_revokeack_even xs at rules n rsn o h = grind (arith, h, send_even xs, finished_even xs, end_revocation_even xs)
 
 on_vstore_even : (xs : List ℕ) (at : Place) (n rsn : ℕ) (o : Moving) → Even xs o.acts o.state.wish → Even xs (on_vstore at n rsn o).acts (on_vstore at n rsn o).state.wish
-unfolding send acts keeps on_vstore
+unfolding send performs keeps on_vstore
 on_vstore_even xs at n rsn o h = grind (arith, h, send_even xs, finished_even xs)
 
 on_vdelete_even : (xs : List ℕ) (at : Place) (n rsn : ℕ) (o : Moving) → Even xs o.acts o.state.wish → Even xs (on_vdelete at n rsn o).acts (on_vdelete at n rsn o).state.wish
-unfolding send acts keeps on_vdelete
+unfolding send performs keeps on_vdelete
 on_vdelete_even xs at n rsn o h = grind (arith, h, send_even xs, finished_even xs)
 
 finish_even : (xs : List ℕ) (rsn : ℕ) (o : Moving) → Even xs o.acts o.state.wish → Even xs (finish rsn o).acts (finish rsn o).state.wish
-unfolding acts makes finish
+unfolding performs reaches finish
 finish_even xs rsn o h = grind (arith, h, send_even xs, finished_even xs)
 
 on_vstored_even : (xs : List ℕ) (at : Place) (n rsn : ℕ) (o : Moving) → Even xs o.acts o.state.wish → Even xs (on_vstored at n rsn o).acts (on_vstored at n rsn o).state.wish
@@ -277,7 +277,7 @@ unfolding keeps on_vdeleted on_vdeleted_of
 on_vdeleted_even xs n rsn o h = grind (arith, h, send_even xs, finished_even xs, finish_even xs)
 
 begin_vacuum_even : (xs : List ℕ) (at : Place) (o : Moving) (ns : List ℕ) → Even xs o.acts o.state.wish → Even xs (begin_vacuum at o ns).acts (begin_vacuum at o ns).state.wish
-unfolding keeps makes begin_vacuum
+unfolding keeps reaches begin_vacuum
 begin_vacuum_even xs at o ns h = grind (arith, h, send_even xs, finished_even xs, finish_even xs, send_all_even xs)
 
 pub vacuum_even : (xs : List ℕ) (at : Place) (ns : List ℕ) (o : Moving) → Even xs o.acts o.state.wish → Even xs (vacuum at ns o).acts (vacuum at ns o).state.wish
@@ -312,25 +312,25 @@ arrive_even xs at rules n _ o h = h
 
 -- ---- a client's call comes
 
-call_for_even : (xs : List ℕ) (at : Place) (call : ℕ) (o_p : ClientOp) (o : Moving) → is_wanting o_p ≡ true → answers_in o.acts ++ call ∷ [] ≡ xs → Even xs (call_for at call o_p o).acts (call_for at call o_p o).state.wish
-unfolding send acts makes call_for
-call_for_even xs at call o_p o is h = send_even xs o.acts _ at.lmaster _ (waits_even xs o.acts (record { call = call; request = o.next; op = o_p }) h is)
+call_for_even : (xs : List ℕ) (at : Place) (call : ℕ) (asked : ClientOp) (o : Moving) → is_wanting asked ≡ true → answers_in o.acts ++ call ∷ [] ≡ xs → Even xs (call_for at call asked o).acts (call_for at call asked o).state.wish
+unfolding send performs reaches call_for
+call_for_even xs at call asked o is h = send_even xs o.acts _ at.lmaster _ (waits_even xs o.acts (record { call = call; request = o.next; op = asked }) h is)
 
-wait_even : (xs : List ℕ) (at : Place) (call : ℕ) (o_p : ClientOp) (o : Moving) → is_wanting o_p ≡ true → answers_in o.acts ++ call ∷ [] ≡ xs → Even xs (wait_for_copies at call o_p o).acts (wait_for_copies at call o_p o).state.wish
+wait_even : (xs : List ℕ) (at : Place) (call : ℕ) (asked : ClientOp) (o : Moving) → is_wanting asked ≡ true → answers_in o.acts ++ call ∷ [] ≡ xs → Even xs (wait_for_copies at call asked o).acts (wait_for_copies at call asked o).state.wish
 unfolding keeps wait_for_copies
-wait_even xs at call o_p o is h = (let k = waits_even xs o.acts (record { call = call; request = 0; op = o_p }) h is in either_even xs (is_quiet o.state.tracking) _ _ (revoke_even xs at _ k) k)
+wait_even xs at call asked o is h = (let k = waits_even xs o.acts (record { call = call; request = 0; op = asked }) h is in either_even xs (is_quiet o.state.tracking) _ _ (revoke_even xs at _ k) k)
 
-want_of_even : (xs : List ℕ) (at : Place) (rules : Rules) (call : ℕ) (o_p : ClientOp) (o : Moving) → o.state.wish ≡ None → is_wanting o_p ≡ true → answers_in o.acts ++ call ∷ [] ≡ xs → Even xs (want_of at rules call o_p o).acts (want_of at rules call o_p o).state.wish
-unfolding reply acts want_of
-want_of_even xs at rules call o_p o none is h =
-    let satisfied = satisfy rules call o_p o in
-    let waits = wait_for_copies at call o_p o in
+want_of_even : (xs : List ℕ) (at : Place) (rules : Rules) (call : ℕ) (asked : ClientOp) (o : Moving) → o.state.wish ≡ None → is_wanting asked ≡ true → answers_in o.acts ++ call ∷ [] ≡ xs → Even xs (want_of at rules call asked o).acts (want_of at rules call asked o).state.wish
+unfolding reply performs want_of
+want_of_even xs at rules call asked o none is h =
+    let satisfied = satisfy rules call asked o in
+    let waits = wait_for_copies at call asked o in
     let mastered = if is_nil o.state.tracking.tracked then satisfied else waits in
-    let calls = call_for at call o_p o in
+    let calls = call_for at call asked o in
     let wanted = if is_mastered at.me o.state.copy then mastered else calls in
-    either_even xs (is_read_op o_p && (is_mastered at.me o.state.copy || is_for_reading o.state.copy)) (record o { acts = o.acts ++ act.Answer call (answer.Read (value_of o.state.copy)) ∷ [] }) wanted
+    either_even xs (is_read_op asked && (is_mastered at.me o.state.copy || is_for_reading o.state.copy)) (record o { acts = o.acts ++ act.Answer call (answer.Read (value_of o.state.copy)) ∷ [] }) wanted
     (subst (λ (x : Option Wish). Even xs (o.acts ++ act.Answer call (answer.Read (value_of o.state.copy)) ∷ []) x) (sym none) (answer_even xs o.acts call _ h))
-    (either_even xs (is_mastered at.me o.state.copy) mastered calls (either_even xs (is_nil o.state.tracking.tracked) satisfied waits (satisfied_even xs rules call o_p o none is h) (wait_even xs at call o_p o is h)) (call_for_even xs at call o_p o is h))
+    (either_even xs (is_mastered at.me o.state.copy) mastered calls (either_even xs (is_nil o.state.tracking.tracked) satisfied waits (satisfied_even xs rules call asked o none is h) (wait_even xs at call asked o is h)) (call_for_even xs at call asked o is h))
 
 open_acts : (at : Place) (o : Moving) (e : Option Entry) → ((open_of at o e).acts ≡ o.acts) × ((open_of at o e).state.wish ≡ o.state.wish)
 unfolding keeps open_of
@@ -342,9 +342,9 @@ unfolding keeps opened_at_home end_vacuum opened
 opened_acts at o = cond_both (nat_eq at.me at.lmaster && is_none o.state.locked) _ _ (λ (p : Moving). (p.acts ≡ o.acts) × (p.state.wish ≡ o.state.wish)) (λ _. open_acts at o o.state.entry) (λ _. (refl, refl))
 
 -- a call that wants the record, where none waits: it is answered, or waits
-pub want_even : (xs : List ℕ) (at : Place) (rules : Rules) (call : ℕ) (o_p : ClientOp) (o : Moving) → o.state.wish ≡ None → is_wanting o_p ≡ true → answers_in o.acts ++ call ∷ [] ≡ xs → Even xs (want at rules call o_p o).acts (want at rules call o_p o).state.wish
+pub want_even : (xs : List ℕ) (at : Place) (rules : Rules) (call : ℕ) (asked : ClientOp) (o : Moving) → o.state.wish ≡ None → is_wanting asked ≡ true → answers_in o.acts ++ call ∷ [] ≡ xs → Even xs (want at rules call asked o).acts (want at rules call asked o).state.wish
 unfolding want
-want_even xs at rules call o_p o none is h = (let k = opened_acts at o in want_of_even xs at rules call o_p (opened_at_home at o) (k.1 ∙ none) is (ap (λ (l : List Act). answers_in l ++ call ∷ []) k.0 ∙ h))
+want_even xs at rules call asked o none is h = (let k = opened_acts at o in want_of_even xs at rules call asked (opened_at_home at o) (k.1 ∙ none) is (ap (λ (l : List Act). answers_in l ++ call ∷ []) k.0 ∙ h))
 
 want_again_of_even : (xs : List ℕ) (at : Place) (rules : Rules) (o : Moving) (w : Option Wish) → o.state.wish ≡ w → Even xs o.acts o.state.wish → Even xs (want_again_of at rules o w).acts (want_again_of at rules o w).state.wish
 unfolding want_again_of keeps
@@ -356,7 +356,7 @@ unfolding want_again
 want_again_even xs rules at o h = want_again_of_even xs at rules o o.state.wish refl h
 
 again_even : (xs : List ℕ) (at : Place) (o : Moving) (w : Option Wish) → Even xs o.acts o.state.wish → Even xs (call_again_of at o w).acts (call_again_of at o w).state.wish
-unfolding call_again_of send acts
+unfolding call_again_of send performs
 again_even xs at o None h = h
 again_even xs at o (Some w) h = either_even xs (w.request == 0) _ _ h (send_even xs o.acts _ at.lmaster _ h)
 
@@ -380,11 +380,11 @@ begun_even xs call a None h = ap (λ (l : List ℕ). call ∷ l) h
 begun_even xs call a (Some w) h = (ap (λ (l : List ℕ). call ∷ l) h.0, h.1)
 
 pub store_even : (xs : List ℕ) (call : ℕ) (v : List ℕ) (o : Moving) → o.acts ≡ [] → Even xs [] o.state.wish → Even (call ∷ xs) (store call v o).acts (store call v o).state.wish
-unfolding reply acts keeps store
+unfolding reply performs keeps store
 store_even xs call v o none h = subst (λ (l : List Act). Even (call ∷ xs) (l ++ act.Answer call answer.Stored ∷ []) o.state.wish) (sym none) (begun_even xs call answer.Stored o.state.wish h)
 
 pub release_even : (xs : List ℕ) (call : ℕ) (o : Moving) → o.acts ≡ [] → Even xs [] o.state.wish → Even (call ∷ xs) (release call o).acts (release call o).state.wish
-unfolding reply acts keeps release
+unfolding reply performs keeps release
 release_even xs call o none h = subst (λ (l : List Act). Even (call ∷ xs) (l ++ act.Answer call answer.Unlocked ∷ []) o.state.wish) (sym none) (begun_even xs call answer.Unlocked o.state.wish h)
 
 pub unlock_even : (xs : List ℕ) (at : Place) (call : ℕ) (o : Moving) → o.acts ≡ [] → Even xs [] o.state.wish → Even (call ∷ xs) (unlock at call o).acts (unlock at call o).state.wish

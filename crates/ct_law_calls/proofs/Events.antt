@@ -11,7 +11,7 @@ use Rattle.ct_frame.specs.declared.frame.Msg.TheVariants as msg
 use Rattle.ct_call.specs.Rules.{Rules}
 use Rattle.ct_store.specs.Map.{Pairs}
 use Rattle.ct_deleg.specs.Tracked.{Revocation}
-use Rattle.ct_rules.specs.Parts.{Moving, keeps, send, acts}
+use Rattle.ct_rules.specs.Parts.{Moving, keeps, send, performs}
 use Rattle.ct_rules.specs.Moves.{call_again_of, call_again, revoke_again_of, revoke_again}
 use Rattle.ct_rules.specs.declared.event.Place.{Place}
 use Rattle.ct_rules.specs.declared.state.RecState.{RecState}
@@ -42,7 +42,7 @@ unfolding want_again
 want_again_wish P rules at o h = again_wish P rules at o o.state.wish refl h h
 
 call_wish : (P : ℕ → ClientOp → Type 0) (at : Place) (o : Moving) (w : Option Wish) → Wishful P o.state.wish → Wishful P (call_again_of at o w).state.wish
-unfolding call_again_of send acts
+unfolding call_again_of send performs
 call_wish P at o None h = h
 call_wish P at o (Some w) h = grind (arith, h)
 

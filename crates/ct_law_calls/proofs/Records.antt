@@ -1,7 +1,7 @@
 -- A part of the rule of a record at a node: the calls that wait are exactly the open ones after it, too.
 use Rattle.std.proofs.Common.{◌≡◌, ◌≢◌, ℕ, zero, suc, ◌<◌, ◌≤◌, Bool, true, false, cond, ◌||◌, List, [], ◌∷◌, ◌++◌, length, Option, Some, None, refl, sym, ap, ◌∙◌, subst, arith, ⊎_elim}
 use Rattle.std.specs.Prelude.{nat_eq, nat_lt, slice_get}
-use Rattle.std.proofs.lemmas.Bool.{cond_both, cases_eq, eq-eqb, eqb-true, ne_eqb, ltb-true, ltb-false}
+use Rattle.std.proofs.lemmas.Bool.{cond_both, cases_eq, eq-eqb, eqb-true, ne_eqb, ltb-true, ltb-false, or_right}
 use Rattle.ct_msg.specs.declared.client.ClientOp.{ClientOp}
 use Rattle.ct_msg.specs.declared.client.ClientOp.TheVariants as op
 use Rattle.ct_msg.specs.declared.config.Config.{Config}
@@ -18,6 +18,7 @@ use Rattle.ct_rules_node.specs.Records.{at_record, acted, put_back, place_of, vi
 use Rattle.ct_rules_node.specs.Clients.{db_of, key_of, is_commit}
 use Rattle.ct_rules_node.specs.Laws.{NodeAscends, left_by, unless_blank}
 use Rattle.ct_rules_node.proofs.AtRecord.{moves_at, at_set, at_other, set_past}
+use Rattle.ct_law_node.proofs.Forming.{or_second}
 use Rattle.ct_law_shown.specs.Shown.{is_it}
 use Rattle.ct_law_shown.proofs.Weave.{true_or_false, it_is, it_is_itself}
 use Rattle.ct_law_shown.proofs.Wishing.{Wishful}
@@ -81,10 +82,6 @@ wants_place (op.Apply db key f arg) e = refl
 wants_place (op.Store db key v) e = refl
 wants_place (op.Unlock db key) e = refl
 wants_place (op.Commit db ws) e = absurd (cc)
-
-or_true : (a b : Bool) → b ≡ true → (a || b) ≡ true
-or_true true b e = refl
-or_true false b e = e
 
 first_case : (a b d : Bool) → (b ≡ true → d ≡ true) → (a || b) ≡ true → (a || d) ≡ true
 first_case true b d f e = refl
@@ -257,10 +254,6 @@ or_none false b e = (refl, e)
 not_same : (k call : ℕ) → nat_eq k call ≡ false → k ≢ call
 not_same k call e is = absurd (let t = sym (eq-eqb k call is) ∙ e in cc)
 
-or_right : (a b : Bool) → a ≡ false → (a || b) ≡ true → b ≡ true
-or_right true b e f = absurd (cc)
-or_right false b e f = f
-
 still_number : (n call : ℕ) (o : ClientOp) (who : Opened) (db : ℕ) (key : List ℕ) (w : Option Wish) → who call ≡ None → Wishful (Wished n who db key) w → AllOpen n (without call (with_call call (n, o) who)) (number_of w)
 unfolding number_of AllOpen Wishful Wished without
 still_number n call o who db key None fresh h = tt
@@ -275,11 +268,11 @@ with_at_place n call o who db key x fresh no_commit of_db of_key s = record {
   mine = λ k asked is e. ⊎_elim
       (λ (t : nat_eq k call ≡ true). (let same : o ≡ asked = same_asked (own_call call (n, o) who) (ap (with_call call (n, o) who) (sym (eqb-true k call t)) ∙ e) in
       (ap is_commit (sym same) ∙ no_commit, ap db_of (sym same) ∙ of_db, ap key_of (sym same) ∙ of_key)))
-      (λ (f : nat_eq k call ≡ false). asked_mine n who db key (state_at db key x).wish (s.wishes db key) k asked (or_right (nat_eq k call) _ f is) (sym (other_call call k (n, o) who (not_same k call f)) ∙ e))
+      (λ (f : nat_eq k call ≡ false). asked_mine n who db key (state_at db key x).wish (s.wishes db key) k asked (or_second (nat_eq k call) _ f is) (sym (other_call call k (n, o) who (not_same k call f)) ∙ e))
       (true_or_false (nat_eq k call));
   more = λ k v e. other_call call k (n, o) who (none_other who call k v fresh e) ∙ e;
   others = λ k v no e. sym (other_call call k (n, o) who (not_same k call (or_none (nat_eq k call) _ no).0)) ∙ e;
-  all = λ k asked e co is_db is_key. or_true (nat_eq k call) _ (place_all n who db key x s k asked e co is_db is_key);
+  all = λ k asked e co is_db is_key. or_right (nat_eq k call) _ (place_all n who db key x s k asked e co is_db is_key);
 }
 
 pub wish_more : (n call : ℕ) (o : ClientOp) (who : Opened) (db : ℕ) (key : List ℕ) (w : Option Wish) → who call ≡ None → Wishful (Wished n who db key) w → Wishful (Wished n (with_call call (n, o) who) db key) w

@@ -10,7 +10,7 @@ use Rattle.ct_store.specs.Map.{look}
 use Rattle.ct_rules_node.specs.Node.{Node, Database, state_at, db_at, or_nothing, untouched, restarted_db, restarted}
 use Rattle.ct_rules_node.proofs.Numbered.{numbered_all, numbered_any}
 use Rattle.ct_rules_node.proofs.Starting.{restarts_in_order}
-use Rattle.ct_rules_node.proofs.Whole.{restarts_each}
+use Rattle.ct_rules_node.proofs.Rounds.{restarts_each}
 use Rattle.ct_call.specs.Rules.{Rules}
 use Rattle.ct_cluster.specs.Cluster.{Cluster, is_up, node_at, pending_in, pending_at}
 use Rattle.ct_cluster.specs.Faults.{fault_of}

@@ -2,7 +2,7 @@
 use Rattle.std.proofs.Common.{◌≡◌, ◌≢◌, ℕ, zero, suc, ◌+◌, Bool, true, false, cond, ◌||◌, List, [], ◌∷◌, ◌++◌, Option, Some, None, refl, sym, ◌∙◌, ap, subst, arith, ⊎_elim}
 use Rattle.std.specs.Prelude.{slice_get, nat_eq, Ok}
 use Rattle.std.specs.List.{AllByRecursion, list_any}
-use Rattle.std.proofs.lemmas.Bool.{cases_eq, eqb-true, eq-eqb, ne_eqb}
+use Rattle.std.proofs.lemmas.Bool.{cases_eq, eqb-true, eq-eqb, ne_eqb, or_left}
 use Rattle.ct_msg.specs.declared.client.Answer.{Answer}
 use Rattle.ct_msg.specs.declared.client.ClientOp.{ClientOp}
 use Rattle.ct_msg.specs.declared.config.Config.{Config}
@@ -118,10 +118,6 @@ nodes_open who i (x ∷ ns) all = all_append (IsOpen who) (pending_in i 0 x.dbs)
     (fits_open i who (pending_in i 0 x.dbs) (stands_fit i who x (subst (λ (j : ℕ). Stands j who x) (omega arith) (all 0))))
     (nodes_open who (i + 1) ns (λ k. subst (λ (j : ℕ). Stands j who (or_absent (slice_get ns k))) (next_index i k) (all (suc k))))
 
-left_or : (a b : Bool) → a ≡ true → (a || b) ≡ true
-left_or true b e = refl
-left_or false b e = absurd (cc)
-
 right_or : (a b : Bool) → b ≡ true → (a || b) ≡ true
 right_or true b e = refl
 right_or false b e = e
@@ -137,7 +133,7 @@ any_more f (x ∷ xs) ys = ap (λ (b : Bool). f x || b) (any_more f xs ys) ∙ o
 pub nodes_any : (f : PendingCall → Bool) (i k : ℕ) (ns : List Node) → list_any f (pending_in (i + k) 0 (or_absent (slice_get ns k)).dbs) ≡ true → list_any f (pending_from i ns) ≡ true
 unfolding pending_from or_absent absent pending_in
 nodes_any f i k [] e = absurd (cc)
-nodes_any f i zero (x ∷ ns) e = any_more f (pending_in i 0 x.dbs) (pending_from (i + 1) ns) ∙ left_or _ _ (subst (λ (j : ℕ). list_any f (pending_in j 0 x.dbs) ≡ true) (omega arith) e)
+nodes_any f i zero (x ∷ ns) e = any_more f (pending_in i 0 x.dbs) (pending_from (i + 1) ns) ∙ or_left _ _ (subst (λ (j : ℕ). list_any f (pending_in j 0 x.dbs) ≡ true) (omega arith) e)
 nodes_any f i (suc k) (x ∷ ns) e = any_more f (pending_in i 0 x.dbs) (pending_from (i + 1) ns) ∙ right_or _ _ (nodes_any f (i + 1) k ns (subst (λ (j : ℕ). list_any f (pending_in j 0 (or_absent (slice_get ns k)).dbs) ≡ true) (next_index i k) e))
 
 pending_open : (c : Config) (w : Cluster) (who : Opened) → Calls c w who → AllByRecursion (IsOpen who) (pending w)

@@ -32,9 +32,10 @@ use Rattle.ct_rules_node.specs.Rounds.{row_master, begin_round, frozen_state, ch
 use Rattle.ct_rules_node.specs.Takeovers.{send_releases, runs, begin_takeover, on_release, all_released, released_by, on_releaseack, takes, on_take}
 use Rattle.ct_rules_node.specs.Retries.{update_again, update_in, retry_run, retry_lead}
 use Rattle.ct_rules_node.specs.Laws.{unless_blank, changed_at, AllAscend}
+use Rattle.ct_rules_node.proofs.BesideRecords.{installed_order}
 use Rattle.ct_rules_node.proofs.Keys.{changed_seen, changed_ascends, kept_seen, kept_others, kept_ascends}
 use Rattle.ct_rules_node.proofs.Installed.{install_ascends}
-use Rattle.ct_rules_node.proofs.Whole.{freezes_each}
+use Rattle.ct_rules_node.proofs.Rounds.{freezes_each}
 use Rattle.ct_rules_node.proofs.AtRecord.{at_set, at_other, set_past, all_set, at_ascends}
 use Rattle.ct_law_shown.proofs.Weave.{true_or_false}
 use Rattle.ct_law_calls.proofs.Opened.{Opened, without, without_all, answered_by, AllOpen, answered_more, without_more, open_more}
@@ -311,12 +312,6 @@ unfolding installed_dbs installed_db or_untouched
 installed_commit me i members table ptables [] db = refl
 installed_commit me i members table ptables (x ∷ xs) zero = refl
 installed_commit me i members table ptables (x ∷ xs) (suc db) = installed_commit me (i + 1) members table ptables xs db
-
-installed_order : (me i : ℕ) (members : List ℕ) (table : List TableRow) (ptables : List PTable) (dbs : List Database) → AllAscend dbs → AllAscend (installed_dbs me i members table ptables dbs)
-unfolding installed_dbs installed_db AllAscend
-installed_order me i members table ptables [] h = tt
-installed_order me i members table ptables (x ∷ xs) h =
-    (install_ascends me i members table (changed bared x.records) (changed_ascends bared x.records h.0), installed_order me (i + 1) members table ptables xs h.1)
 
 installed_kept : {who : Opened} {here : ℕ} (c : Config) (h g : ℕ) (members : List ℕ) (table : List TableRow) (ptables : List PTable) (assigned : List Assigned) (v u : Turn) → v.outs ≡ u.outs → Account who here u → Account who here (with_node (installed_node c here h g members table ptables assigned u.node) v)
 unfolding with_node installed_node state_at db_at

@@ -14,7 +14,7 @@ use Rattle.ct_call.specs.Rules.{Rules}
 use Rattle.ct_deleg.specs.Tracked.{Revocation}
 use Rattle.ct_rules.specs.State.{is_nil}
 use Rattle.ct_rules.specs.declared.state.Entry.{Entry}
-use Rattle.ct_law_fact.proofs.Rule.{risen, reads, is_kind_here, Body, Call, Copy, For_reading, Frame, Grant, Here, Node, Out, Revoke, RevokeAck, Wish, end_revocation, end_wish, has_node, is_here, is_reading, is_wish, on_ack, on_grant, on_revoke, rank, reads_op, rsn_of, send, stale, value_of, with_node}
+use Rattle.ct_law_fact.proofs.Rule.{risen, read_granted, is_kind_here, Body, Call, Copy, For_reading, Frame, Grant, Here, Node, Out, Revoke, RevokeAck, Wish, end_revocation, end_wish, has_node, is_here, is_reading, is_wish, on_ack, on_grant, on_revoke, rank, reads_op, rsn_of, send, stale, value_of, with_node}
 
 pub has-without : (k n : ℕ) (ns : List ℕ) → k ≢ n → has_node k ns ≡ true → has_node k (others n ns) ≡ true
 unfolding has_node
@@ -218,7 +218,7 @@ module _ (rules : Rules) (ps : List ℕ) (m me : ℕ) (nodes : ℕ → Node) (fr
           go false e = absurd (nobody_has k g.readers (f.nobody is e).0 reads)
 
   pub on_grant_holds : (x q rsn : ℕ) (value : List ℕ) (g : Ghost) (o : Out) → Sent (record { from = x; to = me; body = Grant q rsn value }) g.frames → BodyAt g me o.node x me (Grant q rsn value) → Holds rules ps m me nodes frames r g o → Kept rules ps m me nodes frames r (on_grant me q rsn value o)
-  unfolding on_grant reads Says readers_of Ungranted rank with_node
+  unfolding on_grant read_granted Says readers_of Ungranted rank with_node
   on_grant_holds x q rsn value g o sent came h = cond_both (is_wish q true o.node.wish && not (is_here o.node.copy) && nat_le (rank o.node.copy) (rsn + 1)) _ _ (Kept rules ps m me nodes frames r)
       (λ t.
       let p = and_parts (is_wish q true o.node.wish && not (is_here o.node.copy)) (nat_le (rank o.node.copy) (rsn + 1)) t in
@@ -228,7 +228,7 @@ module _ (rules : Rules) (ps : List ℕ) (m me : ℕ) (nodes : ℕ → Node) (fr
       let k = came refl in
       let c = k.current w.0 w.1 w.2 w.3 in
       let ne : me ≢ g.entry.holder = λ e. nobody_has me g.readers (h.good.mine.nobody e away).0 c.0 in
-      subst (λ (x : Option Wish). Kept rules ps m me nodes frames r (reads me (with_node (record o.node { copy = Some (record { rsn = rsn; kind = For_reading; value = value }) }) o) x value)) (sym w.1) (
+      subst (λ (x : Option Wish). Kept rules ps m me nodes frames r (read_granted me (with_node (record o.node { copy = Some (record { rsn = rsn; kind = For_reading; value = value }) }) o) x value)) (sym w.1) (
         _,
         see_holds rules ps m me nodes frames r g (with_node (granted rsn value o.node) o) c.2 (λ n own. absurd (nobody_has me g.readers (owned_none g o n own h) c.0)) w.0.op.real (reads_is_read w.0.op w.3) value c.1
             (node_holds rules ps m me nodes frames r (granted rsn value o.node) g o refl h

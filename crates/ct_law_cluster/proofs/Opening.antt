@@ -123,12 +123,9 @@ opened_world c db key =
 
 opened_form : (c : Config) (rules : Rules) (n db : ℕ) (key : List ℕ) → Is_formed (scene c (first_era c) rules db key) n nothing
 opened_form c rules n db key = record {
-  form = in_form_at_start (law.place (scene c (first_era c) rules db key) n nothing);
+  form = in_form_at_start (law.place (scene c (first_era c) rules db key) n nothing) 1 (record { from_one = omega arith; next_limit = omega arith; floor_limit = omega arith });
   tracks = record { tracked_held = λ e. absurd (cc); vacuum_untracked = λ e. refl };
   waits = refl;
-  from_one = omega arith;
-  next_limit = omega arith;
-  floor_limit = omega arith;
 }
 
 absent_known : (who : Callers) (calls n : ℕ) → NodeKnown who calls n cluster.absent

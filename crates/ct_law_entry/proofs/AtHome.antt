@@ -29,7 +29,7 @@ use Rattle.ct_rules_node.specs.Admission.{record_in}
 use Rattle.ct_rules_node.specs.Laws.{AllAscend, NodeAscends}
 use Rattle.ct_rules_node.proofs.AtRecord.{moves_at}
 use Rattle.ct_rules_node.proofs.Starting.{restarts_in_order}
-use Rattle.ct_rules_node.proofs.Whole.{restarts_each}
+use Rattle.ct_rules_node.proofs.Rounds.{restarts_each}
 use Rattle.ct_cluster.specs.Cluster.{Cluster, Sent, Fate, Delivered, Dropped, absent, is_up, node_at, sent_at, able_from}
 use Rattle.ct_cluster.specs.Faults.{fault_of, is_allowed}
 use Rattle.ct_cluster.specs.Steps.{Stepped, with_node, put, fed, done, with_fate, deliver, drop, repeat, stop, recover, steps, steps_or, applied}

@@ -6,8 +6,8 @@ use Rattle.ct_call.specs.Rules.{Rules}
 use Rattle.ct_frame.specs.declared.frame.Msg.{Msg}
 use Rattle.ct_frame.specs.declared.frame.Msg.TheVariants as msg
 use Rattle.ct_msg.specs.declared.client.ClientOp.{ClientOp}
-use Rattle.ct_rules.specs.Parts.{Moving, acts, send, send_all, reply, keeps, makes, end_vacuum, give, applies, satisfy, revoke, read_here, delegate, grant, yield_record, drain, drained, satisfy_own, raise, end_revocation, call_for, wait_for_copies, want_of, opened_at_home, want}
-use Rattle.ct_rules.specs.Frames.{wait, handle, recalled, on_recall, satisfy_wish, becomes, take, refuse, on_pass, reads, on_grant, acknowledge, on_revoke_of, on_revoke, acknowledged, on_revokeack, on_vstore, on_vdelete}
+use Rattle.ct_rules.specs.Parts.{Moving, performs, send, send_all, reply, keeps, reaches, end_vacuum, give, applies, satisfy, revoke, read_here, delegate, grant, yield_record, drain, drained, satisfy_own, raise, end_revocation, call_for, wait_for_copies, want_of, opened_at_home, want}
+use Rattle.ct_rules.specs.Messages.{wait, handle, recalled, on_recall, satisfy_wish, becomes, accept, refuse, on_pass, read_granted, on_grant, acknowledge, renew, on_revoke_of, on_revoke, acknowledged, on_revokeack, on_vstore, on_vdelete}
 use Rattle.ct_rules.specs.declared.event.Place.{Place}
 use Rattle.ct_rules.specs.declared.state.RecallNote.{RecallNote}
 use Rattle.ct_rules.specs.declared.state.RecState.{RecState}
@@ -22,11 +22,11 @@ send_all_away : (ns : List ℕ) (m : Msg) (o : Moving) → o.state.entry ≡ Non
 send_all_away ns m o h = ap (λ (s : RecState). s.entry) (send_all_same ns m o) ∙ h
 
 read_here_away : (at : Place) (request : ℕ) (o : Moving) (w : Option Wish) → o.state.entry ≡ None → (read_here at request o w).state.entry ≡ None
-unfolding send acts reply keeps makes read_here
+unfolding send performs reply keeps reaches read_here
 read_here_away at request o w h = grind (arith, h)
 
 grant_away : (at : Place) (node request : ℕ) (o : Moving) → o.state.entry ≡ None → (grant at node request o).state.entry ≡ None
-unfolding send acts keeps grant delegate
+unfolding send performs keeps grant delegate
 grant_away at node request o h = grind (arith, h, read_here_away)
 
 revoke_away : (at : Place) (o : Moving) → o.state.entry ≡ None → (revoke at o).state.entry ≡ None
@@ -34,7 +34,7 @@ unfolding keeps revoke
 revoke_away at o h = grind (arith, h, send_all_away)
 
 give_away : (at : Place) (o : Moving) → o.state.entry ≡ None → (give at o).state.entry ≡ None
-unfolding send acts keeps give
+unfolding send performs keeps give
 give_away at o h = grind (arith, h)
 
 yield_away : (at : Place) (o : Moving) → o.state.entry ≡ None → (yield_record at o).state.entry ≡ None
@@ -50,16 +50,16 @@ drained_away : (at : Place) (o : Moving) → o.state.entry ≡ None → (drained
 unfolding drained
 drained_away at o h = grind (arith, h, drain_away)
 
-satisfied_away : (rules : Rules) (call : ℕ) (o_p : ClientOp) (o : Moving) → o.state.entry ≡ None → (satisfy rules call o_p o).state.entry ≡ None
-unfolding acts reply keeps satisfy applies
-satisfied_away rules call o_p o h = grind (arith, h)
+satisfied_away : (rules : Rules) (call : ℕ) (asked : ClientOp) (o : Moving) → o.state.entry ≡ None → (satisfy rules call asked o).state.entry ≡ None
+unfolding performs reply keeps satisfy applies
+satisfied_away rules call asked o h = grind (arith, h)
 
 own_away : (rules : Rules) (o : Moving) (w : Option Wish) → o.state.entry ≡ None → (satisfy_own rules o w).state.entry ≡ None
 unfolding keeps satisfy_own
 own_away rules o w h = grind (arith, h, satisfied_away)
 
 end_revocation_away : (at : Place) (rules : Rules) (o : Moving) → o.state.entry ≡ None → (end_revocation at rules o).state.entry ≡ None
-unfolding keeps makes end_revocation raise
+unfolding keeps reaches end_revocation raise
 end_revocation_away at rules o h = grind (arith, h, own_away, drained_away)
 
 handle_away : (at : Place) (r : RecallNote) (o : Moving) → o.state.entry ≡ None → (handle at r o).state.entry ≡ None
@@ -67,23 +67,23 @@ unfolding keeps handle end_vacuum
 handle_away at r o h = grind (arith, h, grant_away, yield_away)
 
 recall_away : (at : Place) (r : RecallNote) (o : Moving) → o.state.entry ≡ None → (on_recall at r o).state.entry ≡ None
-unfolding send acts keeps on_recall recalled wait
+unfolding send performs keeps on_recall recalled wait
 recall_away at r o h = grind (arith, h, handle_away)
 
-take_away : (at : Place) (rules : Rules) (rsn : ℕ) (value : List ℕ) (o : Moving) → o.state.entry ≡ None → (take at rules rsn value o).state.entry ≡ None
-unfolding keeps makes take becomes satisfy_wish
+take_away : (at : Place) (rules : Rules) (rsn : ℕ) (value : List ℕ) (o : Moving) → o.state.entry ≡ None → (accept at rules rsn value o).state.entry ≡ None
+unfolding keeps reaches accept becomes satisfy_wish
 take_away at rules rsn value o h = grind (arith, h, satisfied_away, drained_away)
 
 pass_away : (at : Place) (rules : Rules) (request rsn : ℕ) (value : List ℕ) (o : Moving) → o.state.entry ≡ None → (on_pass at rules request rsn value o).state.entry ≡ None
-unfolding send acts keeps on_pass refuse
+unfolding send performs keeps on_pass refuse
 pass_away at rules request rsn value o h = grind (arith, h, take_away)
 
 on_grant_away : (at : Place) (n request rsn : ℕ) (value : List ℕ) (o : Moving) → o.state.entry ≡ None → (on_grant at n request rsn value o).state.entry ≡ None
-unfolding send acts reply keeps makes on_grant reads
+unfolding send performs reply keeps reaches on_grant read_granted
 on_grant_away at n request rsn value o h = grind (arith, h)
 
 on_revoke_of_away : (at : Place) (n rsn : ℕ) (o : Moving) (w : Option Wish) → o.state.entry ≡ None → (on_revoke_of at n rsn o w).state.entry ≡ None
-unfolding send acts keeps makes on_revoke_of acknowledge
+unfolding send performs keeps reaches renew on_revoke_of acknowledge
 on_revoke_of_away at n rsn o None h = h
 on_revoke_of_away at n rsn o (Some w) h = grind (arith, h)
 
@@ -96,31 +96,31 @@ unfolding keeps on_revokeack acknowledged
 on_revokeack_away at rules n rsn o h = grind (arith, h, end_revocation_away)
 
 on_vstore_away : (at : Place) (n rsn : ℕ) (o : Moving) → o.state.entry ≡ None → (on_vstore at n rsn o).state.entry ≡ None
-unfolding send acts keeps on_vstore
+unfolding send performs keeps on_vstore
 on_vstore_away at n rsn o h = grind (arith, h)
 
 on_vdelete_away : (at : Place) (n rsn : ℕ) (o : Moving) → o.state.entry ≡ None → (on_vdelete at n rsn o).state.entry ≡ None
-unfolding send acts keeps on_vdelete
+unfolding send performs keeps on_vdelete
 on_vdelete_away at n rsn o h = grind (arith, h)
 
-call_for_away : (at : Place) (call : ℕ) (o_p : ClientOp) (o : Moving) → o.state.entry ≡ None → (call_for at call o_p o).state.entry ≡ None
-unfolding send acts reply keeps makes call_for
-call_for_away at call o_p o h = grind (arith, h)
+call_for_away : (at : Place) (call : ℕ) (asked : ClientOp) (o : Moving) → o.state.entry ≡ None → (call_for at call asked o).state.entry ≡ None
+unfolding send performs reply keeps reaches call_for
+call_for_away at call asked o h = grind (arith, h)
 
-wait_away : (at : Place) (call : ℕ) (o_p : ClientOp) (o : Moving) → o.state.entry ≡ None → (wait_for_copies at call o_p o).state.entry ≡ None
+wait_away : (at : Place) (call : ℕ) (asked : ClientOp) (o : Moving) → o.state.entry ≡ None → (wait_for_copies at call asked o).state.entry ≡ None
 unfolding keeps wait_for_copies
-wait_away at call o_p o h = grind (arith, h, revoke_away)
+wait_away at call asked o h = grind (arith, h, revoke_away)
 
-want_of_away : (at : Place) (rules : Rules) (call : ℕ) (o_p : ClientOp) (o : Moving) → o.state.entry ≡ None → (want_of at rules call o_p o).state.entry ≡ None
-unfolding reply acts want_of
-want_of_away at rules call o_p o h = grind (arith, h, satisfied_away, wait_away at call o_p o h, call_for_away at call o_p o h)
+want_of_away : (at : Place) (rules : Rules) (call : ℕ) (asked : ClientOp) (o : Moving) → o.state.entry ≡ None → (want_of at rules call asked o).state.entry ≡ None
+unfolding reply performs want_of
+want_of_away at rules call asked o h = grind (arith, h, satisfied_away, wait_away at call asked o h, call_for_away at call asked o h)
 
 pub store_away : (call : ℕ) (v : List ℕ) (o : Moving) → o.state.entry ≡ None → (store call v o).state.entry ≡ None
-unfolding reply acts keeps store
+unfolding reply performs keeps store
 store_away call v o h = grind (arith, h)
 
 pub release_away : (call : ℕ) (o : Moving) → o.state.entry ≡ None → (release call o).state.entry ≡ None
-unfolding reply acts keeps release
+unfolding reply performs keeps release
 release_away call o h = grind (arith, h)
 
 pub unlock_away : (at : Place) (call : ℕ) (o : Moving) → o.state.entry ≡ None → (unlock at call o).state.entry ≡ None
@@ -128,7 +128,7 @@ unfolding unlock
 unlock_away at call o h = grind (arith, h, drained_away, release_away)
 
 pub call_again_away : (at : Place) (o : Moving) → o.state.entry ≡ None → (call_again at o).state.entry ≡ None
-unfolding send acts call_again call_again_of
+unfolding send performs call_again call_again_of
 call_again_away at o h = grind (arith, h)
 
 pub revoke_again_away : (at : Place) (o : Moving) → o.state.entry ≡ None → (revoke_again at o).state.entry ≡ None

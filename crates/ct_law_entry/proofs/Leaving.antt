@@ -29,9 +29,10 @@ use Rattle.ct_rules_node.specs.Rounds.{begin_round, frozen_state, changed, froze
 use Rattle.ct_rules_node.specs.Takeovers.{send_releases, runs, begin_takeover, on_release, all_released, released_by, on_releaseack, takes, on_take}
 use Rattle.ct_rules_node.specs.Retries.{update_again, update_in, retry_run, retry_lead}
 use Rattle.ct_rules_node.specs.Laws.{changed_at, AllAscend, NodeAscends}
+use Rattle.ct_rules_node.proofs.BesideRecords.{installed_order}
 use Rattle.ct_rules_node.proofs.Keys.{changed_seen, changed_ascends, kept_seen, kept_others, kept_ascends}
 use Rattle.ct_rules_node.proofs.Installed.{install_ascends}
-use Rattle.ct_rules_node.proofs.Whole.{freezes_each}
+use Rattle.ct_rules_node.proofs.Rounds.{freezes_each}
 use Rattle.ct_rules_node.proofs.AtRecord.{at_set, at_other, set_past, all_set, at_ascends}
 use Rattle.ct_law_shown.proofs.Weave.{true_or_false}
 use Rattle.ct_law_removal.proofs.Removing.{kept_entry}
@@ -260,12 +261,6 @@ installed_none me i members table ptables [] db key ne h = refl
 installed_none me i members table ptables (x ∷ xs) zero key ne h =
     rows_none me i members table (changed bared x.records) key ne (ap (λ (o : Option RecState). (or_nothing o).entry) (changed_seen bared x.records h.0 key) ∙ changed_none bared (look key x.records) (λ s. refl))
 installed_none me i members table ptables (x ∷ xs) (suc db) key ne h = installed_none me (i + 1) members table ptables xs db key ne h.1
-
-installed_order : (me i : ℕ) (members : List ℕ) (table : List TableRow) (ptables : List PTable) (dbs : List Database) → AllAscend dbs → AllAscend (installed_dbs me i members table ptables dbs)
-unfolding installed_dbs installed_db AllAscend
-installed_order me i members table ptables [] h = tt
-installed_order me i members table ptables (x ∷ xs) h =
-    (install_ascends me i members table (changed bared x.records) (changed_ascends bared x.records h.0), installed_order me (i + 1) members table ptables xs h.1)
 
 installed_home : {here : ℕ} (c : Config) (h g : ℕ) (members : List ℕ) (table : List TableRow) (ptables : List PTable) (assigned : List Assigned) (v u : Turn) → AtHome here u → AtHome here (with_node (installed_node c here h g members table ptables assigned u.node) v)
 unfolding with_node installed_node state_at db_at

@@ -1,7 +1,7 @@
-pub mod Frames
-pub mod Receive
+pub mod Calls
+pub mod Messages
 pub mod Finish
 pub mod Floor
 pub mod Phases
 pub mod Vacuuming
-pub mod Leaving
+pub mod LocksEnd

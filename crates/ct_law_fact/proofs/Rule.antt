@@ -18,7 +18,7 @@ use Rattle.ct_vacuum.specs.Vacuum.{Vacuuming, vacuum_begun, ends_phase, stored, 
 use Rattle.ct_vacuum.specs.declared.vacuum.VacuumPhase.{VacuumPhase}
 use Rattle.ct_vacuum.specs.declared.vacuum.VacuumPhase.TheVariants.{Storing, Deleting}
 use Rattle.ct_rules.specs.State.{is_nil, is_read_op, is_read_kind, kind_of}
-use Rattle.ct_rules.specs.Frames.{is_request, same_recall}
+use Rattle.ct_rules.specs.Messages.{is_request, same_recall}
 use Rattle.ct_rules.specs.declared.state.Entry.{Entry}
 use Rattle.ct_rules.specs.declared.state.RecallNote.{RecallNote}
 use Rattle.ct_rules.specs.declared.state.Waiter.{Waiter}
@@ -275,14 +275,14 @@ on_revoke me master h rsn o (Some w) =
     }) o))
     else send me h (RevokeAck rsn) (with_node (record o.node { copy = stale rsn o.node.copy }) o)
 
-unfoldable pub reads : ℕ → Out → Option Wish → List ℕ → Out
-reads me o None value = o
-reads me o (Some w) value = tell (Told me w.op.real (answer.Read value)) (with_node (record o.node { wish = None }) o)
+unfoldable pub read_granted : ℕ → Out → Option Wish → List ℕ → Out
+read_granted me o None value = o
+read_granted me o (Some w) value = tell (Told me w.op.real (answer.Read value)) (with_node (record o.node { wish = None }) o)
 
 unfoldable pub on_grant : ℕ → ℕ → ℕ → List ℕ → Out → Out
 on_grant me q rsn value o =
     if is_wish q true o.node.wish && not (is_here o.node.copy) && nat_le (rank o.node.copy) (rsn + 1)
-    then reads me (with_node (record o.node { copy = Some (record { rsn = rsn; kind = For_reading; value = value }) }) o) o.node.wish value
+    then read_granted me (with_node (record o.node { copy = Some (record { rsn = rsn; kind = For_reading; value = value }) }) o) o.node.wish value
     else o
 
 -- Next, at the location master
@@ -406,8 +406,8 @@ on_give_of me x rsn value o (Some e) =
 unfoldable pub becomes : ℕ → List ℕ → Out → Out
 becomes rsn value o = with_node (record o.node { copy = Some (record { rsn = rsn; kind = Here; value = value }); tracked = []; revoking = None }) o
 
-unfoldable pub take : Rules → ℕ → ℕ → ℕ → List ℕ → Out → Out
-take rules me master rsn value o =
+unfoldable pub accept : Rules → ℕ → ℕ → ℕ → List ℕ → Out → Out
+accept rules me master rsn value o =
     let o' = satisfy_wish rules me o.node.wish (becomes (rsn + 1) value o) in
     drain me master o'.node.recalls o'
 
@@ -417,7 +417,7 @@ refuse me master q rsn o = send me master (Refuse q rsn) (with_node (record o.no
 unfoldable pub on_pass : Rules → ℕ → ℕ → ℕ → ℕ → List ℕ → Out → Out
 on_pass rules me master q rsn value o =
     if nat_lt (rsn + 1) (rank o.node.copy) then o
-    else (if is_wish q false o.node.wish then take rules me master rsn value o else refuse me master q rsn o)
+    else (if is_wish q false o.node.wish then accept rules me master rsn value o else refuse me master q rsn o)
 
 unfoldable pub on_refuse_of : ℕ → ℕ → ℕ → ℕ → Out → Option Entry → Out
 on_refuse_of me n q rsn o None = o

@@ -46,7 +46,7 @@ use Rattle.std.proofs.lemmas.List.{length-set}
 use Rattle.ct_msg.specs.declared.config.DbKind.{DbKind}
 use Rattle.ct_msg.specs.declared.config.DbKind.TheVariants.{Volatile, ReadOnly, Persistent}
 use Rattle.ct_rules.specs.State.{value_of, with_value, is_mastered}
-use Rattle.ct_rules.specs.Parts.{Moving, acts, reply, keeps, want}
+use Rattle.ct_rules.specs.Parts.{Moving, performs, reply, keeps, want}
 use Rattle.ct_rules.specs.Moves.{store, release}
 use Rattle.ct_rules.specs.declared.event.Act.TheVariants as act
 use Rattle.ct_rules.specs.declared.event.MoveEvent.TheVariants as move_event
@@ -57,7 +57,7 @@ use Rattle.ct_rules_node.specs.Node.{with_db}
 use Rattle.ct_rules_node.specs.Laws.{unless_blank, left_by}
 use Rattle.ct_rules_node.specs.Turn.{makes, with_phase}
 use Rattle.ct_rules_node.proofs.AtRecord.{moves_at}
-use Rattle.ct_rules_node.proofs.Whole.{sees_locks}
+use Rattle.ct_rules_node.proofs.Rounds.{sees_locks}
 use Rattle.ct_law_world.specs.World.{Stores, Releases, Wants}
 use Rattle.ct_law_shown.proofs.Amid.{other_state}
 use Rattle.ct_law_node.proofs.Forming.{formed_moves, formed_blank}
@@ -173,7 +173,7 @@ module _ (c : Config) (rules : Rules) (w : Cluster) (r : Lines) (h : Lives c rul
   stored v s = record s { copy = with_value v s.copy }
 
   stored_formed : (v : List ℕ) → Is_formed (scene c (era_of r a (r.line n)) rules db key) n (record (view db key x) { state = stored v (state_at db key x) })
-  unfolding store reply keeps acts
+  unfolding store reply keeps performs
   stored_formed v = formed_moves (scene c (era_of r a (r.line n)) rules db key) n (view db key x) (move_event.Store 0 v) (all_small c config db (has_place c db kind)) (own.formed db key) locked refl refl
 
   pub store_held : (v : List ℕ) → Held_turn c rules w r a n g l db key (Stores n w.calls v) (stored v there_state) (stored v (state_at db key x)) (op.Store db key v) answer.Stored (so_left n db key (stored v (state_at db key x)) answer.Stored x w.calls)
@@ -196,7 +196,7 @@ module _ (c : Config) (rules : Rules) (w : Cluster) (r : Lines) (h : Lives c rul
   }
 
   store_is : (v : List ℕ) → refusal c rules x (op.Store db key v) ≡ None → client c rules n w.calls (op.Store db key v) (begins x) ≡ so_left n db key (stored v (state_at db key x)) answer.Stored x w.calls
-  unfolding at_record acted makes store reply keeps acts recs.view
+  unfolding at_record acted makes store reply keeps performs recs.view
   store_is v free = client_serves c rules n w.calls (op.Store db key v) x free ∙ serves_store c rules n w.calls db key v (makes w.calls (begins x))
 
   pub store_turned : (v : List ℕ) → refusal c rules x (op.Store db key v) ≡ None →
@@ -279,7 +279,7 @@ module _ (c : Config) (rules : Rules) (w : Cluster) (r : Lines) (h : Lives c rul
   unlock_held = unlock_pick (any_locked u1.node.dbs) refl
 
   unlock_is : refusal c rules x (op.Unlock db key) ≡ None → client c rules n w.calls (op.Unlock db key) (begins x) ≡ frozen_if_unlocked n g l u1
-  unfolding at_record acted makes release reply keeps acts recs.view unlocks serves
+  unfolding at_record acted makes release reply keeps performs recs.view unlocks serves
   unlock_is free = client_serves c rules n w.calls (op.Unlock db key) x free ∙ ap (unlocks c n w.calls db key (makes w.calls (begins x))) freezing
 
   pub unlock_turned : refusal c rules x (op.Unlock db key) ≡ None →
@@ -330,7 +330,7 @@ module _ (c : Config) (rules : Rules) (w : Cluster) (r : Lines) (h : Lives c rul
   }
 
   read_left : left_by c n db key (λ at o. want at rules w.calls (op.Read db key) o) (makes w.calls (begins x)) ≡ left x db (state_at db key x) w.calls value
-  unfolding makes reply keeps acts recs.view recs.place_of
+  unfolding makes reply keeps performs recs.view recs.place_of
   read_left = locked_read (recs.place_of c n db key x) rules w.calls db key (recs.view db key x) (some_not_none (state_at db key x).locked locked) mine
       ∙ ap (λ (o : Option RecCopy). left x db (state_at db key x) w.calls (answer.Read (value_of o))) copy_same
 

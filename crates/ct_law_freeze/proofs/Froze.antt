@@ -19,7 +19,7 @@ use Rattle.ct_rules_node.specs.Admission.{is_sound}
 use Rattle.ct_rules_node.specs.Steps.{if_sound, arrives, happens}
 use Rattle.ct_rules_node.specs.Laws.{AllAscend, NodeAscends}
 use Rattle.ct_rules_node.proofs.Keys.{changed_ascends}
-use Rattle.ct_rules_node.proofs.Whole.{freezes_each, sees_locks}
+use Rattle.ct_rules_node.proofs.Rounds.{freezes_each, sees_locks}
 use Rattle.ct_law_line.proofs.Resting.{freezes_state}
 use Rattle.ct_law_freeze.proofs.Ends.{Ends, Untracked, is_ended, is_gone, ends_outs, unlock, ends_all, none_left}
 

@@ -49,7 +49,6 @@ use Rattle.ct_law_freeze.proofs.Turning.{sent_still}
 use Rattle.std.specs.Prelude.{◌⊎◌, nat_eq, nat_lt, is_some}
 use Rattle.std.proofs.lemmas.Bool.{ne_eqb}
 use Rattle.ct_frame.specs.declared.frame.TableRow.{TableRow}
-use Rattle.ct_rules_node.specs.Laws.{first_row}
 use Rattle.ct_rules_node.specs.Rounds.{row_of}
 use Rattle.ct_msg.specs.declared.client.Answer.{Answer}
 use Rattle.ct_msg.specs.declared.client.ClientOp.{ClientOp}
@@ -129,7 +128,7 @@ replied_held r s a b n q vbase pbase table x y db key st g l is z freezing locke
       (λ p. absurd (not_freezing y.phase g q j p.0 e))
       z.phase;
   stuck = λ ne line. absurd (stuck ne line);
-  some = λ ne. (let p = k.some ne in (p.0, p.1, λ d o. p.2 d o ∙ ap (λ (t : View). first_row (row_of n d o t.state.copy)) (sym (views vbase d o (λ e. stuck ne (sym e))))));
+  some = λ ne. (let p = k.some ne in (p.0, p.1, λ d o. p.2 d o ∙ ap (λ (t : View). row_of n d o t.state.copy) (sym (views vbase d o (λ e. stuck ne (sym e))))));
   order = k.order;
   polder = k.polder;
   phad = k.phad;

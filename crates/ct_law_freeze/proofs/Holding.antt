@@ -12,7 +12,7 @@ use Rattle.ct_frame.specs.Fields.{is_node}
 use Rattle.ct_call.specs.Rules.{Rules}
 use Rattle.ct_rules.specs.State.{rsn_of, value_of, with_value, is_mastered, is_read_op}
 use Rattle.ct_rules.specs.Form.{is_wanting}
-use Rattle.ct_rules.specs.Parts.{acts, reply, keeps}
+use Rattle.ct_rules.specs.Parts.{performs, reply, keeps}
 use Rattle.ct_rules.specs.Moves.{store, release}
 use Rattle.ct_rules.specs.declared.event.Act.TheVariants as act
 use Rattle.ct_rules.specs.declared.state.RecState.{RecState}
@@ -58,7 +58,7 @@ told_own n call asked a = ap (λ (b : Bool). answers n (cond b (Some asked) None
 
 replied_is : (s : Scene) (w : World) (n call : ℕ) (left : RecState) (asked : ClientOp) (a : Answer) → is_among n s.members ≡ true → w.joined n ≡ true →
     put s w n (own_call call asked) (reply call a (keeps left (starts (w.nodes n)))) ≡ record { world = with_view n (in_state left (w.nodes n)) w; labels = label.Told n asked a ∷ [] }
-unfolding reply keeps acts sent sends
+unfolding reply keeps performs sent sends
 replied_is s w n call left asked a member there =
     put_world s w n (own_call call asked) (reply call a (keeps left (starts (w.nodes n)))) member there refl
     ∙ (let m : w.mail ++ [] ≡ w.mail = append-nil w.mail in let l = told_own n call asked a in λ i. record { world = record { nodes = λ k. cond (nat_eq k n) (in_state left (w.nodes n)) (w.nodes k); joined = w.joined; mail = m i }; labels = l i })
@@ -79,7 +79,7 @@ releases_so s w n call member there locked = chosen (is_some (w.nodes n).state.l
 
 pub reads_so : (s : Scene) (w : World) (n call : ℕ) → is_among n s.members ≡ true → w.joined n ≡ true → is_none (w.nodes n).state.locked ≡ false → is_none (w.nodes n).state.wish ≡ true → is_mastered n (w.nodes n).state.copy ≡ true →
     Holds_so s w n (Wants n call (op.Read s.db s.key)) (w.nodes n).state (op.Read s.db s.key) (answer.Read (value_of (w.nodes n).state.copy))
-unfolding may_want is_wanting is_read_op reply keeps acts
+unfolding may_want is_wanting is_read_op reply keeps performs
 reads_so s w n call member there locked free mine =
     chosen (may_want (w.nodes n).state (op.Read s.db s.key)) _ _ (ap (λ (b : Bool). true && b && true) free)
     ∙ ap (put s w n (own_call call (op.Read s.db s.key))) (locked_read (place s n (w.nodes n)) s.rules call s.db s.key (starts (w.nodes n)) locked mine)

@@ -37,11 +37,10 @@ use Rattle.std.proofs.lemmas.Bool.{eqb-true}
 use Rattle.ct_frame.specs.declared.header.RecCopy.{RecCopy}
 use Rattle.ct_promise.specs.Generation.{speaks_of_records}
 use Rattle.ct_rules_node.specs.Node.{is_frozen_in}
-use Rattle.ct_rules_node.specs.Laws.{first_row}
 use Rattle.ct_rules_node.specs.Rounds.{on_pull, table_of, ptables_of, row_of}
 use Rattle.ct_rules_node.specs.Steps.{if_sound, arrives}
 use Rattle.ct_rules_node.specs.Turn.{does, posts}
-use Rattle.ct_rules_node.proofs.Told.{tells_at}
+use Rattle.ct_rules_node.proofs.Tables.{tells_at}
 use Rattle.ct_promise.proofs.Follows.{filter_more}
 use Rattle.ct_law_freeze.proofs.Leading.{Led, lead_turned, later_none}
 
@@ -159,7 +158,7 @@ tells_itself c rules w r h n g there frozen =
       some = λ ne. (let nz : r.line n ≢ 0 = (λ z. ne (own.line ∙ z)) in (
         subst (λ (l : ℕ). r.born l ≡ true) (sym own.line) (own.named nz).0,
         subst (λ (l : ℕ). (nat_eq l 1 || r.installed l n) ≡ true) (sym own.line) (joined own nz),
-        λ db key. table.seen db key ∙ ap (λ (o : Option RecCopy). first_row (row_of n db key o)) (copy_left db key _ x (k.4 nz db key) ∙ ap (λ (l : ℕ). ((h.ages.worlds l db key).nodes n).state.copy) (sym own.line)),
+        λ db key. table.seen db key ∙ ap (λ (o : Option RecCopy). row_of n db key o) (copy_left db key _ x (k.4 nz db key) ∙ ap (λ (l : ℕ). ((h.ages.worlds l db key).nodes n).state.copy) (sym own.line)),
       ));
       order = table.order;
       polder = (let e = own.base in let l = k.2 in omega arith);

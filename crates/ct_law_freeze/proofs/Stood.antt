@@ -11,7 +11,6 @@ use Rattle.ct_rules.specs.declared.state.RecState.{RecState}
 use Rattle.ct_rules.specs.State.{is_quiet}
 use Rattle.ct_rules.specs.Form.{least_of, sent_for, revoked_rsn, vacuumed_rsn}
 use Rattle.ct_rules_node.specs.Node.{Node, Phase, Idle, Serving, Installed, Freezing, Frozen, Committing, Lead, Nothing, Freezes, Pulls, Installs, Completed, is_present, name_of, db_at, state_at}
-use Rattle.ct_rules_node.specs.Laws.{first_row}
 use Rattle.ct_rules_node.specs.Rounds.{frozen_state, lead_from, row_of}
 use Rattle.ct_cluster.specs.Cluster.{Cluster}
 use Rattle.ct_register.specs.Lines.{Lines}
@@ -103,12 +102,10 @@ frozen_formed s n v true h = record {
       waiting_recalled = refl;
     };
     numbers = record { copy_limit = h.form.numbers.copy_limit; least_limit = omega arith; request_limit = omega arith; revocation_limit = omega arith; vacuum_limit = omega arith; wish_limit = h.form.numbers.wish_limit };
+    counters = h.form.counters;
   };
   tracks = record { tracked_held = λ e. absurd (cc); vacuum_untracked = λ e. absurd (cc) };
   waits = refl;
-  from_one = h.from_one;
-  next_limit = h.next_limit;
-  floor_limit = h.floor_limit;
 }
 frozen_formed s n v false h = record {
   form = record {
@@ -130,12 +127,10 @@ frozen_formed s n v false h = record {
       waiting_recalled = refl;
     };
     numbers = record { copy_limit = h.form.numbers.copy_limit; least_limit = omega arith; request_limit = omega arith; revocation_limit = omega arith; vacuum_limit = omega arith; wish_limit = h.form.numbers.wish_limit };
+    counters = h.form.counters;
   };
   tracks = record { tracked_held = λ e. absurd (cc); vacuum_untracked = λ e. absurd (cc) };
   waits = refl;
-  from_one = h.from_one;
-  next_limit = h.next_limit;
-  floor_limit = h.floor_limit;
 }
 
 -- ---- the lead
@@ -228,7 +223,7 @@ replied_freezes c r a b s n g h x y q vbase pbase table is z newer copies k = re
       (λ p. absurd (frozen_not y.phase g q l p.0 e))
       z.phase;
   stuck = λ ne line. (not_present c g h x y z, λ db key. ap (λ (t : RecState). t.locked) (z.state db key) ∙ no_locks (is_ended c 0 x.dbs db key) (state_at db key x) ((k.stuck ne line).1 db key));
-  some = λ ne. (let p = k.some ne in (p.0, p.1, λ db key. p.2 db key ∙ ap (λ (o : Option RecCopy). first_row (row_of n db key o)) (sym (copies vbase db key))));
+  some = λ ne. (let p = k.some ne in (p.0, p.1, λ db key. p.2 db key ∙ ap (λ (o : Option RecCopy). row_of n db key o) (sym (copies vbase db key))));
   order = k.order;
   polder = k.polder;
   phad = k.phad;

@@ -13,7 +13,7 @@ use Rattle.ct_register.specs.Register.{Register}
 use Rattle.ct_register.specs.Lines.{Lines}
 use Rattle.ct_law_world.specs.World.{Scene, World, View, AreDrawn}
 use Rattle.ct_law_fact.proofs.Invariant.{Ghost}
-use Rattle.ct_law_like.proofs.Likeness.{wish_of}
+use Rattle.ct_law_like.proofs.SeenNode.{wish_of}
 use Rattle.ct_law_record.proofs.Worlds.{WorldInv}
 use Rattle.ct_law_shown.specs.Shown.{view}
 use Rattle.ct_law_shown.proofs.Weave.{true_or_false}

@@ -1,4 +1,4 @@
-pub mod Likeness
-pub mod Alike
-pub mod Likewise
-pub mod Coming
+pub mod SeenNode
+pub mod SameParts
+pub mod SameRequests
+pub mod SameEvents

@@ -16,7 +16,6 @@ use Rattle.ct_rules.specs.declared.state.RecState.{RecState}
 use Rattle.ct_rules.proofs.Events.{in_form_at_start}
 use Rattle.ct_rules_node.specs.Node as node
 use Rattle.ct_rules_node.specs.Node.{Node, Phase, Idle, Serving, Installed, Freezing, Frozen, Lead, Nothing, Freezes, Pulls, Installs, Completed, master_of, is_among, kind_at, is_readonly, db_at, state_at}
-use Rattle.ct_rules_node.specs.Laws.{first_row}
 use Rattle.ct_rules_node.specs.Rounds.{row_of}
 use Rattle.ct_store.specs.Map.{Pairs, look}
 use Rattle.ct_cluster.specs.Cluster.{Cluster, Sent}
@@ -70,12 +69,9 @@ formed_as c rules db n key ms ns v e h = subst (λ (x : List ℕ). Is_formed (re
 -- what nothing is kept of is in form, whoever the members are
 pub empty_formed : (s : Scene) (n next floor : ℕ) (x : RecState) → x ≡ nothing_kept → 1 ≤ next → next < 2 ^ 62 → floor < 2 ^ 62 → Is_formed s n (record { state = x; next = next; floor = floor })
 empty_formed s n next floor x none one low below = subst (λ (y : RecState). Is_formed s n (record { state = y; next = next; floor = floor })) (sym none) (record {
-  form = in_form_at_start (law.place s n (record { state = nothing_kept; next = next; floor = floor }));
+  form = in_form_at_start (law.place s n (record { state = nothing_kept; next = next; floor = floor })) next (record { from_one = one; next_limit = low; floor_limit = below });
   tracks = record { tracked_held = λ e. absurd (cc); vacuum_untracked = λ e. refl };
   waits = refl;
-  from_one = one;
-  next_limit = low;
-  floor_limit = below;
 })
 
 pub state_none : (db : ℕ) (key : List ℕ) (x : Node) → (db_at db x).records ≡ [] → state_at db key x ≡ nothing_kept
@@ -112,7 +108,7 @@ module _ (c : Config) (rules : Rules) (who them : Callers) (w v : Cluster) (r : 
     some = λ ne. (let q = h.some ne in (
       later.born vbase q.0,
       or_grows (nat_eq vbase 1) (r.installed vbase k) (s.installed vbase k) (later.installed vbase k) q.1,
-      λ db key. q.2 db key ∙ ap (λ (y : View). first_row (row_of k db key y.state.copy)) (sym (away.views vbase db key q.0)),
+      λ db key. q.2 db key ∙ ap (λ (y : View). row_of k db key y.state.copy) (sym (away.views vbase db key q.0)),
     ));
     order = h.order;
     polder = h.polder;
@@ -210,7 +206,7 @@ module _ (c : Config) (rules : Rules) (who them : Callers) (w v : Cluster) (r : 
 
     formed_away : (h : NodeLives c rules who w r a k x) (db : ℕ) (key : List ℕ) → Is_formed (scene c (era_of s b (s.line k)) rules db key) k (view db key x)
     formed_away h db key = ⊎_elim
-        (λ (out : r.line k ≡ 0). (let f = h.formed db key in empty_formed _ k x.next (db_at db x).floor (state_at db key x) (state_none db key x (empty_out c rules who w r a k x x.phase h.phase out db)) f.from_one f.next_limit f.floor_limit))
+        (λ (out : r.line k ≡ 0). (let f = h.formed db key in empty_formed _ k x.next (db_at db x).floor (state_at db key x) (state_none db key x (empty_out c rules who w r a k x x.phase h.phase out db)) f.form.counters.from_one f.form.counters.next_limit f.form.counters.floor_limit))
         (λ (some : r.line k ≢ 0). formed_as c rules db k key _ _ (view db key x) (sym (later.members (r.line k) (named some)) ∙ ap s.members (sym away.line)) (h.formed db key))
         (cases_eq (r.line k) 0)
 

@@ -14,7 +14,6 @@ use Rattle.ct_merge.specs.Rule.{row_at}
 use Rattle.ct_merge.proofs.Among.{In}
 use Rattle.ct_rules.specs.State.{nothing_kept}
 use Rattle.ct_rules_node.specs.Node.{Node, Phase, Idle, Serving, Installed, Freezing, Frozen, Committing, Lead, Nothing, Freezes, Pulls, Installs, Completed, is_among, is_present, is_frozen_in, name_of, db_at, state_at}
-use Rattle.ct_rules_node.specs.Laws.{first_row}
 use Rattle.ct_rules_node.specs.Rounds.{row_of}
 use Rattle.ct_rules_node.specs.Admission.{record_in}
 use Rattle.ct_cluster.specs.Cluster.{Cluster, is_up, node_at}
@@ -64,7 +63,7 @@ pub record Replied (r : Lines) (a : Ages) (g n vbase pbase : ℕ) (table : List 
   -- it does not freeze for g any more
   pub past : (h : ℕ) → x.phase ≢ Freezing g h
   pub stuck : vbase ≢ 0 → r.line n ≡ vbase → (is_present x.phase ≡ false) × ((db : ℕ) (key : List ℕ) → (state_at db key x).locked ≡ None)
-  pub some : vbase ≢ 0 → (r.born vbase ≡ true) × ((nat_eq vbase 1 || r.installed vbase n) ≡ true) × ((db : ℕ) (key : List ℕ) → row_at db key table ≡ first_row (row_of n db key ((a.worlds vbase db key).nodes n).state.copy))
+  pub some : vbase ≢ 0 → (r.born vbase ≡ true) × ((nat_eq vbase 1 || r.installed vbase n) ≡ true) × ((db : ℕ) (key : List ℕ) → row_at db key table ≡ row_of n db key ((a.worlds vbase db key).nodes n).state.copy)
   pub order : ascends row_before table ≡ true
   pub polder : pbase < g
   pub phad : r.phad g n pbase ≡ true

@@ -75,7 +75,7 @@ wished_before c era rules who calls n db call key asked w h = (h.stays.known.dbs
 
 -- the call is an event at the record
 call_comes : (c : Config) (era : Era) (rules : Rules) (who : Callers) (calls n db call : ℕ) (key : List ℕ) (asked : ClientOp) (w : Cluster) (e : MoveEvent) (ev : Event) → Calls_at c era rules who calls n db call key asked w →
-    MayCome (place (scene c era rules db key) n (view db key (node_at n w))) (state_at db key (node_at n w)) e → is_from_node e ≡ true →
+    MayCome (state_at db key (node_at n w)) e → is_from_node e ≡ true →
     Wishful (Known who calls n db key) (left_by c n db key (λ at o. move at rules e o) (begins (node_at n w))).state.wish → Wishful (Of_records c db key) (left_by c n db key (λ at o. move at rules e o) (begins (node_at n w))).state.wish →
     happens (scene c era rules db key) (amid era.number db key n (project era.number db key w) (begins (node_at n w))) ev ≡ put (scene c era rules db key) (amid era.number db key n (project era.number db key w) (begins (node_at n w))) n (own_call call asked) (left_by c n db key (λ at o. move at rules e o) (begins (node_at n w))) →
     (at_record c n db key (λ at o. move at rules e o) (makes call (begins (node_at n w)))).spent ≡ false →

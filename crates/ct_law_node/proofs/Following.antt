@@ -84,7 +84,7 @@ asks_here c era rules w labels es is sched db key = asks_on (scene c era rules d
 pub record Comes_to (c : Config) (era : Era) (rules : Rules) (who : Callers) (calls n db : ℕ) (key : List ℕ) (e : MoveEvent) (t : Turn) (pend : List PendingCall) (asks : ℕ → Option ClientOp) (w : World) (ev : Event) : Type 0 where
   pub has : is_db db ≡ true
   pub there : db < length t.node.dbs
-  pub may : MayCome (place (scene c era rules db key) n (view db key t.node)) (state_at db key t.node) e
+  pub may : MayCome (state_at db key t.node) e
   pub from : is_from_node e ≡ true
   pub whole : (left_by c n db key (λ at o. move at rules e o) t).spent ≡ false
   pub known : Wishful (Known who calls n db key) (left_by c n db key (λ at o. move at rules e o) t).state.wish

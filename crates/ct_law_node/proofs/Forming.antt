@@ -8,7 +8,7 @@ use Rattle.ct_frame.specs.declared.frame.Msg.{Msg}
 use Rattle.ct_msg.specs.declared.client.ClientOp.{ClientOp}
 use Rattle.ct_rules.specs.Form.{IsInForm, MayCome, is_of_record}
 use Rattle.ct_rules.specs.Laws.{TracksAsHolder}
-use Rattle.ct_rules.specs.Sent.{is_sound, waits_for_nodes, is_from_node}
+use Rattle.ct_rules.specs.Sent.{is_well_formed, waits_for_nodes, is_from_node}
 use Rattle.ct_rules.specs.Moves.{move, unless_spent}
 use Rattle.ct_rules.specs.Parts.{Moving}
 use Rattle.ct_rules.specs.declared.event.Act.{Act}
@@ -16,53 +16,27 @@ use Rattle.ct_rules.specs.declared.event.Act.TheVariants as act
 use Rattle.ct_rules.specs.declared.event.MoveEvent.{MoveEvent}
 use Rattle.ct_rules.specs.declared.event.MoveEvent.TheVariants as event
 use Rattle.ct_rules.specs.declared.event.Place.{Place}
-use Rattle.ct_rules.proofs.Events.{form_kept}
+use Rattle.ct_rules.proofs.Events.{form_kept, form_under}
 use Rattle.ct_rules.proofs.Tracking.{holder_tracks}
-use Rattle.ct_rules.proofs.Sound.{what_is_sent}
+use Rattle.ct_rules.proofs.SentEvents.{what_is_sent}
 use Rattle.ct_rules_node.specs.Admission.{record_in}
 use Rattle.ct_rules_node.specs.Laws.{unless_blank}
 use Rattle.ct_rules_node.specs.Node.{or_nothing}
-use Rattle.ct_rules_node.proofs.AtRecord.{formed_is_kept}
+use Rattle.ct_rules_node.proofs.AtRecord.{none_is, formed_is_kept}
 use Rattle.ct_law_world.specs.World.{Scene, View, Mail, place, starts, view_of, sent, sends, may_want}
 use Rattle.ct_law_shown.proofs.Speaking.{About, Told, move_told}
 
 -- what holds of a node's state of the record
 pub record Is_formed (s : Scene) (n : ℕ) (v : View) : Type 0 where
-  pub form : IsInForm (place s n v) v.state
+  pub form : IsInForm (place s n v) v.next v.state
   pub tracks : TracksAsHolder (place s n v) v.state.copy v.state.tracking v.state.vacuum
   pub waits : waits_for_nodes v.state ≡ true
-  pub from_one : 1 ≤ v.next
-  pub next_limit : v.next < 2 ^ 62
-  pub floor_limit : v.floor < 2 ^ 62
 
 -- what holds of a message about the record
 pub record Is_sound_mail (m : Mail) : Type 0 where
   pub record_is : is_of_record m.msg ≡ true
   pub fields : is_message m.sender m.msg ≡ true
   pub sender : is_node m.sender ≡ true
-
--- the form does not depend on the floor, nor on the numbers of the node
-reformed : (s : Scene) (n next floor : ℕ) (v : View) → IsInForm (place s n v) v.state → IsInForm (place s n (record v { next = next; floor = floor })) v.state
-reformed s n next floor v h = record {
-  shape = record {
-    sent_on = h.shape.sent_on;
-    queue_entry = h.shape.queue_entry;
-    lock_held = h.shape.lock_held;
-    revocation_held = h.shape.revocation_held;
-    lock_quiet = h.shape.lock_quiet;
-    revocation_tracked = h.shape.revocation_tracked;
-    lock_unwished = h.shape.lock_unwished;
-    vacuum_home = h.shape.vacuum_home;
-    vacuum_queue = h.shape.vacuum_queue;
-    vacuum_unlocked = h.shape.vacuum_unlocked;
-    vacuum_unwished = h.shape.vacuum_unwished;
-    vacuum_quiet = h.shape.vacuum_quiet;
-    wish_wants = h.shape.wish_wants;
-    queue_asked = h.shape.queue_asked;
-    waiting_recalled = h.shape.waiting_recalled;
-  };
-  numbers = h.numbers;
-}
 
 retracked : (s : Scene) (n next floor : ℕ) (v : View) → TracksAsHolder (place s n v) v.state.copy v.state.tracking v.state.vacuum →
     TracksAsHolder (place s n (record v { next = next; floor = floor })) v.state.copy v.state.tracking v.state.vacuum
@@ -71,12 +45,9 @@ retracked s n next floor v h = record { tracked_held = h.tracked_held; vacuum_un
 -- the numbers of a node rise
 pub formed_rises : (s : Scene) (n next floor : ℕ) (v : View) → 1 ≤ next → next < 2 ^ 62 → floor < 2 ^ 62 → Is_formed s n v → Is_formed s n (record v { next = next; floor = floor })
 formed_rises s n next floor v one low below h = record {
-  form = reformed s n next floor v h.form;
+  form = form_under (place s n v) v.next floor next v.state (record { from_one = one; next_limit = low; floor_limit = below }) h.form;
   tracks = retracked s n next floor v h.tracks;
   waits = h.waits;
-  from_one = one;
-  next_limit = low;
-  floor_limit = below;
 }
 
 -- a step that is whole
@@ -84,26 +55,18 @@ whole : (o : Moving) → o.spent ≡ false → unless_spent o ≡ Some o
 whole o e = ap (λ (b : Bool). cond b None (Some o)) e
 
 -- the state after a step at the record
-pub formed_moves : (s : Scene) (n : ℕ) (v : View) (e : MoveEvent) → is_db s.db ≡ true → Is_formed s n v → MayCome (place s n v) v.state e → is_from_node e ≡ true →
+pub formed_moves : (s : Scene) (n : ℕ) (v : View) (e : MoveEvent) → is_db s.db ≡ true → Is_formed s n v → MayCome v.state e → is_from_node e ≡ true →
     (move (place s n v) s.rules e (starts v)).spent ≡ false → Is_formed s n (view_of (move (place s n v) s.rules e (starts v)))
 formed_moves s n v e db h may from u =
     let o = move (place s n v) s.rules e (starts v) in
-    let a = form_kept (place s n v) s.rules e v.state v.next o h.form h.next_limit h.floor_limit may (whole o u) in
-    let b = what_is_sent (place s n v) s.rules e v.state v.next o db h.form h.waits h.from_one h.next_limit h.floor_limit may from (whole o u) in
+    let a = form_kept (place s n v) s.rules e v.state v.next o h.form may (whole o u) in
+    let b = what_is_sent (place s n v) s.rules e v.state v.next o db h.form h.waits may from (whole o u) in
     let c = holder_tracks (place s n v) s.rules e (starts v) h.tracks in
-    let x = record v { state = o.state } in
-    record {
-      form = reformed s n o.next o.floor x a.form;
-      tracks = retracked s n o.next o.floor x c;
-      waits = b.1;
-      from_one = (let p = h.from_one in let q = a.next_rises in omega arith);
-      next_limit = a.next_limit;
-      floor_limit = a.floor_limit;
-    }
+    record { form = a.form; tracks = retracked s n o.next o.floor (record v { state = o.state }) c; waits = b.1 }
 
 -- nothing is lost of it where it is blank
 pub formed_blank : (s : Scene) (n : ℕ) (v : View) → Is_formed s n v → or_nothing (unless_blank v.state) ≡ v.state
-formed_blank s n v h = formed_is_kept (place s n v) v.state h.form h.tracks
+formed_blank s n v h = formed_is_kept (place s n v) v.next v.state h.form h.tracks
 
 -- ---- what is sent
 
@@ -111,36 +74,32 @@ of_record_is : (m : Msg) (r : ℕ × List ℕ) → record_in m ≡ Some r → is
 unfolding record_in is_of_record
 of_record_is m r e = grind arith
 
-sound_mails : (s : Scene) (n : ℕ) (at : Place) (as' : List Act) → is_node n ≡ true → Told at as' → list_all (is_sound n) as' ≡ true → AllByRecursion Is_sound_mail (sent n as')
-unfolding Told About is_sound sent sends
+sound_mails : (s : Scene) (n : ℕ) (at : Place) (as' : List Act) → is_node n ≡ true → Told at as' → list_all (is_well_formed n) as' ≡ true → AllByRecursion Is_sound_mail (sent n as')
+unfolding Told About is_well_formed sent sends
 sound_mails s n at [] node t h = tt
 sound_mails s n at (act.Send receiver m ∷ as') node t h = (let p = and_parts _ _ h in (record { record_is = of_record_is m (at.db, at.key) t.0; fields = p.0; sender = node }, sound_mails s n at as' node t.1 p.1))
 sound_mails s n at (act.Answer call a ∷ as') node t h = sound_mails s n at as' node t.1 h
 sound_mails s n at (act.Finished floor ∷ as') node t h = sound_mails s n at as' node t.1 h
 
 -- the messages of a step at the record
-pub sound_moves : (s : Scene) (n : ℕ) (v : View) (e : MoveEvent) → is_db s.db ≡ true → is_node n ≡ true → Is_formed s n v → MayCome (place s n v) v.state e → is_from_node e ≡ true →
+pub sound_moves : (s : Scene) (n : ℕ) (v : View) (e : MoveEvent) → is_db s.db ≡ true → is_node n ≡ true → Is_formed s n v → MayCome v.state e → is_from_node e ≡ true →
     (move (place s n v) s.rules e (starts v)).spent ≡ false → AllByRecursion Is_sound_mail (sent n (move (place s n v) s.rules e (starts v)).acts)
 unfolding Told
 sound_moves s n v e db node h may from u =
     let o = move (place s n v) s.rules e (starts v) in
-    let b = what_is_sent (place s n v) s.rules e v.state v.next o db h.form h.waits h.from_one h.next_limit h.floor_limit may from (whole o u) in
+    let b = what_is_sent (place s n v) s.rules e v.state v.next o db h.form h.waits may from (whole o u) in
     sound_mails s n (place s n v) o.acts node (move_told (place s n v) s.rules e (starts v) tt) b.0
 
 -- ---- what may come
 
-none_is : {X : Type 0} (x : Option X) → is_none x ≡ true → x ≡ None
-none_is None e = refl
-none_is (Some x) e = absurd (cc)
-
-or_second : (a b : Bool) → a ≡ false → (a || b) ≡ true → b ≡ true
+pub or_second : (a b : Bool) → a ≡ false → (a || b) ≡ true → b ≡ true
 or_second true b e h = absurd (cc)
 or_second false b e h = h
 
-pub may_want_comes : (s : Scene) (n call : ℕ) (v : View) (asked : ClientOp) → may_want v.state asked ≡ true → MayCome (place s n v) v.state (event.Want call asked)
+pub may_want_comes : (s : Scene) (n call : ℕ) (v : View) (asked : ClientOp) → may_want v.state asked ≡ true → MayCome v.state (event.Want call asked)
 unfolding may_want
 may_want_comes s n call v asked h =
     let p = and_parts _ _ h in let q = and_parts _ _ p.0 in (q.0, none_is v.state.wish q.1, λ not_read. none_is v.state.locked (or_second _ _ not_read p.1))
 
-pub mail_comes : (s : Scene) (n : ℕ) (v : View) (m : Mail) → Is_sound_mail m → MayCome (place s n v) v.state (event.Arrive m.sender m.msg)
+pub mail_comes : (s : Scene) (n : ℕ) (v : View) (m : Mail) → Is_sound_mail m → MayCome v.state (event.Arrive m.sender m.msg)
 mail_comes s n v m h = (h.record_is, h.fields)

@@ -120,14 +120,14 @@ other_formed : (c : Config) (era : Era) (rules : Rules) (who : Callers) (calls n
 unfolding at_record acted put_back
 other_formed c era rules who calls n db0 db key0 key part t h s e =
     let u = at_record c n db0 key0 part t in
-    let one = (h.formed db0 key0).from_one in
+    let one = (h.formed db0 key0).form.counters.from_one in
     let up = next_grows c n db0 key0 part t s.grows in
     let floor : (db_at db u.node).floor < 2 ^ 62 = ⊎_elim
-    (λ (is : db ≡ db0). subst (λ (d : ℕ). (db_at d u.node).floor < 2 ^ 62) (sym is) (subst (λ (f : ℕ). f < 2 ^ 62) (sym (floor_own c n db0 key0 part t s.has)) s.formed.floor_limit))
-    (λ (ne : db ≢ db0). subst (λ (d : Database). d.floor < 2 ^ 62) (sym ((moves_at c n db0 key0 part t h.known.order).other_dbs db ne)) (h.formed db key).floor_limit)
+    (λ (is : db ≡ db0). subst (λ (d : ℕ). (db_at d u.node).floor < 2 ^ 62) (sym is) (subst (λ (f : ℕ). f < 2 ^ 62) (sym (floor_own c n db0 key0 part t s.has)) s.formed.form.counters.floor_limit))
+    (λ (ne : db ≢ db0). subst (λ (d : Database). d.floor < 2 ^ 62) (sym ((moves_at c n db0 key0 part t h.known.order).other_dbs db ne)) (h.formed db key).form.counters.floor_limit)
     (cases_eq db db0) in
     subst (λ (x : RecState). Is_formed (scene c era rules db key) n (record { state = x; next = u.node.next; floor = (db_at db u.node).floor })) (sym (other_state c n db0 db key0 key part t h.known.order e))
-    (formed_rises (scene c era rules db key) n u.node.next (db_at db u.node).floor (view db key t.node) (omega arith) s.formed.next_limit floor (h.formed db key))
+    (formed_rises (scene c era rules db key) n u.node.next (db_at db u.node).floor (view db key t.node) (omega arith) s.formed.form.counters.next_limit floor (h.formed db key))
 
 all_formed : (c : Config) (era : Era) (rules : Rules) (who : Callers) (calls n db0 : ℕ) (key0 : List ℕ) (part : Place → Moving → Moving) (t : Turn) → NodeStays c era rules who calls n t.node → Sure c era rules who calls n db0 key0 part t →
     (db : ℕ) (key : List ℕ) → Is_formed (scene c era rules db key) n (view db key (at_record c n db0 key0 part t).node)

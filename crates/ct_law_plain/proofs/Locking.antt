@@ -6,8 +6,8 @@ use Rattle.ct_frame.specs.declared.frame.CallKind.{CallKind}
 use Rattle.ct_frame.specs.declared.frame.Msg.{Msg}
 use Rattle.ct_frame.specs.declared.frame.Msg.TheVariants as msg
 use Rattle.ct_msg.specs.declared.client.ClientOp.{ClientOp}
-use Rattle.ct_rules.specs.Parts.{Moving, acts, send, send_all, reply, keeps, makes, opened, open_of, end_vacuum, give, applies, satisfy, revoke, read_here, delegate, grant, yield_record, drain, drained, satisfy_own, raise, end_revocation, next, next_of, keep, call_for, wait_for_copies, want_of, opened_at_home, want}
-use Rattle.ct_rules.specs.Frames.{pass_again, enqueue, on_call_of, called, on_call, wait, handle, recalled, on_recall, hand_on, on_give_of, on_give, satisfy_wish, becomes, take, refuse, on_pass, on_refuse_of, on_refuse, reads, on_grant, on_done_of, on_done, acknowledge, on_revoke_of, on_revoke, acknowledged, on_revokeack, on_vstore, on_vdelete, finish, on_vstored_of, on_vstored, on_vdeleted_of, on_vdeleted}
+use Rattle.ct_rules.specs.Parts.{Moving, performs, send, send_all, reply, keeps, reaches, opened, open_of, end_vacuum, give, applies, satisfy, revoke, read_here, delegate, grant, yield_record, drain, drained, satisfy_own, raise, end_revocation, next, next_of, keep, call_for, wait_for_copies, want_of, opened_at_home, want}
+use Rattle.ct_rules.specs.Messages.{pass_again, enqueue, on_call_of, called, on_call, wait, handle, recalled, on_recall, hand_on, on_give_of, on_give, satisfy_wish, becomes, accept, refuse, on_pass, on_refuse_of, on_refuse, read_granted, on_grant, on_done_of, on_done, acknowledge, renew, on_revoke_of, on_revoke, acknowledged, on_revokeack, on_vstore, on_vdelete, finish, on_vstored_of, on_vstored, on_vdeleted_of, on_vdeleted}
 use Rattle.ct_rules.specs.declared.event.Place.{Place}
 use Rattle.ct_rules.specs.declared.state.Entry.{Entry}
 use Rattle.ct_rules.specs.declared.state.RecallNote.{RecallNote}
@@ -25,16 +25,16 @@ abbrev pub KeepsLock : (Place → Moving → Moving) → Type 0
 KeepsLock part = (at : Place) (o : Moving) → IsHeld o → IsHeld (part at o)
 
 send_all_held : (ns : List ℕ) (m : Msg) (o : Moving) → IsHeld o → IsHeld (send_all ns m o)
-unfolding send_all send acts
+unfolding send_all send performs
 send_all_held [] m o h = h
 send_all_held (n ∷ ns) m o h = send_all_held ns m (send n m o) h
 
 read_here_held : (at : Place) (request : ℕ) (o : Moving) (w : Option Wish) → IsHeld o → IsHeld (read_here at request o w)
-unfolding send acts reply keeps makes read_here
+unfolding send performs reply keeps reaches read_here
 read_here_held at request o w h = grind (arith, h)
 
 grant_held : (at : Place) (node request : ℕ) (o : Moving) → IsHeld o → IsHeld (grant at node request o)
-unfolding send acts keeps grant delegate
+unfolding send performs keeps grant delegate
 grant_held at node request o h = grind (arith, h, read_here_held)
 
 revoke_held : (at : Place) (o : Moving) → IsHeld o → IsHeld (revoke at o)
@@ -42,7 +42,7 @@ unfolding keeps revoke
 revoke_held at o h = grind (arith, h, send_all_held)
 
 give_held : (at : Place) (o : Moving) → IsHeld o → IsHeld (give at o)
-unfolding send acts keeps give
+unfolding send performs keeps give
 give_held at o h = grind (arith, h)
 
 yield_held : (at : Place) (o : Moving) → IsHeld o → IsHeld (yield_record at o)
@@ -58,16 +58,16 @@ drained_held : (at : Place) (o : Moving) → IsHeld o → IsHeld (drained at o)
 unfolding drained
 drained_held at o h = grind (arith, h, drain_held)
 
-satisfied_held : (rules : Rules) (call : ℕ) (o_p : ClientOp) (o : Moving) → IsHeld o → IsHeld (satisfy rules call o_p o)
-unfolding acts reply keeps satisfy applies
-satisfied_held rules call o_p o h = grind (arith, h)
+satisfied_held : (rules : Rules) (call : ℕ) (asked : ClientOp) (o : Moving) → IsHeld o → IsHeld (satisfy rules call asked o)
+unfolding performs reply keeps satisfy applies
+satisfied_held rules call asked o h = grind (arith, h)
 
 own_held : (rules : Rules) (o : Moving) (w : Option Wish) → IsHeld o → IsHeld (satisfy_own rules o w)
 unfolding keeps satisfy_own
 own_held rules o w h = grind (arith, h, satisfied_held)
 
 end_revocation_held : (at : Place) (rules : Rules) (o : Moving) → IsHeld o → IsHeld (end_revocation at rules o)
-unfolding keeps makes end_revocation raise
+unfolding keeps reaches end_revocation raise
 end_revocation_held at rules o h = grind (arith, h, own_held, drained_held)
 
 handle_held : (at : Place) (r : RecallNote) (o : Moving) → IsHeld o → IsHeld (handle at r o)
@@ -75,23 +75,23 @@ unfolding keeps handle end_vacuum
 handle_held at r o h = grind (arith, h, grant_held, yield_held)
 
 recall_held : (at : Place) (r : RecallNote) (o : Moving) → IsHeld o → IsHeld (on_recall at r o)
-unfolding send acts keeps on_recall recalled wait
+unfolding send performs keeps on_recall recalled wait
 recall_held at r o h = grind (arith, h, handle_held)
 
-take_held : (at : Place) (rules : Rules) (rsn : ℕ) (value : List ℕ) (o : Moving) → IsHeld o → IsHeld (take at rules rsn value o)
-unfolding keeps makes take becomes satisfy_wish
+take_held : (at : Place) (rules : Rules) (rsn : ℕ) (value : List ℕ) (o : Moving) → IsHeld o → IsHeld (accept at rules rsn value o)
+unfolding keeps reaches accept becomes satisfy_wish
 take_held at rules rsn value o h = grind (arith, h, satisfied_held, drained_held)
 
 pass_held : (at : Place) (rules : Rules) (request rsn : ℕ) (value : List ℕ) (o : Moving) → IsHeld o → IsHeld (on_pass at rules request rsn value o)
-unfolding send acts keeps on_pass refuse
+unfolding send performs keeps on_pass refuse
 pass_held at rules request rsn value o h = grind (arith, h, take_held)
 
 on_grant_held : (at : Place) (n request rsn : ℕ) (value : List ℕ) (o : Moving) → IsHeld o → IsHeld (on_grant at n request rsn value o)
-unfolding send acts reply keeps makes on_grant reads
+unfolding send performs reply keeps reaches on_grant read_granted
 on_grant_held at n request rsn value o h = grind (arith, h)
 
 on_revoke_of_held : (at : Place) (n rsn : ℕ) (o : Moving) (w : Option Wish) → IsHeld o → IsHeld (on_revoke_of at n rsn o w)
-unfolding send acts keeps makes on_revoke_of acknowledge
+unfolding send performs keeps reaches renew on_revoke_of acknowledge
 on_revoke_of_held at n rsn o None h = h
 on_revoke_of_held at n rsn o (Some w) h = grind (arith, h)
 
@@ -104,31 +104,31 @@ unfolding keeps on_revokeack acknowledged
 on_revokeack_held at rules n rsn o h = grind (arith, h, end_revocation_held)
 
 on_vstore_held : (at : Place) (n rsn : ℕ) (o : Moving) → IsHeld o → IsHeld (on_vstore at n rsn o)
-unfolding send acts keeps on_vstore
+unfolding send performs keeps on_vstore
 on_vstore_held at n rsn o h = grind (arith, h)
 
 on_vdelete_held : (at : Place) (n rsn : ℕ) (o : Moving) → IsHeld o → IsHeld (on_vdelete at n rsn o)
-unfolding send acts keeps on_vdelete
+unfolding send performs keeps on_vdelete
 on_vdelete_held at n rsn o h = grind (arith, h)
 
-call_for_held : (at : Place) (call : ℕ) (o_p : ClientOp) (o : Moving) → IsHeld o → IsHeld (call_for at call o_p o)
-unfolding send acts reply keeps makes call_for
-call_for_held at call o_p o h = grind (arith, h)
+call_for_held : (at : Place) (call : ℕ) (asked : ClientOp) (o : Moving) → IsHeld o → IsHeld (call_for at call asked o)
+unfolding send performs reply keeps reaches call_for
+call_for_held at call asked o h = grind (arith, h)
 
-wait_held : (at : Place) (call : ℕ) (o_p : ClientOp) (o : Moving) → IsHeld o → IsHeld (wait_for_copies at call o_p o)
+wait_held : (at : Place) (call : ℕ) (asked : ClientOp) (o : Moving) → IsHeld o → IsHeld (wait_for_copies at call asked o)
 unfolding keeps wait_for_copies
-wait_held at call o_p o h = grind (arith, h, revoke_held)
+wait_held at call asked o h = grind (arith, h, revoke_held)
 
-want_of_held : (at : Place) (rules : Rules) (call : ℕ) (o_p : ClientOp) (o : Moving) → IsHeld o → IsHeld (want_of at rules call o_p o)
-unfolding reply acts want_of
-want_of_held at rules call o_p o h = grind (arith, h, satisfied_held, wait_held at call o_p o h, call_for_held at call o_p o h)
+want_of_held : (at : Place) (rules : Rules) (call : ℕ) (asked : ClientOp) (o : Moving) → IsHeld o → IsHeld (want_of at rules call asked o)
+unfolding reply performs want_of
+want_of_held at rules call asked o h = grind (arith, h, satisfied_held, wait_held at call asked o h, call_for_held at call asked o h)
 
 pub store_held : (call : ℕ) (v : List ℕ) (o : Moving) → IsHeld o → IsHeld (store call v o)
-unfolding reply acts keeps store
+unfolding reply performs keeps store
 store_held call v o h = grind (arith, h)
 
 pub call_again_held : (at : Place) (o : Moving) → IsHeld o → IsHeld (call_again at o)
-unfolding send acts call_again call_again_of
+unfolding send performs call_again call_again_of
 call_again_held at o h = grind (arith, h)
 
 pub revoke_again_held : (at : Place) (o : Moving) → IsHeld o → IsHeld (revoke_again at o)
@@ -138,11 +138,11 @@ revoke_again_held at o h = grind (arith, h, send_all_held)
 -- ---- what a location master does
 
 next_held : (at : Place) (o : Moving) → IsHeld o → IsHeld (next at o)
-unfolding send acts next next_of
+unfolding send performs next next_of
 next_held at o h = grind (arith, h)
 
 keep_held : (at : Place) (rsn : ℕ) (value : List ℕ) (o : Moving) → IsHeld o → IsHeld (keep at rsn value o)
-unfolding keeps makes keep
+unfolding keeps reaches keep
 keep_held at rsn value o h = grind (arith, h, next_held)
 
 opened_held : (at : Place) (o : Moving) → IsHeld o → IsHeld (opened at o)
@@ -158,7 +158,7 @@ unfolding keeps enqueue
 enqueue_held at w o ws h = grind (arith, h, next_held)
 
 pass_again_held : (at : Place) (e : Entry) (o : Moving) → IsHeld o → IsHeld (pass_again at e o)
-unfolding send acts pass_again
+unfolding send performs pass_again
 pass_again_held at e o h = h
 
 call_of_held : (at : Place) (n request : ℕ) (k : CallKind) (o : Moving) (e : Option Entry) → IsHeld o → IsHeld (on_call_of at n request k o e)
@@ -170,7 +170,7 @@ unfolding keeps on_call called end_vacuum
 call_held at n request k o h = grind (arith, h, call_of_held, opened_held)
 
 hand_on_held : (at : Place) (rsn : ℕ) (value : List ℕ) (o : Moving) (ws : List Waiter) → IsHeld o → IsHeld (hand_on at rsn value o ws)
-unfolding send acts keeps makes hand_on
+unfolding send performs keeps reaches hand_on
 hand_on_held at rsn value o ws h = grind (arith, h, keep_held, next_held)
 
 on_give_held : (at : Place) (x rsn : ℕ) (value : List ℕ) (o : Moving) → IsHeld o → IsHeld (on_give at x rsn value o)
@@ -186,7 +186,7 @@ unfolding keeps on_done on_done_of
 on_done_held at n request o h = grind (arith, h, next_held)
 
 finish_held : (rsn : ℕ) (o : Moving) → IsHeld o → IsHeld (finish rsn o)
-unfolding acts makes finish
+unfolding performs reaches finish
 finish_held rsn o h = h
 
 on_vstored_held : (at : Place) (n rsn : ℕ) (o : Moving) → IsHeld o → IsHeld (on_vstored at n rsn o)
@@ -198,7 +198,7 @@ unfolding keeps on_vdeleted on_vdeleted_of
 on_vdeleted_held n rsn o h = grind (arith, h, finish_held)
 
 begin_held : (at : Place) (o : Moving) (ns : List ℕ) → IsHeld o → IsHeld (begin_vacuum at o ns)
-unfolding keeps makes begin_vacuum
+unfolding keeps reaches begin_vacuum
 begin_held at o ns h = grind (arith, h, finish_held, send_all_held)
 
 -- ---- every rule but an unlock

@@ -4,7 +4,7 @@ use Rattle.ct_rules.specs.State.{nobody, plain, a_copy, nothing_kept}
 use Rattle.ct_rules.specs.declared.state.Wish.{Wish}
 use Rattle.ct_law_fact.proofs.Rule
 use Rattle.ct_law_fact.proofs.Rule.{Copy}
-use Rattle.ct_law_like.proofs.Likeness.{copy_of, frames_of, kind_at, node_of}
+use Rattle.ct_law_like.proofs.SeenNode.{copy_of, frames_of, kind_at, node_of}
 use Rattle.ct_law_fact.proofs.Invariant.{Past, Marking, Sent, Ghost, Asked, Waits, Emptied, readers_of, is_revoking, Facts, MasterFacts, NodeInv}
 use Rattle.std.specs.List.{list_all}
 use Rattle.ct_frame.specs.Fields.{is_node}

@@ -17,17 +17,17 @@ use Rattle.ct_rules.specs.declared.state.Wish.{Wish}
 use Rattle.ct_law_world.specs.World.{sent, own_call, waiting_call, may_want}
 use Rattle.ct_law_fact.proofs.Rule
 use Rattle.ct_law_fact.proofs.Rule.{Copy, Node, Frame, Body, Out}
-use Rattle.ct_law_like.proofs.Likeness.{wish_of, body_of, out_of, mastered_like}
-use Rattle.ct_rules.specs.Frames
-use Rattle.ct_law_like.proofs.Likewise.{like_called, like_recalled, like_want}
+use Rattle.ct_law_like.proofs.SeenNode.{wish_of, body_of, out_of, mastered_like}
+use Rattle.ct_rules.specs.Messages
+use Rattle.ct_law_like.proofs.SameRequests.{like_called, like_recalled, like_want}
 use Rattle.ct_rules.specs.Moves
 use Rattle.ct_rules_node.specs.Rounds
-use Rattle.ct_law_like.proofs.Coming.{greater_like, like_on_give_of, like_on_pass, like_on_refuse_of, like_on_grant, like_on_done_of, like_on_revoke_of, like_on_revokeack, like_on_vstore, like_on_vdelete, like_on_vstored_of, like_on_vdeleted_of, like_vacuum, like_store, like_release, like_unlock, like_call_again, like_revoke_again}
+use Rattle.ct_law_like.proofs.SameEvents.{greater_like, like_on_give_of, like_on_pass, like_on_refuse_of, like_on_grant, like_on_done_of, like_on_revoke_of, like_on_revokeack, like_on_vstore, like_on_vdelete, like_on_vstored_of, like_on_vdeleted_of, like_vacuum, like_store, like_release, like_unlock, like_call_again, like_revoke_again}
 use Rattle.ct_law_fact.proofs.Invariant.{Start, Recalled, Sent, Ghost, Says, NodeInv, Holds, Kept}
 use Rattle.ct_law_world.specs.Marked.{is_removed}
 use Rattle.ct_law_change.proofs.Acts.{node_holds, revoke_again_holds}
 use Rattle.ct_law_change.proofs.Revoking.{Came, on_ack_holds, on_revoke_holds, on_grant_holds}
-use Rattle.ct_law_event.proofs.Receive.{on_call_holds, on_recall_holds, on_give_holds, on_pass_holds, on_refuse_holds, on_done_holds, want_holds, store_holds, release_holds, unlock_holds, retry_holds}
+use Rattle.ct_law_event.proofs.Messages.{on_call_holds, on_recall_holds, on_give_holds, on_pass_holds, on_refuse_holds, on_done_holds, want_holds, store_holds, release_holds, unlock_holds, retry_holds}
 use Rattle.ct_law_fact.proofs.Nodes.{NodeInv-nowish}
 use Rattle.ct_law_event.proofs.Floor.{raise_floor_holds}
 use Rattle.ct_law_event.proofs.Vacuuming.{Apart, on_vstore_holds, on_vstored_holds, on_vdelete_holds, on_vdeleted_holds, vacuum_event_holds}
@@ -67,8 +67,8 @@ says_drawn g n copy next more wish le from to _ h = h
 NodeInv-drawn : (g : Ghost) (n : ℕ) (node : Node) (more : ℕ) → node.next ≤ more → NodeInv g n node → NodeInv g n (record node { next = more })
 NodeInv-drawn g n node more le h = grind (arith, says_drawn)
 
-greater_up : (a b : ℕ) → a ≤ Frames.greater a b
-unfolding Frames.greater
+greater_up : (a b : ℕ) → a ≤ Messages.greater a b
+unfolding Messages.greater
 greater_up a b = grind arith
 
 pub may_parts : (s : RecState) (asked : ClientOp) → may_want s asked ≡ true → (is_none s.wish ≡ true) × (is_read_op asked ≡ false → is_none s.locked ≡ true)
@@ -104,23 +104,23 @@ module _ (at : Place) (asks : ℕ → Option ClientOp) (ne : at.me ≢ nobody) (
   -- a message comes
   pub arrive_holds : (n : ℕ) (m : Msg) (g : Ghost) (o : Moving) → n ≢ nobody → ((w : Wish) → o.state.wish ≡ Some w → asks w.call ≡ Some w.op) → (at.me ≡ at.lmaster → Apart rules ps at.lmaster at.me nodes frames r) →
       Sent (record { from = n; to = at.me; body = body_of m }) g.frames → CameTo g o n m → is_removed (out_of at asks o).labels ≡ false → Stands g o → Goes (Moves.arrive at rules n m o)
-  unfolding Moves.arrive body_of Says Frames.on_call Frames.on_recall Frames.on_give Frames.on_refuse Frames.on_done Frames.on_revoke Frames.on_vstored Frames.on_vdeleted
-  arrive_holds n (msg.Call db key q k) g o real waits apart sent came kept h = home_goes o _ (g, h) (λ home. cond_both (Frames.is_misplaced at k) _ _ Goes (λ _. (g, h))
-      (λ _. goes (Frames.called at n q k (Parts.end_vacuum (Parts.opened at o))) _ (like_called at asks ne n q k o home) (on_call_holds rules ps at.lmaster at.me nodes frames r n q k g (out_of at asks o) home came kept h)))
-  arrive_holds n (msg.Recall db key least node q k) g o real waits apart sent came kept h = from_goes n o _ (g, h) (λ home. cond_both (Frames.is_misplaced at k || (nat_eq at.me at.lmaster && is_none o.state.entry)) _ _ Goes (λ _. (g, h))
-      (λ _. goes (Frames.recalled at (record { least = least; node = node; request = q; kind = k }) o) _ (like_recalled at asks ne (record { least = least; node = node; request = q; kind = k }) o (record { even = h.good.mine.even; waits = waits })) (on_recall_holds rules ps at.lmaster at.me nodes frames r (record { least = least; node = node; request = q; kind = k }) g (out_of at asks o) (recalled n at.me least node q k g sent) h)))
-  arrive_holds n (msg.Give db key rsn value) g o real waits apart sent came kept h = home_goes o _ (g, h) (λ home. goes (Frames.on_give_of at n rsn value o o.state.entry) _ (like_on_give_of at asks ne n rsn value o o.state.entry home) (on_give_holds rules ps at.lmaster at.me nodes frames r n rsn value g (out_of at asks o) o.state.entry refl home came kept h))
-  arrive_holds n (msg.Pass db key q rsn value) g o real waits apart sent came kept h = from_goes n o _ (g, h) (λ _. goes (Frames.on_pass at rules q rsn value o) _ (like_on_pass at asks ne rules q rsn value o (record { even = h.good.mine.even; waits = waits })) (on_pass_holds rules ps at.lmaster at.me nodes frames r q rsn value g (out_of at asks o) (came.0 refl) kept h))
-  arrive_holds n (msg.Refuse db key q rsn) g o real waits apart sent came kept h = home_goes o _ (g, h) (λ home. goes (Frames.on_refuse_of at n q rsn o o.state.entry) _ (like_on_refuse_of at asks ne n q rsn o o.state.entry home) (on_refuse_holds rules ps at.lmaster at.me nodes frames r n q rsn g (out_of at asks o) o.state.entry refl home came kept h))
-  arrive_holds n (msg.Grant db key q rsn value) g o real waits apart sent came kept h = goes (Frames.on_grant at n q rsn value o) _ (like_on_grant at asks ne n q rsn value o (came.0 refl).apart real (record { even = h.good.mine.even; waits = waits })) (on_grant_holds rules ps at.lmaster at.me nodes frames r n q rsn value g (out_of at asks o) sent came.0 h)
-  arrive_holds n (msg.Done db key node q) g o real waits apart sent came kept h = home_goes o _ (g, h) (λ home. goes (Frames.on_done_of at node q o o.state.queue) _ (like_on_done_of at asks ne node q o o.state.queue) (on_done_holds rules ps at.lmaster at.me nodes frames r node q g (out_of at asks o) o.state.queue refl home h))
-  arrive_holds n (msg.Revoke db key rsn) g o real waits apart sent came kept h = goes (Frames.on_revoke_of at n rsn o o.state.wish) _ (like_on_revoke_of at asks ne n rsn o o.state.wish h.good.mine.even) (on_revoke_holds rules ps at.lmaster at.me nodes frames r n rsn g (out_of at asks o) (wish_of at.readonly o.state.wish) refl came.0 h)
-  arrive_holds n (msg.RevokeAck db key rsn) g o real waits apart sent came kept h = goes (Frames.on_revokeack at rules n rsn o) _ (like_on_revokeack at asks ne rules n rsn o (λ v is. mastered_like at.me o.state.copy h.good.mine.even ∙ (h.good.mine.runs v is).0) (record { even = h.good.mine.even; waits = waits }))
+  unfolding Moves.arrive body_of Says Messages.on_call Messages.on_recall Messages.on_give Messages.on_refuse Messages.on_done Messages.on_revoke Messages.on_vstored Messages.on_vdeleted
+  arrive_holds n (msg.Call db key q k) g o real waits apart sent came kept h = home_goes o _ (g, h) (λ home. cond_both (Messages.is_misplaced at k) _ _ Goes (λ _. (g, h))
+      (λ _. goes (Messages.called at n q k (Parts.end_vacuum (Parts.opened at o))) _ (like_called at asks ne n q k o home) (on_call_holds rules ps at.lmaster at.me nodes frames r n q k g (out_of at asks o) home came kept h)))
+  arrive_holds n (msg.Recall db key least node q k) g o real waits apart sent came kept h = from_goes n o _ (g, h) (λ home. cond_both (Messages.is_misplaced at k || (nat_eq at.me at.lmaster && is_none o.state.entry)) _ _ Goes (λ _. (g, h))
+      (λ _. goes (Messages.recalled at (record { least = least; node = node; request = q; kind = k }) o) _ (like_recalled at asks ne (record { least = least; node = node; request = q; kind = k }) o (record { even = h.good.mine.even; waits = waits })) (on_recall_holds rules ps at.lmaster at.me nodes frames r (record { least = least; node = node; request = q; kind = k }) g (out_of at asks o) (recalled n at.me least node q k g sent) h)))
+  arrive_holds n (msg.Give db key rsn value) g o real waits apart sent came kept h = home_goes o _ (g, h) (λ home. goes (Messages.on_give_of at n rsn value o o.state.entry) _ (like_on_give_of at asks ne n rsn value o o.state.entry home) (on_give_holds rules ps at.lmaster at.me nodes frames r n rsn value g (out_of at asks o) o.state.entry refl home came kept h))
+  arrive_holds n (msg.Pass db key q rsn value) g o real waits apart sent came kept h = from_goes n o _ (g, h) (λ _. goes (Messages.on_pass at rules q rsn value o) _ (like_on_pass at asks ne rules q rsn value o (record { even = h.good.mine.even; waits = waits })) (on_pass_holds rules ps at.lmaster at.me nodes frames r q rsn value g (out_of at asks o) (came.0 refl) kept h))
+  arrive_holds n (msg.Refuse db key q rsn) g o real waits apart sent came kept h = home_goes o _ (g, h) (λ home. goes (Messages.on_refuse_of at n q rsn o o.state.entry) _ (like_on_refuse_of at asks ne n q rsn o o.state.entry home) (on_refuse_holds rules ps at.lmaster at.me nodes frames r n q rsn g (out_of at asks o) o.state.entry refl home came kept h))
+  arrive_holds n (msg.Grant db key q rsn value) g o real waits apart sent came kept h = goes (Messages.on_grant at n q rsn value o) _ (like_on_grant at asks ne n q rsn value o (came.0 refl).apart real (record { even = h.good.mine.even; waits = waits })) (on_grant_holds rules ps at.lmaster at.me nodes frames r n q rsn value g (out_of at asks o) sent came.0 h)
+  arrive_holds n (msg.Done db key node q) g o real waits apart sent came kept h = home_goes o _ (g, h) (λ home. goes (Messages.on_done_of at node q o o.state.queue) _ (like_on_done_of at asks ne node q o o.state.queue) (on_done_holds rules ps at.lmaster at.me nodes frames r node q g (out_of at asks o) o.state.queue refl home h))
+  arrive_holds n (msg.Revoke db key rsn) g o real waits apart sent came kept h = goes (Messages.on_revoke_of at n rsn o o.state.wish) _ (like_on_revoke_of at asks ne n rsn o o.state.wish h.good.mine.even) (on_revoke_holds rules ps at.lmaster at.me nodes frames r n rsn g (out_of at asks o) (wish_of at.readonly o.state.wish) refl came.0 h)
+  arrive_holds n (msg.RevokeAck db key rsn) g o real waits apart sent came kept h = goes (Messages.on_revokeack at rules n rsn o) _ (like_on_revokeack at asks ne rules n rsn o (λ v is. mastered_like at.me o.state.copy h.good.mine.even ∙ (h.good.mine.runs v is).0) (record { even = h.good.mine.even; waits = waits }))
       (on_ack_holds rules ps at.lmaster at.me nodes frames r n rsn g (out_of at asks o) o.state.tracking.revoking refl came h)
-  arrive_holds n (msg.VStore db key rsn) g o real waits apart sent came kept h = from_goes n o _ (g, h) (λ _. goes (Frames.on_vstore at n rsn o) _ (like_on_vstore at asks ne n rsn o came.0.apart real h.good.mine.even) (on_vstore_holds rules ps at.lmaster at.me nodes frames r n rsn g (out_of at asks o) came.0 h))
-  arrive_holds n (msg.VStored db key rsn) g o real waits apart sent came kept h = home_goes o _ (g, h) (λ home. goes (Frames.on_vstored_of at n rsn o o.state.vacuum) _ (like_on_vstored_of at asks ne n rsn o o.state.vacuum) (on_vstored_holds rules ps at.lmaster at.me nodes frames r n rsn g (out_of at asks o) o.state.vacuum refl home (apart home) came h))
-  arrive_holds n (msg.VDelete db key rsn) g o real waits apart sent came kept h = from_goes n o _ (g, h) (λ _. goes (Frames.on_vdelete at n rsn o) _ (like_on_vdelete at asks ne n rsn o h.good.mine.even) (on_vdelete_holds rules ps at.lmaster at.me nodes frames r n rsn g (out_of at asks o) came.0 h))
-  arrive_holds n (msg.VDeleted db key rsn) g o real waits apart sent came kept h = home_goes o _ (g, h) (λ home. goes (Frames.on_vdeleted_of n rsn o o.state.vacuum) _ (like_on_vdeleted_of at asks ne n rsn o o.state.vacuum) (on_vdeleted_holds rules ps at.lmaster at.me nodes frames r n rsn g (out_of at asks o) o.state.vacuum refl home came h))
+  arrive_holds n (msg.VStore db key rsn) g o real waits apart sent came kept h = from_goes n o _ (g, h) (λ _. goes (Messages.on_vstore at n rsn o) _ (like_on_vstore at asks ne n rsn o came.0.apart real h.good.mine.even) (on_vstore_holds rules ps at.lmaster at.me nodes frames r n rsn g (out_of at asks o) came.0 h))
+  arrive_holds n (msg.VStored db key rsn) g o real waits apart sent came kept h = home_goes o _ (g, h) (λ home. goes (Messages.on_vstored_of at n rsn o o.state.vacuum) _ (like_on_vstored_of at asks ne n rsn o o.state.vacuum) (on_vstored_holds rules ps at.lmaster at.me nodes frames r n rsn g (out_of at asks o) o.state.vacuum refl home (apart home) came h))
+  arrive_holds n (msg.VDelete db key rsn) g o real waits apart sent came kept h = from_goes n o _ (g, h) (λ _. goes (Messages.on_vdelete at n rsn o) _ (like_on_vdelete at asks ne n rsn o h.good.mine.even) (on_vdelete_holds rules ps at.lmaster at.me nodes frames r n rsn g (out_of at asks o) came.0 h))
+  arrive_holds n (msg.VDeleted db key rsn) g o real waits apart sent came kept h = home_goes o _ (g, h) (λ home. goes (Messages.on_vdeleted_of n rsn o o.state.vacuum) _ (like_on_vdeleted_of at asks ne n rsn o o.state.vacuum) (on_vdeleted_holds rules ps at.lmaster at.me nodes frames r n rsn g (out_of at asks o) o.state.vacuum refl home came h))
   arrive_holds n _ g o real waits apart sent came kept h = (g, h)
 
   -- the client calls
@@ -156,9 +156,9 @@ module _ (at : Place) (asks : ℕ → Option ClientOp) (ne : at.me ≢ nobody) (
       (node_holds rules ps at.lmaster at.me nodes frames r (record (out_of at asks o).node { wish = None }) g (out_of at asks o) refl h (NodeInv-nowish g at.me (out_of at asks o).node h.good.mine) h.good.master)
 
   -- other records raise the numbers
-  pub rises_holds : (next floor : ℕ) (g : Ghost) (o : Moving) → Stands g o → Goes (record o { next = Frames.greater o.next next; floor = Frames.greater o.floor floor })
+  pub rises_holds : (next floor : ℕ) (g : Ghost) (o : Moving) → Stands g o → Goes (record o { next = Messages.greater o.next next; floor = Messages.greater o.floor floor })
   unfolding Rule.raise_floor Rule.with_node
   rises_holds next floor g o h =
-      let node : Node = record (out_of at asks o).node { next = Frames.greater o.next next } in
-      let k = node_holds rules ps at.lmaster at.me nodes frames r node g (out_of at asks o) refl h (NodeInv-drawn g at.me (out_of at asks o).node (Frames.greater o.next next) (greater_up o.next next) h.good.mine) h.good.master in
-      goes (record o { next = Frames.greater o.next next; floor = Frames.greater o.floor floor }) _ (λ i. record (out_of at asks o) { node = record node { floor = greater_like o.floor floor i } }) (raise_floor_holds rules ps at.lmaster at.me nodes frames r floor g (Rule.with_node node (out_of at asks o)) k)
+      let node : Node = record (out_of at asks o).node { next = Messages.greater o.next next } in
+      let k = node_holds rules ps at.lmaster at.me nodes frames r node g (out_of at asks o) refl h (NodeInv-drawn g at.me (out_of at asks o).node (Messages.greater o.next next) (greater_up o.next next) h.good.mine) h.good.master in
+      goes (record o { next = Messages.greater o.next next; floor = Messages.greater o.floor floor }) _ (λ i. record (out_of at asks o) { node = record node { floor = greater_like o.floor floor i } }) (raise_floor_holds rules ps at.lmaster at.me nodes frames r floor g (Rule.with_node node (out_of at asks o)) k)

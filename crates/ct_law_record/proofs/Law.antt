@@ -5,7 +5,7 @@ use Rattle.ct_rules.specs.State
 use Rattle.ct_rules.specs.State.{nobody, for_reading}
 use Rattle.ct_rules.specs.declared.state.Wish.{Wish}
 use Rattle.ct_law_fact.proofs.Rule
-use Rattle.ct_law_like.proofs.Likeness.{copy_of, wish_of, mastered_like, for_reading_like, frames_of}
+use Rattle.ct_law_like.proofs.SeenNode.{copy_of, wish_of, mastered_like, for_reading_like, frames_of}
 use Rattle.ct_register.specs.Register.{Register, reading, newborn}
 use Rattle.ct_law_fact.proofs.Invariant.{Sent, Ghost, GlobalInv, default_entry, Asked, Waits, Emptied, readers_of, is_revoking}
 use Rattle.ct_law_world.specs.World.{Scene, World, Event, peers, last, HasCopy, Stands, StandsFor, NothingIsLost, Parent, LeadsTo, OpensAsOneRegister, bare, AreDrawn, BeginsAsOneRegister}

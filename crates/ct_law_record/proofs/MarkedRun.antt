@@ -10,7 +10,7 @@ use Rattle.ct_law_world.specs.Labels.{AcceptsAll}
 use Rattle.ct_law_world.specs.Marked.{is_removed, MarksHold}
 use Rattle.ct_law_world.specs.World.{Scene, World, Event, HasCopy, happens, trace, last}
 use Rattle.ct_law_fact.proofs.Rule
-use Rattle.ct_law_like.proofs.Likeness.{copy_of}
+use Rattle.ct_law_like.proofs.SeenNode.{copy_of}
 use Rattle.ct_law_fact.proofs.Invariant.{Ghost, Span, span_of, Past, Marking}
 use Rattle.ct_law_change.proofs.Markings.{mark_within, RunsOn}
 use Rattle.ct_law_record.proofs.MarkLists.{dense, marks_in, dense_rises, dense_below, dense_ends, dense_has, dense_low, dense_high, none_in, marks_go, marks_grow, marks_from}

@@ -13,11 +13,11 @@ use Rattle.ct_rules.specs.declared.event.Act.TheVariants as act
 use Rattle.ct_law_world.specs.Labels.{Label, AcceptsAll}
 use Rattle.ct_law_world.specs.World.{Mail, told, sent, own_call, waiting_call, may_want, View, starts, sends, Scene, World, Event, Wants, Stores, Unlocks, Releases, Comes, Vacuums, Resends, Thaws, Ends, Leaves, Joins, Rises, place, peers, Stepped, view_of, steps, joins, unlocked, put, comes, happens, trace, last}
 use Rattle.ct_law_world.specs.Labels as label
-use Rattle.ct_law_event.proofs.Leaving.{end_holds, leave_holds}
+use Rattle.ct_law_event.proofs.LocksEnd.{end_holds, leave_holds}
 use Rattle.ct_law_fact.proofs.Rule
 use Rattle.ct_law_fact.proofs.Rule.{Node, Frame}
-use Rattle.ct_law_like.proofs.Likeness.{copy_of, node_of, out_of, frame_of, frames_of, frames_append}
-use Rattle.ct_rules.specs.Frames
+use Rattle.ct_law_like.proofs.SeenNode.{copy_of, node_of, out_of, frame_of, frames_of, frames_append}
+use Rattle.ct_rules.specs.Messages
 use Rattle.ct_rules.specs.Moves
 use Rattle.ct_rules_node.specs.Rounds
 use Rattle.ct_rules_node.specs.Node.{is_among}
@@ -252,7 +252,7 @@ step_holds s w r g (Thaws n) real h = (let asks = waiting_call (w.nodes n).state
 step_holds s w r g (Ends n) real h = steps_holds s w r n (is_some (w.nodes n).state.locked) _ (unlocked (w.nodes n)) [] g h (λ f x. no_mail n f x) (λ _ joined locked. ends_world s w r n g joined locked h)
 step_holds s w r g (Leaves n) real h = steps_holds s w r n true _ (unlocked (w.nodes n)) [] g h (λ f x. no_mail n f x) (λ _ joined _. leaves_world s w r n g joined h)
 step_holds s w r g (Joins n) real h = joins_holds s w r n g h
-step_holds s w r g (Rises n next floor) real h = (let asks = waiting_call (w.nodes n).state.wish in put_holds s w r n asks g (Moves.begins (w.nodes n).state (Frames.greater (w.nodes n).next next) (Frames.greater (w.nodes n).floor floor)) h (λ member joined. rises_holds (place s n (w.nodes n)) asks (member_real n s.members member real) s.rules (peers s s.lmaster) (nodes_at s w) (frames_of w.mail) (started r g) next floor g (starts (w.nodes n)) (begin_holds s w r n asks g joined h)))
+step_holds s w r g (Rises n next floor) real h = (let asks = waiting_call (w.nodes n).state.wish in put_holds s w r n asks g (Moves.begins (w.nodes n).state (Messages.greater (w.nodes n).next next) (Messages.greater (w.nodes n).floor floor)) h (λ member joined. rises_holds (place s n (w.nodes n)) asks (member_real n s.members member real) s.rules (peers s s.lmaster) (nodes_at s w) (frames_of w.mail) (started r g) next floor g (starts (w.nodes n)) (begin_holds s w r n asks g joined h)))
 
 pub run_holds : (s : Scene) (events : List Event) (w : World) (r : Register) (g : Ghost) → list_all is_node s.members ≡ true → WorldInv s w r g → (t : Register) × (g' : Ghost) × AcceptsAll s.rules r (trace s w events) t × WorldInv s (last s w events) t g' × RunsOn (is_removed (trace s w events)) (span_of g) (span_of g')
 run_holds s [] w r g real h = (r, g, refl, h, runs_none (span_of g))

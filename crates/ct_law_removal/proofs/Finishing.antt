@@ -9,8 +9,8 @@ use Rattle.ct_frame.specs.declared.frame.Msg.{Msg}
 use Rattle.ct_frame.specs.declared.frame.Msg.TheVariants as msg
 use Rattle.ct_msg.specs.declared.client.Answer.{Answer}
 use Rattle.ct_msg.specs.declared.client.ClientOp.{ClientOp}
-use Rattle.ct_rules.specs.Parts.{Moving, acts, send, send_all, reply, keeps, makes, opened, open_of, end_vacuum, give, applies, satisfy, revoke, read_here, delegate, grant, yield_record, drain, drained, satisfy_own, raise, end_revocation, next, next_of, keep, call_for, wait_for_copies, want_of, opened_at_home, want}
-use Rattle.ct_rules.specs.Frames.{pass_again, enqueue, on_call_of, called, on_call, wait, handle, recalled, on_recall, hand_on, on_give_of, on_give, satisfy_wish, becomes, take, refuse, on_pass, on_refuse_of, on_refuse, reads, on_grant, on_done_of, on_done, acknowledge, on_revoke_of, on_revoke, acknowledged, on_revokeack, on_vstore, on_vdelete, finish, on_vstored_of, on_vstored, on_vdeleted_of, on_vdeleted}
+use Rattle.ct_rules.specs.Parts.{Moving, performs, send, send_all, reply, keeps, reaches, opened, open_of, end_vacuum, give, applies, satisfy, revoke, read_here, delegate, grant, yield_record, drain, drained, satisfy_own, raise, end_revocation, next, next_of, keep, call_for, wait_for_copies, want_of, opened_at_home, want}
+use Rattle.ct_rules.specs.Messages.{pass_again, enqueue, on_call_of, called, on_call, wait, handle, recalled, on_recall, hand_on, on_give_of, on_give, satisfy_wish, becomes, accept, refuse, on_pass, on_refuse_of, on_refuse, read_granted, on_grant, on_done_of, on_done, acknowledge, renew, on_revoke_of, on_revoke, acknowledged, on_revokeack, on_vstore, on_vdelete, finish, on_vstored_of, on_vstored, on_vdeleted_of, on_vdeleted}
 use Rattle.ct_rules.specs.declared.event.Place.{Place}
 use Rattle.ct_rules.specs.declared.state.RecallNote.{RecallNote}
 use Rattle.ct_rules.specs.declared.state.Entry.{Entry}
@@ -39,11 +39,11 @@ more_unfinished [] a k h = (k, tt)
 more_unfinished (b ∷ bs) a k h = (h.0, more_unfinished bs a k h.1)
 
 send_unfinished : (n : ℕ) (m : Msg) (o : Moving) → Unfinished o.acts → Unfinished (send n m o).acts
-unfolding send acts IsNoFinish
+unfolding send performs IsNoFinish
 send_unfinished n m o h = more_unfinished o.acts (act.Send n m) tt h
 
 reply_unfinished : (call : ℕ) (a : Answer) (o : Moving) → Unfinished o.acts → Unfinished (reply call a o).acts
-unfolding reply acts IsNoFinish
+unfolding reply performs IsNoFinish
 reply_unfinished call a o h = more_unfinished o.acts (act.Answer call a) tt h
 
 send_all_unfinished : (ns : List ℕ) (m : Msg) (o : Moving) → Unfinished o.acts → Unfinished (send_all ns m o).acts
@@ -52,19 +52,19 @@ send_all_unfinished [] m o h = h
 send_all_unfinished (n ∷ ns) m o h = send_all_unfinished ns m (send n m o) (send_unfinished n m o h)
 
 read_here_unfinished : (at : Place) (request : ℕ) (o : Moving) (w : Option Wish) → Unfinished o.acts → Unfinished (read_here at request o w).acts
-unfolding keeps makes read_here
+unfolding keeps reaches read_here
 read_here_unfinished at request o w h = grind (arith, h, send_unfinished, reply_unfinished)
 
 grant_unfinished : (at : Place) (node request : ℕ) (o : Moving) → Unfinished o.acts → Unfinished (grant at node request o).acts
-unfolding keeps makes grant delegate
+unfolding keeps reaches grant delegate
 grant_unfinished at node request o h = grind (arith, h, send_unfinished, reply_unfinished, read_here_unfinished)
 
 revoke_unfinished : (at : Place) (o : Moving) → Unfinished o.acts → Unfinished (revoke at o).acts
-unfolding keeps makes revoke
+unfolding keeps reaches revoke
 revoke_unfinished at o h = grind (arith, h, send_unfinished, reply_unfinished, send_all_unfinished)
 
 give_unfinished : (at : Place) (o : Moving) → Unfinished o.acts → Unfinished (give at o).acts
-unfolding keeps makes give
+unfolding keeps reaches give
 give_unfinished at o h = grind (arith, h, send_unfinished, reply_unfinished)
 
 yield_unfinished : (at : Place) (o : Moving) → Unfinished o.acts → Unfinished (yield_record at o).acts
@@ -80,36 +80,36 @@ drained_unfinished : (at : Place) (o : Moving) → Unfinished o.acts → Unfinis
 unfolding drained
 drained_unfinished at o h = grind (arith, h, send_unfinished, reply_unfinished, drain_unfinished)
 
-satisfy_unfinished : (at : Place) (rules : Rules) (call : ℕ) (o_p : ClientOp) (o : Moving) → Unfinished o.acts → Unfinished (satisfy rules call o_p o).acts
-unfolding keeps makes satisfy applies
-satisfy_unfinished at rules call o_p o h = grind (arith, h, send_unfinished, reply_unfinished)
+satisfy_unfinished : (at : Place) (rules : Rules) (call : ℕ) (asked : ClientOp) (o : Moving) → Unfinished o.acts → Unfinished (satisfy rules call asked o).acts
+unfolding keeps reaches satisfy applies
+satisfy_unfinished at rules call asked o h = grind (arith, h, send_unfinished, reply_unfinished)
 
 own_unfinished : (at : Place) (rules : Rules) (o : Moving) (w : Option Wish) → Unfinished o.acts → Unfinished (satisfy_own rules o w).acts
-unfolding keeps makes satisfy_own
+unfolding keeps reaches satisfy_own
 own_unfinished at rules o w h = grind (arith, h, send_unfinished, reply_unfinished, satisfy_unfinished)
 
 end_revocation_unfinished : (at : Place) (rules : Rules) (o : Moving) → Unfinished o.acts → Unfinished (end_revocation at rules o).acts
-unfolding keeps makes end_revocation raise
+unfolding keeps reaches end_revocation raise
 end_revocation_unfinished at rules o h = grind (arith, h, send_unfinished, reply_unfinished, own_unfinished, drained_unfinished)
 
 next_unfinished : (at : Place) (o : Moving) → Unfinished o.acts → Unfinished (next at o).acts
-unfolding keeps makes next next_of
+unfolding keeps reaches next next_of
 next_unfinished at o h = grind (arith, h, send_unfinished, reply_unfinished)
 
 keep_unfinished : (at : Place) (rsn : ℕ) (value : List ℕ) (o : Moving) → Unfinished o.acts → Unfinished (keep at rsn value o).acts
-unfolding keeps makes keep
+unfolding keeps reaches keep
 keep_unfinished at rsn value o h = grind (arith, h, send_unfinished, reply_unfinished, next_unfinished)
 
 opened_unfinished : (at : Place) (o : Moving) → Unfinished o.acts → Unfinished (opened at o).acts
-unfolding keeps makes opened open_of end_vacuum
+unfolding keeps reaches opened open_of end_vacuum
 opened_unfinished at o h = grind (arith, h, send_unfinished, reply_unfinished)
 
 enqueue_unfinished : (at : Place) (w : Waiter) (o : Moving) (ws : List Waiter) → Unfinished o.acts → Unfinished (enqueue at w o ws).acts
-unfolding keeps makes enqueue
+unfolding keeps reaches enqueue
 enqueue_unfinished at w o ws h = grind (arith, h, send_unfinished, reply_unfinished, next_unfinished)
 
 pass_again_unfinished : (at : Place) (e : Entry) (o : Moving) → Unfinished o.acts → Unfinished (pass_again at e o).acts
-unfolding keeps makes pass_again
+unfolding keeps reaches pass_again
 pass_again_unfinished at e o h = grind (arith, h, send_unfinished, reply_unfinished)
 
 call_of_unfinished : (at : Place) (n request : ℕ) (k : CallKind) (o : Moving) (e : Option Entry) → Unfinished o.acts → Unfinished (on_call_of at n request k o e).acts
@@ -117,99 +117,99 @@ unfolding on_call_of
 call_of_unfinished at n request k o e h = grind (arith, h, send_unfinished, reply_unfinished, pass_again_unfinished, next_unfinished, enqueue_unfinished)
 
 call_unfinished : (at : Place) (n request : ℕ) (k : CallKind) (o : Moving) → Unfinished o.acts → Unfinished (on_call at n request k o).acts
-unfolding keeps makes on_call called end_vacuum
+unfolding keeps reaches on_call called end_vacuum
 call_unfinished at n request k o h = grind (arith, h, send_unfinished, reply_unfinished, call_of_unfinished, opened_unfinished)
 
 handle_unfinished : (at : Place) (r : RecallNote) (o : Moving) → Unfinished o.acts → Unfinished (handle at r o).acts
-unfolding keeps makes handle end_vacuum
+unfolding keeps reaches handle end_vacuum
 handle_unfinished at r o h = grind (arith, h, send_unfinished, reply_unfinished, grant_unfinished, yield_unfinished)
 
 recall_unfinished : (at : Place) (r : RecallNote) (o : Moving) → Unfinished o.acts → Unfinished (on_recall at r o).acts
-unfolding keeps makes on_recall recalled wait
+unfolding keeps reaches on_recall recalled wait
 recall_unfinished at r o h = grind (arith, h, send_unfinished, reply_unfinished, handle_unfinished)
 
 hand_on_unfinished : (at : Place) (rsn : ℕ) (value : List ℕ) (o : Moving) (ws : List Waiter) → Unfinished o.acts → Unfinished (hand_on at rsn value o ws).acts
-unfolding keeps makes hand_on
+unfolding keeps reaches hand_on
 hand_on_unfinished at rsn value o ws h = grind (arith, h, send_unfinished, reply_unfinished, keep_unfinished, next_unfinished)
 
 on_give_unfinished : (at : Place) (x rsn : ℕ) (value : List ℕ) (o : Moving) → Unfinished o.acts → Unfinished (on_give at x rsn value o).acts
-unfolding keeps makes on_give on_give_of
+unfolding keeps reaches on_give on_give_of
 on_give_unfinished at x rsn value o h = grind (arith, h, send_unfinished, reply_unfinished, hand_on_unfinished)
 
-take_unfinished : (at : Place) (rules : Rules) (rsn : ℕ) (value : List ℕ) (o : Moving) → Unfinished o.acts → Unfinished (take at rules rsn value o).acts
-unfolding keeps makes take becomes satisfy_wish
+take_unfinished : (at : Place) (rules : Rules) (rsn : ℕ) (value : List ℕ) (o : Moving) → Unfinished o.acts → Unfinished (accept at rules rsn value o).acts
+unfolding keeps reaches accept becomes satisfy_wish
 take_unfinished at rules rsn value o h = grind (arith, h, send_unfinished, reply_unfinished, satisfy_unfinished, drained_unfinished)
 
 pass_unfinished : (at : Place) (rules : Rules) (request rsn : ℕ) (value : List ℕ) (o : Moving) → Unfinished o.acts → Unfinished (on_pass at rules request rsn value o).acts
-unfolding keeps makes on_pass refuse
+unfolding keeps reaches on_pass refuse
 pass_unfinished at rules request rsn value o h = grind (arith, h, send_unfinished, reply_unfinished, take_unfinished)
 
 on_refuse_unfinished : (at : Place) (n request rsn : ℕ) (o : Moving) → Unfinished o.acts → Unfinished (on_refuse at n request rsn o).acts
-unfolding keeps makes on_refuse on_refuse_of
+unfolding keeps reaches on_refuse on_refuse_of
 on_refuse_unfinished at n request rsn o h = grind (arith, h, send_unfinished, reply_unfinished, keep_unfinished)
 
 on_grant_unfinished : (at : Place) (n request rsn : ℕ) (value : List ℕ) (o : Moving) → Unfinished o.acts → Unfinished (on_grant at n request rsn value o).acts
-unfolding keeps makes on_grant reads
+unfolding keeps reaches on_grant read_granted
 on_grant_unfinished at n request rsn value o h = grind (arith, h, send_unfinished, reply_unfinished)
 
 on_done_unfinished : (at : Place) (n request : ℕ) (o : Moving) → Unfinished o.acts → Unfinished (on_done at n request o).acts
-unfolding keeps makes on_done on_done_of
+unfolding keeps reaches on_done on_done_of
 on_done_unfinished at n request o h = grind (arith, h, send_unfinished, reply_unfinished, next_unfinished)
 
 on_revoke_unfinished : (at : Place) (n rsn : ℕ) (o : Moving) → Unfinished o.acts → Unfinished (on_revoke at n rsn o).acts
-unfolding keeps makes on_revoke on_revoke_of acknowledge
+unfolding keeps reaches on_revoke renew on_revoke_of acknowledge
 on_revoke_unfinished at n rsn o h = grind (arith, h, send_unfinished, reply_unfinished)
 
 on_revokeack_unfinished : (at : Place) (rules : Rules) (n rsn : ℕ) (o : Moving) → Unfinished o.acts → Unfinished (on_revokeack at rules n rsn o).acts
-unfolding keeps makes on_revokeack acknowledged
+unfolding keeps reaches on_revokeack acknowledged
 on_revokeack_unfinished at rules n rsn o h = grind (arith, h, send_unfinished, reply_unfinished, end_revocation_unfinished)
 
 on_vstore_unfinished : (at : Place) (n rsn : ℕ) (o : Moving) → Unfinished o.acts → Unfinished (on_vstore at n rsn o).acts
-unfolding keeps makes on_vstore
+unfolding keeps reaches on_vstore
 on_vstore_unfinished at n rsn o h = grind (arith, h, send_unfinished, reply_unfinished)
 
 on_vdelete_unfinished : (at : Place) (n rsn : ℕ) (o : Moving) → Unfinished o.acts → Unfinished (on_vdelete at n rsn o).acts
-unfolding keeps makes on_vdelete
+unfolding keeps reaches on_vdelete
 on_vdelete_unfinished at n rsn o h = grind (arith, h, send_unfinished, reply_unfinished)
 
 on_vstored_unfinished : (at : Place) (n rsn : ℕ) (o : Moving) → Unfinished o.acts → Unfinished (on_vstored at n rsn o).acts
-unfolding keeps makes on_vstored on_vstored_of
+unfolding keeps reaches on_vstored on_vstored_of
 on_vstored_unfinished at n rsn o h = grind (arith, h, send_unfinished, reply_unfinished, send_all_unfinished)
 
-call_for_unfinished : (at : Place) (call : ℕ) (o_p : ClientOp) (o : Moving) → Unfinished o.acts → Unfinished (call_for at call o_p o).acts
-unfolding keeps makes call_for
-call_for_unfinished at call o_p o h = grind (arith, h, send_unfinished, reply_unfinished)
+call_for_unfinished : (at : Place) (call : ℕ) (asked : ClientOp) (o : Moving) → Unfinished o.acts → Unfinished (call_for at call asked o).acts
+unfolding keeps reaches call_for
+call_for_unfinished at call asked o h = grind (arith, h, send_unfinished, reply_unfinished)
 
-wait_unfinished : (at : Place) (call : ℕ) (o_p : ClientOp) (o : Moving) → Unfinished o.acts → Unfinished (wait_for_copies at call o_p o).acts
-unfolding keeps makes wait_for_copies
-wait_unfinished at call o_p o h = grind (arith, h, send_unfinished, reply_unfinished, revoke_unfinished)
+wait_unfinished : (at : Place) (call : ℕ) (asked : ClientOp) (o : Moving) → Unfinished o.acts → Unfinished (wait_for_copies at call asked o).acts
+unfolding keeps reaches wait_for_copies
+wait_unfinished at call asked o h = grind (arith, h, send_unfinished, reply_unfinished, revoke_unfinished)
 
-want_of_unfinished : (at : Place) (rules : Rules) (call : ℕ) (o_p : ClientOp) (o : Moving) → Unfinished o.acts → Unfinished (want_of at rules call o_p o).acts
-unfolding keeps makes want_of
-want_of_unfinished at rules call o_p o h = grind (arith, h, send_unfinished, reply_unfinished, satisfy_unfinished, wait_unfinished, call_for_unfinished)
+want_of_unfinished : (at : Place) (rules : Rules) (call : ℕ) (asked : ClientOp) (o : Moving) → Unfinished o.acts → Unfinished (want_of at rules call asked o).acts
+unfolding keeps reaches want_of
+want_of_unfinished at rules call asked o h = grind (arith, h, send_unfinished, reply_unfinished, satisfy_unfinished, wait_unfinished, call_for_unfinished)
 
-pub want_unfinished : (at : Place) (rules : Rules) (call : ℕ) (o_p : ClientOp) (o : Moving) → Unfinished o.acts → Unfinished (want at rules call o_p o).acts
-unfolding keeps makes want opened_at_home end_vacuum
-want_unfinished at rules call o_p o h = grind (arith, h, send_unfinished, reply_unfinished, want_of_unfinished, opened_unfinished)
+pub want_unfinished : (at : Place) (rules : Rules) (call : ℕ) (asked : ClientOp) (o : Moving) → Unfinished o.acts → Unfinished (want at rules call asked o).acts
+unfolding keeps reaches want opened_at_home end_vacuum
+want_unfinished at rules call asked o h = grind (arith, h, send_unfinished, reply_unfinished, want_of_unfinished, opened_unfinished)
 
 pub store_unfinished : (at : Place) (call : ℕ) (v : List ℕ) (o : Moving) → Unfinished o.acts → Unfinished (store call v o).acts
-unfolding keeps makes store
+unfolding keeps reaches store
 store_unfinished at call v o h = grind (arith, h, send_unfinished, reply_unfinished)
 
 pub release_unfinished : (at : Place) (call : ℕ) (o : Moving) → Unfinished o.acts → Unfinished (release call o).acts
-unfolding keeps makes release
+unfolding keeps reaches release
 release_unfinished at call o h = grind (arith, h, send_unfinished, reply_unfinished)
 
 pub unlock_unfinished : (at : Place) (call : ℕ) (o : Moving) → Unfinished o.acts → Unfinished (unlock at call o).acts
-unfolding keeps makes unlock
+unfolding keeps reaches unlock
 unlock_unfinished at call o h = grind (arith, h, send_unfinished, reply_unfinished, drained_unfinished, release_unfinished)
 
 pub call_again_unfinished : (at : Place) (o : Moving) → Unfinished o.acts → Unfinished (call_again at o).acts
-unfolding keeps makes call_again call_again_of
+unfolding keeps reaches call_again call_again_of
 call_again_unfinished at o h = grind (arith, h, send_unfinished, reply_unfinished)
 
 pub revoke_again_unfinished : (at : Place) (o : Moving) → Unfinished o.acts → Unfinished (revoke_again at o).acts
-unfolding keeps makes revoke_again revoke_again_of
+unfolding keeps reaches revoke_again revoke_again_of
 revoke_again_unfinished at o h = grind (arith, h, send_unfinished, reply_unfinished, send_all_unfinished)
 
 want_again_of_unfinished : (at : Place) (rules : Rules) (o : Moving) (w : Option Wish) → Unfinished o.acts → Unfinished (want_again_of at rules o w).acts
@@ -236,11 +236,11 @@ abbrev pub Finishes : Place → Moving → Type 0
 Finishes at p = Unfinished p.acts ⊎ (at.me ≡ at.lmaster) × (p.state.entry ≡ None)
 
 finish_finishes : (at : Place) (rsn : ℕ) (o : Moving) → at.me ≡ at.lmaster → Finishes at (finish rsn o)
-unfolding finish acts makes
+unfolding finish performs reaches
 finish_finishes at rsn o e = inr (e, refl)
 
 begin_finishes : (at : Place) (o : Moving) (ns : List ℕ) → at.me ≡ at.lmaster → Unfinished o.acts → Finishes at (begin_vacuum at o ns)
-unfolding begin_vacuum keeps makes
+unfolding begin_vacuum keeps reaches
 begin_finishes at o [] e h = finish_finishes at _ o e
 begin_finishes at o (n ∷ ns) e h = inl (send_all_unfinished (n ∷ ns) _ _ h)
 

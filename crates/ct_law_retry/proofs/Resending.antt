@@ -20,7 +20,7 @@ use Rattle.ct_rules_node.specs.Retries.{call_all, revoke_all, revoke_in}
 use Rattle.ct_rules_node.specs.Laws.{AllAscend, is_called_at}
 use Rattle.ct_rules_node.proofs.Keys.{below_unseen}
 use Rattle.ct_rules_node.proofs.Installed.{same_number}
-use Rattle.ct_rules_node.proofs.Told.{another_db}
+use Rattle.ct_rules_node.proofs.Tables.{another_db}
 use Rattle.ct_law_world.specs.World.{Mail}
 use Rattle.ct_law_retry.proofs.Retried.{at_all, times, AllInside}
 use Rattle.std.specs.Prelude.{nat_eq}

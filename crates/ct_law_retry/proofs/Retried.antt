@@ -5,7 +5,7 @@ use Rattle.ct_frame.specs.declared.frame.Msg.{Msg}
 use Rattle.ct_frame.specs.declared.frame.Msg.TheVariants as msg
 use Rattle.ct_msg.specs.declared.client.ClientOp.{ClientOp}
 use Rattle.ct_rules.specs.State.{kind_of}
-use Rattle.ct_rules.specs.Parts.{Moving, acts, send, send_all}
+use Rattle.ct_rules.specs.Parts.{Moving, performs, send, send_all}
 use Rattle.ct_rules.specs.Moves.{call_again_of, call_again, revoke_again_of, revoke_again}
 use Rattle.ct_rules.specs.declared.event.Act.{Act}
 use Rattle.ct_rules.specs.declared.event.Act.TheVariants as act
@@ -70,7 +70,7 @@ all_sent [] m = []
 all_sent (n ∷ ns) m = act.Send n m ∷ all_sent ns m
 
 send_all_is : (ns : List ℕ) (m : Msg) (o : Moving) → send_all ns m o ≡ more (all_sent ns m) o
-unfolding send_all send acts all_sent
+unfolding send_all send performs all_sent
 send_all_is [] m o = ap (λ (l : List Act). record o { acts = l }) (sym (no_more o.acts))
 send_all_is (n ∷ ns) m o = send_all_is ns m (send n m o) ∙ ap (λ (l : List Act). record o { acts = l }) (append_assoc o.acts (act.Send n m ∷ []) (all_sent ns m))
 
@@ -85,7 +85,7 @@ revokes_sent at None = []
 revokes_sent at (Some r) = all_sent r.missing (msg.Revoke at.db at.key r.rsn)
 
 call_of_is : (at : Place) (o : Moving) (w : Option Wish) → call_again_of at o w ≡ more (calls_sent at w) o
-unfolding call_again_of calls_sent send acts
+unfolding call_again_of calls_sent send performs
 call_of_is at o None = ap (λ (l : List Act). record o { acts = l }) (sym (no_more o.acts))
 call_of_is at o (Some w) = elim (nat_eq w.request 0) as (λ b. cond b o (send at.lmaster (msg.Call at.db at.key w.request (kind_of at.readonly w.op)) o) ≡ more (cond b [] (act.Send at.lmaster (msg.Call at.db at.key w.request (kind_of at.readonly w.op)) ∷ [])) o) [
   | true ↦ ap (λ (l : List Act). record o { acts = l }) (sym (no_more o.acts))

@@ -80,12 +80,10 @@ wish_cleared s n v h = record {
       vacuum_limit = h.form.numbers.vacuum_limit;
       wish_limit = omega arith;
     };
+    counters = h.form.counters;
   };
   tracks = h.tracks;
   waits = h.waits;
-  from_one = h.from_one;
-  next_limit = h.next_limit;
-  floor_limit = h.floor_limit;
 }
 
 unlocked_where : (a : Option ℕ) (w : Option Wish) (x : Wish) → w ≡ Some x → (is_none a ≡ false → is_none w ≡ true) → a ≡ None
@@ -94,7 +92,7 @@ unlocked_where (Some l) None x e f = absurd (cc)
 unlocked_where (Some l) (Some w) x e f = absurd (let k = f refl in cc)
 
 -- the call of the wish may come to it
-wish_comes : (s : Scene) (n : ℕ) (v : View) (w : Wish) → v.state.wish ≡ Some w → Is_formed s n v → MayCome (place s n (unwished v)) (unwished v).state (event.Want w.call w.op)
+wish_comes : (s : Scene) (n : ℕ) (v : View) (w : Wish) → v.state.wish ≡ Some w → Is_formed s n v → MayCome (unwished v).state (event.Want w.call w.op)
 unfolding wants_record
 wish_comes s n v w e h = (subst (λ (x : Option Wish). wants_record x ≡ true) e h.form.shape.wish_wants, refl, λ not_read. unlocked_where v.state.locked v.state.wish w e h.form.shape.lock_unwished)
 

@@ -7,7 +7,7 @@ use Rattle.ct_msg.specs.declared.config.Config.{Config}
 use Rattle.ct_frame.specs.declared.event.Out.{Out}
 use Rattle.ct_call.specs.Rules.{Rules}
 use Rattle.ct_store.specs.Map.{look}
-use Rattle.ct_rules.specs.Frames.{greater}
+use Rattle.ct_rules.specs.Messages.{greater}
 use Rattle.ct_rules.specs.Laws.{Grows}
 use Rattle.ct_rules.specs.Moves.{begins}
 use Rattle.ct_rules.specs.Parts.{Moving}

@@ -6,8 +6,8 @@ use Rattle.ct_frame.specs.declared.frame.Msg.{Msg}
 use Rattle.ct_frame.specs.declared.frame.Msg.TheVariants as msg
 use Rattle.ct_msg.specs.declared.client.ClientOp.{ClientOp}
 use Rattle.ct_rules.specs.State.{is_read_kind, kind_of}
-use Rattle.ct_rules.specs.Parts.{Moving, acts, send, send_all, reply, keeps, makes, opened, open_of, end_vacuum, give, applies, satisfy, revoke, read_here, delegate, grant, yield_record, drain, drained, satisfy_own, raise, end_revocation, next, next_of, keep, call_for, wait_for_copies, want_of, opened_at_home, want}
-use Rattle.ct_rules.specs.Frames.{pass_again, enqueue, on_call_of, called, on_call, wait, handle, recalled, on_recall, hand_on, on_give_of, on_give, satisfy_wish, becomes, take, refuse, on_pass, on_refuse_of, on_refuse, reads, on_grant, on_done_of, on_done, acknowledge, on_revoke_of, on_revoke, acknowledged, on_revokeack, on_vstore, on_vdelete, finish, on_vstored_of, on_vstored, on_vdeleted_of, on_vdeleted}
+use Rattle.ct_rules.specs.Parts.{Moving, performs, send, send_all, reply, keeps, reaches, opened, open_of, end_vacuum, give, applies, satisfy, revoke, read_here, delegate, grant, yield_record, drain, drained, satisfy_own, raise, end_revocation, next, next_of, keep, call_for, wait_for_copies, want_of, opened_at_home, want}
+use Rattle.ct_rules.specs.Messages.{pass_again, enqueue, on_call_of, called, on_call, wait, handle, recalled, on_recall, hand_on, on_give_of, on_give, satisfy_wish, becomes, accept, refuse, on_pass, on_refuse_of, on_refuse, read_granted, on_grant, on_done_of, on_done, acknowledge, renew, on_revoke_of, on_revoke, acknowledged, on_revokeack, on_vstore, on_vdelete, finish, on_vstored_of, on_vstored, on_vdeleted_of, on_vdeleted}
 use Rattle.ct_rules.specs.declared.event.Place.{Place}
 use Rattle.ct_rules.specs.declared.state.RecallNote.{RecallNote}
 use Rattle.ct_rules.specs.declared.state.Entry.{Entry}
@@ -27,7 +27,7 @@ all_wishful P None h = tt
 all_wishful P (Some w) h = h w.call w.op
 
 pub send_all_same : (ns : List ℕ) (m : Msg) (o : Moving) → (send_all ns m o).state ≡ o.state
-unfolding send_all send acts
+unfolding send_all send performs
 send_all_same [] m o = refl
 send_all_same (n ∷ ns) m o = send_all_same ns m (send n m o)
 
@@ -35,11 +35,11 @@ pub send_all_wish : (P : ℕ → ClientOp → Type 0) (ns : List ℕ) (m : Msg) 
 send_all_wish P ns m o h = rw (send_all_same ns m o) h
 
 pub read_here_wish : (P : ℕ → ClientOp → Type 0) (at : Place) (request : ℕ) (o : Moving) (w : Option Wish) → Wishful P o.state.wish → Wishful P (read_here at request o w).state.wish
-unfolding send acts reply keeps makes Wishful read_here
+unfolding send performs reply keeps reaches Wishful read_here
 read_here_wish P at request o w h = grind (arith, h)
 
 pub grant_wish : (P : ℕ → ClientOp → Type 0) (at : Place) (node request : ℕ) (o : Moving) → Wishful P o.state.wish → Wishful P (grant at node request o).state.wish
-unfolding send acts keeps grant delegate
+unfolding send performs keeps grant delegate
 grant_wish P at node request o h = grind (arith, h, read_here_wish P)
 
 revoke_wish : (P : ℕ → ClientOp → Type 0) (at : Place) (o : Moving) → Wishful P o.state.wish → Wishful P (revoke at o).state.wish
@@ -47,7 +47,7 @@ unfolding keeps revoke
 revoke_wish P at o h = grind (arith, h, send_all_wish P)
 
 give_wish : (P : ℕ → ClientOp → Type 0) (at : Place) (o : Moving) → Wishful P o.state.wish → Wishful P (give at o).state.wish
-unfolding send acts keeps give
+unfolding send performs keeps give
 give_wish P at o h = grind (arith, h)
 
 yield_wish : (P : ℕ → ClientOp → Type 0) (at : Place) (o : Moving) → Wishful P o.state.wish → Wishful P (yield_record at o).state.wish
@@ -63,24 +63,24 @@ pub drained_wish : (P : ℕ → ClientOp → Type 0) (at : Place) (o : Moving) �
 unfolding drained
 drained_wish P at o h = grind (arith, h, drain_wish P)
 
-pub satisfied_wish : (P : ℕ → ClientOp → Type 0) (rules : Rules) (call : ℕ) (o_p : ClientOp) (o : Moving) → Wishful P o.state.wish → Wishful P (satisfy rules call o_p o).state.wish
-unfolding acts reply keeps satisfy applies
-satisfied_wish P rules call o_p o h = grind (arith, h)
+pub satisfied_wish : (P : ℕ → ClientOp → Type 0) (rules : Rules) (call : ℕ) (asked : ClientOp) (o : Moving) → Wishful P o.state.wish → Wishful P (satisfy rules call asked o).state.wish
+unfolding performs reply keeps satisfy applies
+satisfied_wish P rules call asked o h = grind (arith, h)
 
 pub own_wish : (P : ℕ → ClientOp → Type 0) (rules : Rules) (o : Moving) (w : Option Wish) → Wishful P o.state.wish → Wishful P (satisfy_own rules o w).state.wish
 unfolding keeps satisfy_own Wishful
 own_wish P rules o w h = grind (arith, h, satisfied_wish P)
 
 pub end_revocation_wish : (P : ℕ → ClientOp → Type 0) (at : Place) (rules : Rules) (o : Moving) → Wishful P o.state.wish → Wishful P (end_revocation at rules o).state.wish
-unfolding keeps makes end_revocation raise
+unfolding keeps reaches end_revocation raise
 end_revocation_wish P at rules o h = grind (arith, h, own_wish P, drained_wish P)
 
 next_wish : (P : ℕ → ClientOp → Type 0) (at : Place) (o : Moving) → Wishful P o.state.wish → Wishful P (next at o).state.wish
-unfolding send acts next next_of
+unfolding send performs next next_of
 next_wish P at o h = grind (arith, h)
 
 keep_wish : (P : ℕ → ClientOp → Type 0) (at : Place) (rsn : ℕ) (value : List ℕ) (o : Moving) → Wishful P o.state.wish → Wishful P (keep at rsn value o).state.wish
-unfolding keeps makes keep
+unfolding keeps reaches keep
 keep_wish P at rsn value o h = grind (arith, h, next_wish P)
 
 opened_wish : (P : ℕ → ClientOp → Type 0) (at : Place) (o : Moving) → Wishful P o.state.wish → Wishful P (opened at o).state.wish
@@ -92,7 +92,7 @@ unfolding keeps enqueue
 enqueue_wish P at w o ws h = grind (arith, h, next_wish P)
 
 pass_again_wish : (P : ℕ → ClientOp → Type 0) (at : Place) (e : Entry) (o : Moving) → Wishful P o.state.wish → Wishful P (pass_again at e o).state.wish
-unfolding send acts pass_again
+unfolding send performs pass_again
 pass_again_wish P at e o h = grind (arith, h)
 
 call_of_wish : (P : ℕ → ClientOp → Type 0) (at : Place) (n request : ℕ) (k : CallKind) (o : Moving) (e : Option Entry) → Wishful P o.state.wish → Wishful P (on_call_of at n request k o e).state.wish
@@ -108,23 +108,23 @@ unfolding keeps handle end_vacuum
 handle_wish P at r o h = grind (arith, h, grant_wish P, yield_wish P)
 
 recall_wish : (P : ℕ → ClientOp → Type 0) (at : Place) (r : RecallNote) (o : Moving) → Wishful P o.state.wish → Wishful P (on_recall at r o).state.wish
-unfolding send acts keeps on_recall recalled wait
+unfolding send performs keeps on_recall recalled wait
 recall_wish P at r o h = grind (arith, h, handle_wish P)
 
 hand_on_wish : (P : ℕ → ClientOp → Type 0) (at : Place) (rsn : ℕ) (value : List ℕ) (o : Moving) (ws : List Waiter) → Wishful P o.state.wish → Wishful P (hand_on at rsn value o ws).state.wish
-unfolding send acts keeps makes hand_on
+unfolding send performs keeps reaches hand_on
 hand_on_wish P at rsn value o ws h = grind (arith, h, keep_wish P, next_wish P)
 
 on_give_wish : (P : ℕ → ClientOp → Type 0) (at : Place) (x rsn : ℕ) (value : List ℕ) (o : Moving) → Wishful P o.state.wish → Wishful P (on_give at x rsn value o).state.wish
 unfolding on_give on_give_of
 on_give_wish P at x rsn value o h = grind (arith, h, hand_on_wish P)
 
-pub take_wish : (P : ℕ → ClientOp → Type 0) (at : Place) (rules : Rules) (rsn : ℕ) (value : List ℕ) (o : Moving) → Wishful P o.state.wish → Wishful P (take at rules rsn value o).state.wish
-unfolding keeps makes take becomes satisfy_wish Wishful
+pub take_wish : (P : ℕ → ClientOp → Type 0) (at : Place) (rules : Rules) (rsn : ℕ) (value : List ℕ) (o : Moving) → Wishful P o.state.wish → Wishful P (accept at rules rsn value o).state.wish
+unfolding keeps reaches accept becomes satisfy_wish Wishful
 take_wish P at rules rsn value o h = grind (arith, h, satisfied_wish P, drained_wish P)
 
 pass_wish : (P : ℕ → ClientOp → Type 0) (at : Place) (rules : Rules) (request rsn : ℕ) (value : List ℕ) (o : Moving) → Wishful P o.state.wish → Wishful P (on_pass at rules request rsn value o).state.wish
-unfolding send acts keeps on_pass refuse
+unfolding send performs keeps on_pass refuse
 pass_wish P at rules request rsn value o h = grind (arith, h, take_wish P)
 
 on_refuse_wish : (P : ℕ → ClientOp → Type 0) (at : Place) (n request rsn : ℕ) (o : Moving) → Wishful P o.state.wish → Wishful P (on_refuse at n request rsn o).state.wish
@@ -132,7 +132,7 @@ unfolding on_refuse on_refuse_of
 on_refuse_wish P at n request rsn o h = grind (arith, h, keep_wish P)
 
 on_grant_wish : (P : ℕ → ClientOp → Type 0) (at : Place) (n request rsn : ℕ) (value : List ℕ) (o : Moving) → Wishful P o.state.wish → Wishful P (on_grant at n request rsn value o).state.wish
-unfolding send acts reply keeps makes Wishful on_grant reads
+unfolding send performs reply keeps reaches Wishful on_grant read_granted
 on_grant_wish P at n request rsn value o h = grind (arith, h)
 
 on_done_wish : (P : ℕ → ClientOp → Type 0) (at : Place) (n request : ℕ) (o : Moving) → Wishful P o.state.wish → Wishful P (on_done at n request o).state.wish
@@ -148,7 +148,7 @@ unfolding Wishful
 asked_anew P w r h = h
 
 on_revoke_of_wish : (P : ℕ → ClientOp → Type 0) (at : Place) (n rsn : ℕ) (o : Moving) (w : Option Wish) → o.state.wish ≡ w → Wishful P w → Wishful P (on_revoke_of at n rsn o w).state.wish
-unfolding send acts keeps makes on_revoke_of acknowledge
+unfolding send performs keeps reaches renew on_revoke_of acknowledge
 on_revoke_of_wish P at n rsn o None e h = subst (λ (x : Option Wish). Wishful P x) (sym e) h
 on_revoke_of_wish P at n rsn o (Some w) e h =
     either_wish P (is_read_kind (kind_of at.readonly w.op)) _ _ (asked_anew P w o.next h) (subst (λ (x : Option Wish). Wishful P x) (sym e) h)
@@ -162,15 +162,15 @@ unfolding keeps on_revokeack acknowledged
 on_revokeack_wish P at rules n rsn o h = grind (arith, h, end_revocation_wish P)
 
 on_vstore_wish : (P : ℕ → ClientOp → Type 0) (at : Place) (n rsn : ℕ) (o : Moving) → Wishful P o.state.wish → Wishful P (on_vstore at n rsn o).state.wish
-unfolding send acts keeps on_vstore
+unfolding send performs keeps on_vstore
 on_vstore_wish P at n rsn o h = grind (arith, h)
 
 on_vdelete_wish : (P : ℕ → ClientOp → Type 0) (at : Place) (n rsn : ℕ) (o : Moving) → Wishful P o.state.wish → Wishful P (on_vdelete at n rsn o).state.wish
-unfolding send acts keeps on_vdelete
+unfolding send performs keeps on_vdelete
 on_vdelete_wish P at n rsn o h = grind (arith, h)
 
 finish_wish : (P : ℕ → ClientOp → Type 0) (rsn : ℕ) (o : Moving) → Wishful P o.state.wish → Wishful P (finish rsn o).state.wish
-unfolding acts makes finish
+unfolding performs reaches finish
 finish_wish P rsn o h = grind (arith, h)
 
 on_vstored_wish : (P : ℕ → ClientOp → Type 0) (at : Place) (n rsn : ℕ) (o : Moving) → Wishful P o.state.wish → Wishful P (on_vstored at n rsn o).state.wish
@@ -181,32 +181,32 @@ on_vdeleted_wish : (P : ℕ → ClientOp → Type 0) (n rsn : ℕ) (o : Moving) 
 unfolding keeps on_vdeleted on_vdeleted_of
 on_vdeleted_wish P n rsn o h = grind (arith, h, finish_wish P)
 
-call_for_wish : (P : ℕ → ClientOp → Type 0) (at : Place) (call : ℕ) (o_p : ClientOp) (o : Moving) → P call o_p → Wishful P o.state.wish → Wishful P (call_for at call o_p o).state.wish
-unfolding send acts reply keeps makes Wishful call_for
-call_for_wish P at call o_p o own h = grind (arith, h, own)
+call_for_wish : (P : ℕ → ClientOp → Type 0) (at : Place) (call : ℕ) (asked : ClientOp) (o : Moving) → P call asked → Wishful P o.state.wish → Wishful P (call_for at call asked o).state.wish
+unfolding send performs reply keeps reaches Wishful call_for
+call_for_wish P at call asked o own h = grind (arith, h, own)
 
-wait_wish : (P : ℕ → ClientOp → Type 0) (at : Place) (call : ℕ) (o_p : ClientOp) (o : Moving) → P call o_p → Wishful P o.state.wish → Wishful P (wait_for_copies at call o_p o).state.wish
+wait_wish : (P : ℕ → ClientOp → Type 0) (at : Place) (call : ℕ) (asked : ClientOp) (o : Moving) → P call asked → Wishful P o.state.wish → Wishful P (wait_for_copies at call asked o).state.wish
 unfolding keeps wait_for_copies Wishful
-wait_wish P at call o_p o own h = grind (arith, h, own, revoke_wish P)
+wait_wish P at call asked o own h = grind (arith, h, own, revoke_wish P)
 
-want_of_wish : (P : ℕ → ClientOp → Type 0) (at : Place) (rules : Rules) (call : ℕ) (o_p : ClientOp) (o : Moving) → P call o_p → Wishful P o.state.wish → Wishful P (want_of at rules call o_p o).state.wish
-unfolding reply acts want_of
-want_of_wish P at rules call o_p o own h = grind (arith, h, own, satisfied_wish P, wait_wish P at call o_p o own h, call_for_wish P at call o_p o own h)
+want_of_wish : (P : ℕ → ClientOp → Type 0) (at : Place) (rules : Rules) (call : ℕ) (asked : ClientOp) (o : Moving) → P call asked → Wishful P o.state.wish → Wishful P (want_of at rules call asked o).state.wish
+unfolding reply performs want_of
+want_of_wish P at rules call asked o own h = grind (arith, h, own, satisfied_wish P, wait_wish P at call asked o own h, call_for_wish P at call asked o own h)
 
 pub home_opened_wish : (P : ℕ → ClientOp → Type 0) (at : Place) (o : Moving) → Wishful P o.state.wish → Wishful P (opened_at_home at o).state.wish
 unfolding keeps opened_at_home end_vacuum
 home_opened_wish P at o h = grind (arith, h, opened_wish P)
 
-pub want_wish : (P : ℕ → ClientOp → Type 0) (at : Place) (rules : Rules) (call : ℕ) (o_p : ClientOp) (o : Moving) → P call o_p → Wishful P o.state.wish → Wishful P (want at rules call o_p o).state.wish
+pub want_wish : (P : ℕ → ClientOp → Type 0) (at : Place) (rules : Rules) (call : ℕ) (asked : ClientOp) (o : Moving) → P call asked → Wishful P o.state.wish → Wishful P (want at rules call asked o).state.wish
 unfolding want
-want_wish P at rules call o_p o own h = want_of_wish P at rules call o_p (opened_at_home at o) own (home_opened_wish P at o h)
+want_wish P at rules call asked o own h = want_of_wish P at rules call asked (opened_at_home at o) own (home_opened_wish P at o h)
 
 pub store_wish : (P : ℕ → ClientOp → Type 0) (call : ℕ) (v : List ℕ) (o : Moving) → Wishful P o.state.wish → Wishful P (store call v o).state.wish
-unfolding reply acts keeps store
+unfolding reply performs keeps store
 store_wish P call v o h = grind (arith, h)
 
 pub release_wish : (P : ℕ → ClientOp → Type 0) (call : ℕ) (o : Moving) → Wishful P o.state.wish → Wishful P (release call o).state.wish
-unfolding reply acts keeps release
+unfolding reply performs keeps release
 release_wish P call o h = grind (arith, h)
 
 pub unlock_wish : (P : ℕ → ClientOp → Type 0) (at : Place) (call : ℕ) (o : Moving) → Wishful P o.state.wish → Wishful P (unlock at call o).state.wish
@@ -214,7 +214,7 @@ unfolding unlock
 unlock_wish P at call o h = grind (arith, h, drained_wish P, release_wish P)
 
 begin_wish : (P : ℕ → ClientOp → Type 0) (at : Place) (o : Moving) (ns : List ℕ) → Wishful P o.state.wish → Wishful P (begin_vacuum at o ns).state.wish
-unfolding keeps makes begin_vacuum
+unfolding keeps reaches begin_vacuum
 begin_wish P at o ns h = grind (arith, h, finish_wish P, send_all_wish P)
 
 pub vacuum_wish : (P : ℕ → ClientOp → Type 0) (at : Place) (ns : List ℕ) (o : Moving) → Wishful P o.state.wish → Wishful P (vacuum at ns o).state.wish

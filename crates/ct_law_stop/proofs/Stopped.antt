@@ -11,12 +11,11 @@ use Rattle.ct_frame.specs.declared.frame.TableRow.{TableRow}
 use Rattle.ct_frame.specs.declared.header.RecCopy.{RecCopy}
 use Rattle.ct_call.specs.Rules.{Rules}
 use Rattle.ct_rules.specs.declared.state.RecState.{RecState}
-use Rattle.ct_rules_node.specs.Laws.{first_row}
 use Rattle.ct_rules_node.specs.Node.{Node, Database, Idle, is_among, db_at, state_at, untouched, restarted_db, restarted}
 use Rattle.ct_rules_node.specs.Rounds.{row_of}
 use Rattle.ct_rules_node.proofs.Refusals.{first_none, required}
 use Rattle.ct_rules_node.proofs.Starting.{restarts_in_order}
-use Rattle.ct_rules_node.proofs.Whole.{restarts_each}
+use Rattle.ct_rules_node.proofs.Rounds.{restarts_each}
 use Rattle.ct_cluster.specs.Cluster.{Cluster, is_true, is_up, node_at, pending_at}
 use Rattle.ct_cluster.specs.Faults.{fault_of, is_holder, no_such_node}
 use Rattle.ct_cluster.specs.Labels.{Label, Stopped}
@@ -193,7 +192,7 @@ module _ (c : Config) (rules : Rules) (w : Cluster) (r : Lines) (h : Lives c rul
     still = λ some. absurd (some out);
     past = λ l e. absurd (cc);
     stuck = λ some e. absurd (some (sym e ∙ out));
-    some = λ ne. (let q = p.some ne in (q.0, q.1, λ db key. q.2 db key ∙ ap (λ (o : Option RecCopy). first_row (row_of n db key o)) (sym (left.copies vbase db key))));
+    some = λ ne. (let q = p.some ne in (q.0, q.1, λ db key. q.2 db key ∙ ap (λ (o : Option RecCopy). row_of n db key o) (sym (left.copies vbase db key))));
     order = p.order;
     polder = p.polder;
     phad = p.phad;

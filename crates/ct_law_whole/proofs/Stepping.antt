@@ -11,7 +11,7 @@ use Rattle.ct_frame.specs.declared.event.Event.TheVariants as event
 use Rattle.ct_frame.specs.declared.frame.Frame.{Frame}
 use Rattle.ct_call.specs.Rules.{Rules}
 use Rattle.ct_merge.proofs.Among.{In}
-use Rattle.ct_rules_node.specs.Given.{is_allowed_op}
+use Rattle.ct_rules_node.specs.Coming.{is_allowed_op}
 use Rattle.ct_rules_node.specs.Node.{Node, has_records, kind_at, master_of, state_at}
 use Rattle.ct_rules_node.specs.Refusals.{first_of}
 use Rattle.ct_rules_node.specs.Steps.{happens}

@@ -10,11 +10,12 @@ use Rattle.ct_frame.specs.declared.header.RecCopy.{RecCopy}
 use Rattle.ct_call.specs.Rules.{Rules}
 use Rattle.ct_rules.specs.State.{nothing_kept, for_reading, is_read_op}
 use Rattle.ct_rules.specs.Parts.{Moving}
-use Rattle.ct_rules.specs.Frames.{greater}
+use Rattle.ct_rules.specs.Messages.{greater}
 use Rattle.ct_rules.specs.Moves.{move, release, begins}
 use Rattle.ct_rules.specs.Form.{is_wanting}
 use Rattle.ct_rules.specs.declared.event.Act.{Act}
 use Rattle.ct_rules.specs.declared.event.Act.TheVariants as act
+use Rattle.ct_rules.specs.declared.event.MoveEvent.{MoveEvent}
 use Rattle.ct_rules.specs.declared.event.MoveEvent.TheVariants as event
 use Rattle.ct_rules.specs.declared.event.Place.{Place}
 use Rattle.ct_rules.specs.declared.state.RecState.{RecState}
@@ -159,37 +160,42 @@ joins s w n = if is_among n s.members && not (w.joined n) then record {
 abbrev pub unlocked : View → View
 unlocked v = record v { state = record v.state { locked = None } }
 
+-- what a node does about an event of the record, where the calls ask this
+abbrev pub moves : Scene → World → ℕ → (ℕ → Option ClientOp) → MoveEvent → Stepped
+moves s w n asks e =
+    let v = w.nodes n in
+    put s w n asks (move (place s n v) s.rules e (starts v))
+
+-- what the call that waits at a node asks
+abbrev pub waiting_at : World → ℕ → ℕ → Option ClientOp
+waiting_at w n = waiting_call (w.nodes n).state.wish
+
 -- a message comes to its receiver
 abbrev pub comes : Scene → World → Option Mail → Stepped
 comes s w None = stays w
-comes s w (Some m) = put s w m.receiver (waiting_call (w.nodes m.receiver).state.wish) (move (place s m.receiver (w.nodes m.receiver)) s.rules (event.Arrive m.sender m.msg) (starts (w.nodes m.receiver)))
+comes s w (Some m) = moves s w m.receiver (waiting_at w m.receiver) (event.Arrive m.sender m.msg)
+
+-- a client under the lock, of a node that has the record locked; from another one nothing comes
+abbrev pub under_lock : World → ℕ → Stepped → Stepped
+under_lock w n done = if is_some (w.nodes n).state.locked then done else stays w
 
 abbrev pub happens : Scene → World → Event → Stepped
-happens s w (Wants n call asked) =
-    if may_want (w.nodes n).state asked
-    then put s w n (own_call call asked) (move (place s n (w.nodes n)) s.rules (event.Want call asked) (starts (w.nodes n)))
-    else stays w
-happens s w (Stores n call v) =
-    if is_some (w.nodes n).state.locked
-    then put s w n (own_call call (op.Store s.db s.key v)) (move (place s n (w.nodes n)) s.rules (event.Store call v) (starts (w.nodes n)))
-    else stays w
-happens s w (Unlocks n call) =
-    if is_some (w.nodes n).state.locked
-    then put s w n (own_call call (op.Unlock s.db s.key)) (move (place s n (w.nodes n)) s.rules (event.Unlock call) (starts (w.nodes n)))
-    else stays w
-happens s w (Releases n call) =
-    if is_some (w.nodes n).state.locked
-    then put s w n (own_call call (op.Unlock s.db s.key)) (release call (starts (w.nodes n)))
-    else stays w
+happens s w (Wants n call asked) = if may_want (w.nodes n).state asked then moves s w n (own_call call asked) (event.Want call asked) else stays w
+happens s w (Stores n call v) = under_lock w n (moves s w n (own_call call (op.Store s.db s.key v)) (event.Store call v))
+happens s w (Unlocks n call) = under_lock w n (moves s w n (own_call call (op.Unlock s.db s.key)) (event.Unlock call))
+happens s w (Releases n call) = under_lock w n (put s w n (own_call call (op.Unlock s.db s.key)) (release call (starts (w.nodes n))))
 happens s w (Comes which) = comes s w (slice_get w.mail which)
-happens s w (Vacuums n) = put s w n (waiting_call (w.nodes n).state.wish) (move (place s n (w.nodes n)) s.rules (event.Vacuum (peers s n)) (starts (w.nodes n)))
-happens s w (Resends n) = put s w n (waiting_call (w.nodes n).state.wish) (move (place s n (w.nodes n)) s.rules event.Resend (starts (w.nodes n)))
-happens s w (Thaws n) = put s w n (waiting_call (w.nodes n).state.wish) (want_again s.rules (place s n (w.nodes n)) (starts (w.nodes n)))
+happens s w (Vacuums n) = moves s w n (waiting_at w n) (event.Vacuum (peers s n))
+happens s w (Resends n) = moves s w n (waiting_at w n) event.Resend
+happens s w (Thaws n) =
+    let v = w.nodes n in
+    put s w n (waiting_at w n) (want_again s.rules (place s n v) (starts v))
 happens s w (Ends n) = steps s w n (is_some (w.nodes n).state.locked) (Ended n ∷ []) (unlocked (w.nodes n)) []
 happens s w (Leaves n) = steps s w n true (Left n ∷ []) (unlocked (w.nodes n)) []
 happens s w (Joins n) = joins s w n
 happens s w (Rises n next floor) =
-    put s w n (waiting_call (w.nodes n).state.wish) (begins (w.nodes n).state (greater (w.nodes n).next next) (greater (w.nodes n).floor floor))
+    let v = w.nodes n in
+    put s w n (waiting_at w n) (begins v.state (greater v.next next) (greater v.floor floor))
 
 abbrev pub trace : Scene → World → List Event → List Label
 trace s w [] = []

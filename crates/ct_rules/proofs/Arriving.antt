@@ -9,8 +9,8 @@ use Rattle.ct_frame.specs.Fields.{is_from_one}
 use Rattle.ct_frame.specs.declared.frame.CallKind.{CallKind}
 use Rattle.ct_frame.specs.declared.frame.CallKind.TheVariants as kind
 use Rattle.ct_rules.specs.State.{is_nil, a_copy, plain, rsn_of, is_mastered, is_quiet, is_free, is_wished}
-use Rattle.ct_rules.specs.Parts.{Moving, acts, send, reply, keeps, makes, opened, end_vacuum, keep}
-use Rattle.ct_rules.specs.Frames.{enqueue, on_call_of, called, on_call, wait, handle, recalled, on_recall, hand_on, on_give_of, on_give, satisfy_wish, becomes, take, refuse, on_pass, on_refuse_of, on_refuse, reads, on_grant, on_done_of, on_done, called_in, acknowledge, on_revoke_of, on_revoke, acknowledged, on_revokeack, stored_copy, deleted_copy, on_vstore, on_vdelete, finish, greater, on_vstored_of, on_vstored, on_vdeleted_of, on_vdeleted}
+use Rattle.ct_rules.specs.Parts.{Moving, performs, send, reply, keeps, reaches, opened, end_vacuum, keep}
+use Rattle.ct_rules.specs.Messages.{enqueue, on_call_of, called, on_call, wait, handle, recalled, on_recall, hand_on, on_give_of, on_give, satisfy_wish, becomes, accept, refuse, on_pass, on_refuse_of, on_refuse, read_granted, on_grant, on_done_of, on_done, called_in, acknowledge, renew, on_revoke_of, on_revoke, acknowledged, on_revokeack, stored_copy, deleted_copy, on_vstore, on_vdelete, finish, greater, on_vstored_of, on_vstored, on_vdeleted_of, on_vdeleted}
 use Rattle.ct_rules.specs.Form.{least_of, sent_for, revoked_rsn, vacuumed_rsn, wished_as, wants_record, is_asked, is_recalled}
 use Rattle.ct_rules.specs.declared.event.Place.{Place}
 use Rattle.ct_rules.specs.declared.state.RecallNote.{RecallNote}
@@ -80,16 +80,16 @@ recall_formed at r o asked h = if_formed at _ _ _ h (recalled_formed at r o aske
 
 -- ---- Give and Refuse
 
-kept_formed : (at : Place) (rsn : ℕ) (value : List ℕ) (o : Moving) → at.me ≡ at.lmaster → Formed at o → Formed at (makes rsn (keeps (record o.state { entry = Some (record { holder = at.lmaster; least = rsn; request = 0; value = value }); copy = Some (a_copy rsn at.lmaster plain value) }) o))
-unfolding Formed keeps makes is_mastered least_of sent_for rsn_of
+kept_formed : (at : Place) (rsn : ℕ) (value : List ℕ) (o : Moving) → at.me ≡ at.lmaster → Formed at o → Formed at (reaches rsn (keeps (record o.state { entry = Some (record { holder = at.lmaster; least = rsn; request = 0; value = value }); copy = Some (a_copy rsn at.lmaster plain value) }) o))
+unfolding Formed keeps reaches is_mastered least_of sent_for rsn_of
 kept_formed at rsn value o home h = grind arith
 
 pub keep_formed : (at : Place) (rsn : ℕ) (value : List ℕ) (o : Moving) → at.me ≡ at.lmaster → Formed at o → Formed at (keep at rsn value o)
 unfolding keep
 keep_formed at rsn value o home h = next_formed at _ (kept_formed at rsn value o home h)
 
-handed_formed : (at : Place) (rsn : ℕ) (value : List ℕ) (o : Moving) (w : Waiter) (ws : List Waiter) → o.state.queue ≡ w ∷ ws → Formed at o → Formed at (makes (rsn + 1) (keeps (record o.state { entry = Some (record { holder = w.node; least = rsn + 1; request = w.request; value = value }); queue = ws }) o))
-unfolding Formed keeps makes least_of sent_for is_asked
+handed_formed : (at : Place) (rsn : ℕ) (value : List ℕ) (o : Moving) (w : Waiter) (ws : List Waiter) → o.state.queue ≡ w ∷ ws → Formed at o → Formed at (reaches (rsn + 1) (keeps (record o.state { entry = Some (record { holder = w.node; least = rsn + 1; request = w.request; value = value }); queue = ws }) o))
+unfolding Formed keeps reaches least_of sent_for is_asked
 handed_formed at rsn value o w ws is h = grind arith
 
 hand_on_formed : (at : Place) (rsn : ℕ) (value : List ℕ) (o : Moving) (ws : List Waiter) → o.state.queue ≡ ws → at.me ≡ at.lmaster → Formed at o → Formed at (hand_on at rsn value o ws)
@@ -118,25 +118,25 @@ on_refuse_formed at n request rsn o home h = refuse_of_formed at n request rsn o
 -- ---- Pass
 
 become_formed : (at : Place) (rsn : ℕ) (value : List ℕ) (o : Moving) → is_none o.state.wish ≡ false → Formed at o → Formed at (becomes at rsn value o)
-unfolding Formed becomes keeps makes is_mastered is_quiet rsn_of least_of sent_for revoked_rsn vacuumed_rsn wished_as
+unfolding Formed becomes keeps reaches is_mastered is_quiet rsn_of least_of sent_for revoked_rsn vacuumed_rsn wished_as
 become_formed at rsn value o wished h = grind arith
 
-take_of_formed : (at : Place) (rules : Rules) (o : Moving) (w : Option Wish) → o.state.wish ≡ w → is_mastered at.me o.state.copy ≡ true → is_quiet o.state.tracking ≡ true → Formed at o → Formed at (satisfy_wish rules o w)
+satisfy_wish_formed : (at : Place) (rules : Rules) (o : Moving) (w : Option Wish) → o.state.wish ≡ w → is_mastered at.me o.state.copy ≡ true → is_quiet o.state.tracking ≡ true → Formed at o → Formed at (satisfy_wish rules o w)
 unfolding satisfy_wish
-take_of_formed at rules o None is held quiet h = h
-take_of_formed at rules o (Some w) is held quiet h = satisfied_formed at rules o w is held quiet h
+satisfy_wish_formed at rules o None is held quiet h = h
+satisfy_wish_formed at rules o (Some w) is held quiet h = satisfied_formed at rules o w is held quiet h
 
 become_held : (at : Place) (rsn : ℕ) (value : List ℕ) (o : Moving) → is_mastered at.me (becomes at rsn value o).state.copy ≡ true
-unfolding becomes keeps makes is_mastered
+unfolding becomes keeps reaches is_mastered
 become_held at rsn value o = grind arith
 
 become_rest : (at : Place) (rsn : ℕ) (value : List ℕ) (o : Moving) → ((becomes at rsn value o).state.wish ≡ o.state.wish) × (is_quiet (becomes at rsn value o).state.tracking ≡ true)
-unfolding becomes keeps makes is_quiet
+unfolding becomes keeps reaches is_quiet
 become_rest at rsn value o = (refl, refl)
 
-take_formed : (at : Place) (rules : Rules) (rsn : ℕ) (value : List ℕ) (o : Moving) → is_none o.state.wish ≡ false → Formed at o → Formed at (take at rules rsn value o)
-unfolding take
-take_formed at rules rsn value o wished h = drained_formed at _ (take_of_formed at rules (becomes at (rsn + 1) value o) o.state.wish (become_rest at (rsn + 1) value o).0 (become_held at (rsn + 1) value o) (become_rest at (rsn + 1) value o).1 (become_formed at (rsn + 1) value o wished h))
+accept_formed : (at : Place) (rules : Rules) (rsn : ℕ) (value : List ℕ) (o : Moving) → is_none o.state.wish ≡ false → Formed at o → Formed at (accept at rules rsn value o)
+unfolding accept
+accept_formed at rules rsn value o wished h = drained_formed at _ (satisfy_wish_formed at rules (becomes at (rsn + 1) value o) o.state.wish (become_rest at (rsn + 1) value o).0 (become_held at (rsn + 1) value o) (become_rest at (rsn + 1) value o).1 (become_formed at (rsn + 1) value o wished h))
 
 refuse_formed : (at : Place) (request rsn : ℕ) (o : Moving) → Formed at o → Formed at (refuse at request rsn o)
 unfolding refuse
@@ -149,12 +149,12 @@ wished_some readonly request k (Some w) is = refl
 
 pub pass_formed : (at : Place) (rules : Rules) (request rsn : ℕ) (value : List ℕ) (o : Moving) → Formed at o → Formed at (on_pass at rules request rsn value o)
 unfolding on_pass
-pass_formed at rules request rsn value o h = if_formed at _ _ _ h (cond_both (is_wished at.readonly request kind.Lock o.state.wish) _ _ (Formed at) (λ wished. take_formed at rules rsn value o (wished_some at.readonly request kind.Lock o.state.wish wished) h) (λ _. refuse_formed at request rsn o h))
+pass_formed at rules request rsn value o h = if_formed at _ _ _ h (cond_both (is_wished at.readonly request kind.Lock o.state.wish) _ _ (Formed at) (λ wished. accept_formed at rules rsn value o (wished_some at.readonly request kind.Lock o.state.wish wished) h) (λ _. refuse_formed at request rsn o h))
 
 -- ---- Grant, Done, Revoke and RevokeAck
 
 pub on_grant_formed : (at : Place) (n request rsn : ℕ) (value : List ℕ) (o : Moving) → rsn < 2 ^ 62 → Formed at o → Formed at (on_grant at n request rsn value o)
-unfolding Formed on_grant reads reply acts keeps wants_record is_wished rsn_of least_of sent_for revoked_rsn vacuumed_rsn wished_as
+unfolding Formed on_grant read_granted reply performs keeps wants_record is_wished rsn_of least_of sent_for revoked_rsn vacuumed_rsn wished_as
 on_grant_formed at n request rsn value o below h = grind arith
 
 served_formed : (at : Place) (o : Moving) (w : Waiter) (ws : List Waiter) → o.state.queue ≡ w ∷ ws → Formed at o → Formed at (keeps (record o.state { queue = ws }) o)
@@ -171,15 +171,15 @@ unfolding on_done
 on_done_formed at n request o h = done_of_formed at n request o o.state.queue refl h
 
 acknowledge_formed : (at : Place) (n rsn : ℕ) (o : Moving) → Formed at o → Formed at (acknowledge at n rsn o)
-unfolding Formed acknowledge called_in send acts keeps is_mastered rsn_of
+unfolding Formed acknowledge called_in send performs keeps is_mastered rsn_of
 acknowledge_formed at n rsn o h = grind arith
 
-renewed_formed : (at : Place) (o : Moving) (w : Wish) → o.state.wish ≡ Some w → Formed at o → Formed at (makes (o.next + 1) (record o { state = record o.state { wish = Some (record w { request = o.next }) }; next = o.next + 1 }))
-unfolding Formed makes wants_record wished_as
+renewed_formed : (at : Place) (o : Moving) (w : Wish) → o.state.wish ≡ Some w → Formed at o → Formed at (reaches (o.next + 1) (record o { state = record o.state { wish = Some (record w { request = o.next }) }; next = o.next + 1 }))
+unfolding Formed reaches wants_record wished_as
 renewed_formed at o w is h = grind arith
 
 revoke_of_formed : (at : Place) (n rsn : ℕ) (o : Moving) (w : Option Wish) → o.state.wish ≡ w → Formed at o → Formed at (on_revoke_of at n rsn o w)
-unfolding on_revoke_of
+unfolding renew on_revoke_of
 revoke_of_formed at n rsn o None is h = acknowledge_formed at n rsn o h
 revoke_of_formed at n rsn o (Some w) is h = if_formed at _ _ _ (send_formed at _ _ _ (acknowledge_formed at n rsn _ (renewed_formed at o w is h))) (acknowledge_formed at n rsn o h)
 
@@ -202,15 +202,15 @@ on_revokeack_formed at rules n rsn o h = cond_both (ends n rsn o.state.tracking)
 -- ---- the two phases of a vacuum
 
 pub on_vstore_formed : (at : Place) (n rsn : ℕ) (o : Moving) → rsn < 2 ^ 62 → Formed at o → Formed at (on_vstore at n rsn o)
-unfolding Formed on_vstore stored_copy send acts keeps is_mastered rsn_of least_of sent_for revoked_rsn vacuumed_rsn wished_as
+unfolding Formed on_vstore stored_copy send performs keeps is_mastered rsn_of least_of sent_for revoked_rsn vacuumed_rsn wished_as
 on_vstore_formed at n rsn o below h = grind arith
 
 pub on_vdelete_formed : (at : Place) (n rsn : ℕ) (o : Moving) → Formed at o → Formed at (on_vdelete at n rsn o)
-unfolding Formed on_vdelete deleted_copy send acts keeps is_mastered rsn_of least_of sent_for revoked_rsn vacuumed_rsn wished_as
+unfolding Formed on_vdelete deleted_copy send performs keeps is_mastered rsn_of least_of sent_for revoked_rsn vacuumed_rsn wished_as
 on_vdelete_formed at n rsn o h = grind arith
 
 pub finish_formed : (at : Place) (rsn : ℕ) (o : Moving) → is_none o.state.locked ≡ true → is_quiet o.state.tracking ≡ true → is_nil o.state.queue ≡ true → Formed at o → Formed at (finish rsn o)
-unfolding Formed finish acts makes greater least_of sent_for rsn_of revoked_rsn vacuumed_rsn wished_as
+unfolding Formed finish performs reaches greater least_of sent_for rsn_of revoked_rsn vacuumed_rsn wished_as
 finish_formed at rsn o unlocked quiet empty h = grind arith
 
 vacuuming_formed : (at : Place) (v w : Vacuuming) (o : Moving) → o.state.vacuum ≡ Some v → w.rsn ≡ v.rsn → Formed at o → Formed at (keeps (record o.state { vacuum = Some w }) o)

@@ -10,9 +10,9 @@ use Rattle.ct_frame.specs.declared.frame.Msg.{Msg}
 use Rattle.ct_msg.specs.declared.client.Answer.{Answer}
 use Rattle.ct_msg.specs.declared.client.ClientOp.{ClientOp}
 use Rattle.ct_msg.specs.declared.client.ClientOp.TheVariants as op
-use Rattle.ct_rules.specs.State.{is_nil, rsn_of, is_mastered, is_quiet, is_free, given, with_flags, with_value, raised}
-use Rattle.ct_rules.specs.Parts.{Moving, acts, send, send_all, reply, keeps, makes, opened, open_of, end_vacuum, give, applies, satisfy, revoke, read_here, delegate, grant, yield_record, drain, drained, satisfy_own, raise, end_revocation, next, next_of}
-use Rattle.ct_rules.specs.Frames.{pass_again}
+use Rattle.ct_rules.specs.State.{is_nil, rsn_of, is_mastered, is_quiet, is_free, given, with_flags, with_value, risen}
+use Rattle.ct_rules.specs.Parts.{Moving, performs, send, send_all, reply, keeps, reaches, opened, open_of, end_vacuum, give, applies, satisfy, revoke, read_here, delegate, grant, yield_record, drain, drained, satisfy_own, raise, end_revocation, next, next_of}
+use Rattle.ct_rules.specs.Messages.{pass_again}
 use Rattle.ct_rules.specs.Form.{HasShape, least_of, sent_for, revoked_rsn, vacuumed_rsn, wished_as, wants_record, is_recalled}
 use Rattle.ct_frame.specs.declared.header.RecCopy.{RecCopy}
 use Rattle.ct_deleg.specs.Tracked.{Tracked}
@@ -42,20 +42,20 @@ Formed at o = Facts at o.state.copy o.state.entry o.state.queue o.state.waiting 
 -- ---- sending, answering and making numbers leave the state
 
 pub send_formed : (at : Place) (n : ℕ) (m : Msg) (o : Moving) → Formed at o → Formed at (send n m o)
-unfolding Formed send acts rsn_of least_of sent_for revoked_rsn vacuumed_rsn wished_as
+unfolding Formed send performs rsn_of least_of sent_for revoked_rsn vacuumed_rsn wished_as
 send_formed at n m o h = h
 
 pub reply_formed : (at : Place) (call : ℕ) (a : Answer) (o : Moving) → Formed at o → Formed at (reply call a o)
-unfolding Formed reply acts rsn_of least_of sent_for revoked_rsn vacuumed_rsn wished_as
+unfolding Formed reply performs rsn_of least_of sent_for revoked_rsn vacuumed_rsn wished_as
 reply_formed at call a o h = h
 
-pub makes_formed : (at : Place) (n : ℕ) (o : Moving) → Formed at o → Formed at (makes n o)
-unfolding Formed makes
-makes_formed at n o h = grind arith
+pub reaches_formed : (at : Place) (n : ℕ) (o : Moving) → Formed at o → Formed at (reaches n o)
+unfolding Formed reaches
+reaches_formed at n o h = grind arith
 
 -- sending to several changes what is done alone
 pub send_all_rest : (ns : List ℕ) (m : Msg) (o : Moving) → ((send_all ns m o).state ≡ o.state) × ((send_all ns m o).next ≡ o.next) × ((send_all ns m o).floor ≡ o.floor) × ((send_all ns m o).spent ≡ o.spent)
-unfolding send_all send acts
+unfolding send_all send performs
 send_all_rest [] m o = (refl, refl, refl, refl)
 send_all_rest (n ∷ ns) m o = send_all_rest ns m (send n m o)
 
@@ -65,11 +65,11 @@ send_all_formed at [] m o h = h
 send_all_formed at (n ∷ ns) m o h = send_all_formed at ns m (send n m o) (send_formed at n m o h)
 
 pub next_formed : (at : Place) (o : Moving) → Formed at o → Formed at (next at o)
-unfolding Formed next next_of send acts
+unfolding Formed next next_of send performs
 next_formed at o h = grind arith
 
 pub pass_again_formed : (at : Place) (e : Entry) (o : Moving) → Formed at o → Formed at (pass_again at e o)
-unfolding Formed pass_again send acts rsn_of least_of sent_for revoked_rsn vacuumed_rsn wished_as
+unfolding Formed pass_again send performs rsn_of least_of sent_for revoked_rsn vacuumed_rsn wished_as
 pass_again_formed at e o h = h
 
 -- ---- changes of the state
@@ -95,7 +95,7 @@ unfolding Formed keeps rsn_of least_of sent_for revoked_rsn vacuumed_rsn wished_
 waiting_still_formed at ws o all h = grind arith
 
 pub give_formed : (at : Place) (o : Moving) → is_free at.me o.state ≡ true → Formed at o → Formed at (give at o)
-unfolding Formed give send acts keeps is_free given rsn_of least_of sent_for revoked_rsn vacuumed_rsn wished_as
+unfolding Formed give send performs keeps is_free given rsn_of least_of sent_for revoked_rsn vacuumed_rsn wished_as
 give_formed at o free h = grind arith
 
 -- the copies that are called in: something is tracked, and a vacuum has ended
@@ -108,12 +108,12 @@ unfolding yield_record is_free
 yield_formed at o free still h = grind (arith, give_formed, revoke_formed)
 
 read_here_formed : (at : Place) (request : ℕ) (o : Moving) (w : Option Wish) → Formed at o → Formed at (read_here at request o w)
-unfolding Formed read_here keeps reply acts wants_record wished_as
+unfolding Formed read_here keeps reply performs wants_record wished_as
 read_here_formed at request o None h = h
 read_here_formed at request o (Some w) h = grind arith
 
 delegate_formed : (at : Place) (node request : ℕ) (o : Moving) → is_quiet o.state.tracking ≡ true → Formed at o → Formed at (delegate at node request o)
-unfolding Formed delegate send acts keeps is_mastered with_flags is_quiet rsn_of
+unfolding Formed delegate send performs keeps is_mastered with_flags is_quiet rsn_of
 delegate_formed at node request o quiet h = grind arith
 
 -- what holds of both choices
@@ -131,14 +131,14 @@ grant_formed at node request o free h = send_formed at _ _ _ (if_formed at _ _ _
 
 -- an operation at the holder, with no wish, vacuum or revocation beside it
 applies_formed : (at : Place) (call : ℕ) (o : Moving) (r : Result (List ℕ) CallFault) → Formed at o → Formed at (applies call o r)
-unfolding Formed applies reply acts keeps is_mastered with_value rsn_of
+unfolding Formed applies reply performs keeps is_mastered with_value rsn_of
 applies_formed at call o (Ok v) h = grind arith
 applies_formed at call o (Err (fault.TooLong n)) h = h
 applies_formed at call o (Err fault.NoSuchCall) h = h
 applies_formed at call o (Err fault.NoMemory) h = h
 
-pub satisfy_formed : (at : Place) (rules : Rules) (call : ℕ) (o_p : ClientOp) (o : Moving) → is_mastered at.me o.state.copy ≡ true → is_none o.state.wish ≡ true → is_none o.state.vacuum ≡ true → is_quiet o.state.tracking ≡ true → Formed at o → Formed at (satisfy rules call o_p o)
-unfolding Formed satisfy reply acts keeps is_mastered with_value rsn_of
+pub satisfy_formed : (at : Place) (rules : Rules) (call : ℕ) (asked : ClientOp) (o : Moving) → is_mastered at.me o.state.copy ≡ true → is_none o.state.wish ≡ true → is_none o.state.vacuum ≡ true → is_quiet o.state.tracking ≡ true → Formed at o → Formed at (satisfy rules call asked o)
+unfolding Formed satisfy reply performs keeps is_mastered with_value rsn_of
 satisfy_formed at rules call (op.Lock db key) o held unwished still quiet h = grind arith
 satisfy_formed at rules call (op.Read db key) o held unwished still quiet h = h
 satisfy_formed at rules call (op.Write db key v) o held unwished still quiet h = grind arith
@@ -185,15 +185,15 @@ satisfied_formed at rules o w is held quiet h = satisfy_formed at rules w.call w
 
 -- END OF REVOCATION, at a node that was holder of it
 raise_formed : (at : Place) (o : Moving) → Formed at o → Formed at (raise o)
-unfolding Formed raise keeps makes is_mastered raised is_quiet rsn_of least_of sent_for revoked_rsn vacuumed_rsn wished_as
+unfolding Formed raise keeps reaches is_mastered risen with_flags is_quiet rsn_of least_of sent_for revoked_rsn vacuumed_rsn wished_as
 raise_formed at o h = grind arith
 
 raise_held : (at : Place) (o : Moving) → is_mastered at.me o.state.copy ≡ true → is_mastered at.me (raise o).state.copy ≡ true
-unfolding raise keeps makes is_mastered raised
+unfolding raise keeps reaches is_mastered risen with_flags
 raise_held at o held = grind arith
 
 raise_quiet : (o : Moving) → is_quiet (raise o).state.tracking ≡ true
-unfolding raise keeps makes is_quiet
+unfolding raise keeps reaches is_quiet
 raise_quiet o = refl
 
 own_formed : (at : Place) (rules : Rules) (o : Moving) (w : Option Wish) → o.state.wish ≡ w → is_mastered at.me o.state.copy ≡ true → is_quiet o.state.tracking ≡ true → Formed at o → Formed at (satisfy_own rules o w)
@@ -202,7 +202,7 @@ own_formed at rules o None is held quiet h = h
 own_formed at rules o (Some w) is held quiet h = if_formed at _ _ _ (satisfied_formed at rules o w is held quiet h) h
 
 raise_wish : (o : Moving) → (raise o).state.wish ≡ o.state.wish
-unfolding raise keeps makes
+unfolding raise keeps reaches
 raise_wish o = refl
 
 pub end_revocation_formed : (at : Place) (rules : Rules) (o : Moving) → is_mastered at.me o.state.copy ≡ true → Formed at o → Formed at (end_revocation at rules o)

@@ -5,8 +5,8 @@ use Rattle.ct_frame.specs.declared.frame.CallKind.{CallKind}
 use Rattle.ct_frame.specs.declared.frame.Msg.{Msg}
 use Rattle.ct_frame.specs.declared.frame.Msg.TheVariants as msg
 use Rattle.ct_msg.specs.declared.client.ClientOp.{ClientOp}
-use Rattle.ct_rules.specs.Parts.{Moving, acts, send, send_all, reply, keeps, makes, opened, open_of, end_vacuum, give, applies, satisfy, revoke, read_here, delegate, grant, yield_record, drain, drained, satisfy_own, raise, end_revocation, next, next_of, keep, call_for, wait_for_copies, want_of, opened_at_home, want}
-use Rattle.ct_rules.specs.Frames.{pass_again, enqueue, on_call_of, called, on_call, wait, handle, recalled, on_recall, hand_on, on_give_of, on_give, satisfy_wish, becomes, take, refuse, on_pass, on_refuse_of, on_refuse, reads, on_grant, on_done_of, on_done, acknowledge, on_revoke_of, on_revoke, acknowledged, on_revokeack, on_vstore, on_vdelete, finish, greater, on_vstored_of, on_vstored, on_vdeleted_of, on_vdeleted}
+use Rattle.ct_rules.specs.Parts.{Moving, performs, send, send_all, reply, keeps, reaches, opened, open_of, end_vacuum, give, applies, satisfy, revoke, read_here, delegate, grant, yield_record, drain, drained, satisfy_own, raise, end_revocation, next, next_of, keep, call_for, wait_for_copies, want_of, opened_at_home, want}
+use Rattle.ct_rules.specs.Messages.{pass_again, enqueue, on_call_of, called, on_call, wait, handle, recalled, on_recall, hand_on, on_give_of, on_give, satisfy_wish, becomes, accept, refuse, on_pass, on_refuse_of, on_refuse, read_granted, on_grant, on_done_of, on_done, acknowledge, renew, on_revoke_of, on_revoke, acknowledged, on_revokeack, on_vstore, on_vdelete, finish, greater, on_vstored_of, on_vstored, on_vdeleted_of, on_vdeleted}
 use Rattle.ct_rules.specs.declared.event.Place.{Place}
 use Rattle.ct_rules.specs.declared.state.RecallNote.{RecallNote}
 use Rattle.ct_rules.specs.declared.state.Entry.{Entry}
@@ -20,17 +20,17 @@ use Rattle.ct_rules.specs.declared.event.Act.{Act}
 
 -- ---- what is done before stays in front
 
-front_same : (a : List Act) → IsFront a a
+pub front_same : {X : Type 0} (a : List X) → IsFront a a
 unfolding IsFront
 front_same a = ([], sym (append-nil a))
 
-front_more : (a b : List Act) (x : Act) → IsFront a b → IsFront a (b ++ x ∷ [])
+pub front_more : {X : Type 0} (a b xs : List X) → IsFront a b → IsFront a (b ++ xs)
 unfolding IsFront
-front_more a b x f = (f.0 ++ x ∷ [], ap (λ (l : List Act). l ++ x ∷ []) f.1 ∙ append_assoc a f.0 (x ∷ []))
+front_more a b xs f = (f.0 ++ xs, ap (λ l. l ++ xs) f.1 ∙ append_assoc a f.0 xs)
 
-front_after : (a b c : List Act) → IsFront a b → IsFront b c → IsFront a c
+pub front_after : {X : Type 0} (a b c : List X) → IsFront a b → IsFront b c → IsFront a c
 unfolding IsFront
-front_after a b c f g = (f.0 ++ g.0, g.1 ∙ ap (λ (l : List Act). l ++ g.0) f.1 ∙ append_assoc a f.0 g.0)
+front_after a b c f g = (f.0 ++ g.0, g.1 ∙ ap (λ l. l ++ g.0) f.1 ∙ append_assoc a f.0 g.0)
 
 -- ---- the parts
 
@@ -40,37 +40,37 @@ grows_same o = record { next = omega arith; floor = omega arith; spent = λ e. e
 pub grows_after : (o p q : Moving) → Grows o p → Grows p q → Grows o q
 grows_after o p q f g = record { next = omega arith; floor = omega arith; spent = λ e. g.spent (f.spent e); acts = front_after o.acts p.acts q.acts f.acts g.acts }
 
-if_grows : (o : Moving) (b : Bool) (x y : Moving) → Grows o x → Grows o y → Grows o (cond b x y)
+pub if_grows : (o : Moving) (b : Bool) (x y : Moving) → Grows o x → Grows o y → Grows o (cond b x y)
 if_grows o true x y f g = f
 if_grows o false x y f g = g
 
-acts_grows : (a : Act) (o : Moving) → Grows o (acts a o)
-unfolding acts
-acts_grows a o = grind (arith, front_same, front_more)
+performs_grows : (a : Act) (o : Moving) → Grows o (performs a o)
+unfolding performs
+performs_grows a o = grind (arith, front_same, front_more)
 
-send_grows : (n : ℕ) (m : Msg) (o : Moving) → Grows o (send n m o)
+pub send_grows : (n : ℕ) (m : Msg) (o : Moving) → Grows o (send n m o)
 unfolding send
-send_grows n m o = acts_grows _ o
+send_grows n m o = performs_grows _ o
 
-send_all_grows : (ns : List ℕ) (m : Msg) (o : Moving) → Grows o (send_all ns m o)
+pub send_all_grows : (ns : List ℕ) (m : Msg) (o : Moving) → Grows o (send_all ns m o)
 unfolding send_all
 send_all_grows [] m o = grows_same o
 send_all_grows (n ∷ ns) m o = grows_after o (send n m o) (send_all ns m (send n m o)) (send_grows n m o) (send_all_grows ns m (send n m o))
 
 read_here_grows : (at : Place) (request : ℕ) (o : Moving) (w : Option Wish) → Grows o (read_here at request o w)
-unfolding send acts reply keeps makes read_here
+unfolding send performs reply keeps reaches read_here
 read_here_grows at request o w = grind (arith, front_same, front_more, front_after)
 
 grant_grows : (at : Place) (node request : ℕ) (o : Moving) → Grows o (grant at node request o)
-unfolding send acts reply keeps makes grant delegate
+unfolding send performs reply keeps reaches grant delegate
 grant_grows at node request o = grind (arith, front_same, front_more, front_after, read_here_grows)
 
 revoke_grows : (at : Place) (o : Moving) → Grows o (revoke at o)
-unfolding send acts reply keeps makes revoke
+unfolding send performs reply keeps reaches revoke
 revoke_grows at o = grind (arith, front_same, front_more, front_after, send_all_grows)
 
 give_grows : (at : Place) (o : Moving) → Grows o (give at o)
-unfolding send acts reply keeps makes give
+unfolding send performs reply keeps reaches give
 give_grows at o = grind (arith, front_same, front_more, front_after)
 
 yield_grows : (at : Place) (o : Moving) → Grows o (yield_record at o)
@@ -86,32 +86,32 @@ drained_grows : (at : Place) (o : Moving) → Grows o (drained at o)
 unfolding drained
 drained_grows at o = grind (arith, front_same, front_more, front_after, drain_grows)
 
-satisfy_grows : (rules : Rules) (call : ℕ) (o_p : ClientOp) (o : Moving) → Grows o (satisfy rules call o_p o)
-unfolding send acts reply keeps makes satisfy applies
-satisfy_grows rules call o_p o = grind (arith, front_same, front_more, front_after)
+satisfy_grows : (rules : Rules) (call : ℕ) (asked : ClientOp) (o : Moving) → Grows o (satisfy rules call asked o)
+unfolding send performs reply keeps reaches satisfy applies
+satisfy_grows rules call asked o = grind (arith, front_same, front_more, front_after)
 
 own_grows : (rules : Rules) (o : Moving) (w : Option Wish) → Grows o (satisfy_own rules o w)
-unfolding send acts reply keeps makes satisfy_own
+unfolding send performs reply keeps reaches satisfy_own
 own_grows rules o w = grind (arith, front_same, front_more, front_after, satisfy_grows)
 
 end_revocation_grows : (at : Place) (rules : Rules) (o : Moving) → Grows o (end_revocation at rules o)
-unfolding send acts reply keeps makes end_revocation raise
+unfolding send performs reply keeps reaches end_revocation raise
 end_revocation_grows at rules o = grind (arith, front_same, front_more, front_after, own_grows, drained_grows)
 
 next_grows : (at : Place) (o : Moving) → Grows o (next at o)
-unfolding send acts reply keeps makes next next_of
+unfolding send performs reply keeps reaches next next_of
 next_grows at o = grind (arith, front_same, front_more, front_after)
 
 keep_grows : (at : Place) (rsn : ℕ) (value : List ℕ) (o : Moving) → Grows o (keep at rsn value o)
-unfolding send acts reply keeps makes keep
+unfolding send performs reply keeps reaches keep
 keep_grows at rsn value o = grind (arith, front_same, front_more, front_after, next_grows)
 
 opened_grows : (at : Place) (o : Moving) → Grows o (opened at o)
-unfolding send acts reply keeps makes opened open_of end_vacuum
+unfolding send performs reply keeps reaches opened open_of end_vacuum
 opened_grows at o = grind (arith, front_same, front_more, front_after)
 
 enqueue_grows : (at : Place) (w : Waiter) (o : Moving) (ws : List Waiter) → Grows o (enqueue at w o ws)
-unfolding send acts reply keeps makes enqueue
+unfolding send performs reply keeps reaches enqueue
 enqueue_grows at w o ws = grind (arith, front_same, front_more, front_after, next_grows)
 
 pass_again_grows : (at : Place) (e : Entry) (o : Moving) → Grows o (pass_again at e o)
@@ -124,19 +124,19 @@ call_of_grows at n request k o None = grows_same o
 call_of_grows at n request k o (Some e) = if_grows o _ _ _ (pass_again_grows at e o) (if_grows o _ _ _ (grows_after o _ _ (if_grows o (e.request == 0) _ _ (grows_same o) (pass_again_grows at e o)) (next_grows at _)) (enqueue_grows at _ o _))
 
 call_grows : (at : Place) (n request : ℕ) (k : CallKind) (o : Moving) → Grows o (on_call at n request k o)
-unfolding send acts reply keeps makes on_call called end_vacuum
+unfolding send performs reply keeps reaches on_call called end_vacuum
 call_grows at n request k o = grind (arith, front_same, front_more, front_after, call_of_grows, opened_grows)
 
 handle_grows : (at : Place) (r : RecallNote) (o : Moving) → Grows o (handle at r o)
-unfolding send acts reply keeps makes handle end_vacuum
+unfolding send performs reply keeps reaches handle end_vacuum
 handle_grows at r o = grind (arith, front_same, front_more, front_after, grant_grows, yield_grows)
 
 recall_grows : (at : Place) (r : RecallNote) (o : Moving) → Grows o (on_recall at r o)
-unfolding send acts reply keeps makes on_recall recalled wait
+unfolding send performs reply keeps reaches on_recall recalled wait
 recall_grows at r o = grind (arith, front_same, front_more, front_after, handle_grows)
 
-handed_grows : (at : Place) (rsn : ℕ) (value : List ℕ) (o : Moving) (w : Waiter) (ws : List Waiter) → Grows o (send w.node (msg.Pass at.db at.key w.request rsn value) (makes (rsn + 1) (keeps (record o.state { entry = Some (record { holder = w.node; least = rsn + 1; request = w.request; value = value }); queue = ws }) o)))
-unfolding send acts makes keeps
+handed_grows : (at : Place) (rsn : ℕ) (value : List ℕ) (o : Moving) (w : Waiter) (ws : List Waiter) → Grows o (send w.node (msg.Pass at.db at.key w.request rsn value) (reaches (rsn + 1) (keeps (record o.state { entry = Some (record { holder = w.node; least = rsn + 1; request = w.request; value = value }); queue = ws }) o)))
+unfolding send performs reaches keeps
 handed_grows at rsn value o w ws = grind (arith, front_same, front_more)
 
 hand_on_grows : (at : Place) (rsn : ℕ) (value : List ℕ) (o : Moving) (ws : List Waiter) → Grows o (hand_on at rsn value o ws)
@@ -145,96 +145,96 @@ hand_on_grows at rsn value o [] = keep_grows at (rsn + 1) value o
 hand_on_grows at rsn value o (w ∷ ws) = if_grows o _ _ _ (keep_grows at (rsn + 1) value o) (grows_after o _ _ (handed_grows at rsn value o w ws) (next_grows at _))
 
 on_give_grows : (at : Place) (x rsn : ℕ) (value : List ℕ) (o : Moving) → Grows o (on_give at x rsn value o)
-unfolding send acts reply keeps makes on_give on_give_of
+unfolding send performs reply keeps reaches on_give on_give_of
 on_give_grows at x rsn value o = grind (arith, front_same, front_more, front_after, hand_on_grows)
 
-take_grows : (at : Place) (rules : Rules) (rsn : ℕ) (value : List ℕ) (o : Moving) → Grows o (take at rules rsn value o)
-unfolding send acts reply keeps makes take becomes satisfy_wish
-take_grows at rules rsn value o = grind (arith, front_same, front_more, front_after, satisfy_grows, drained_grows)
+accept_grows : (at : Place) (rules : Rules) (rsn : ℕ) (value : List ℕ) (o : Moving) → Grows o (accept at rules rsn value o)
+unfolding send performs reply keeps reaches accept becomes satisfy_wish
+accept_grows at rules rsn value o = grind (arith, front_same, front_more, front_after, satisfy_grows, drained_grows)
 
 pass_grows : (at : Place) (rules : Rules) (request rsn : ℕ) (value : List ℕ) (o : Moving) → Grows o (on_pass at rules request rsn value o)
-unfolding send acts reply keeps makes on_pass refuse
-pass_grows at rules request rsn value o = grind (arith, front_same, front_more, front_after, take_grows)
+unfolding send performs reply keeps reaches on_pass refuse
+pass_grows at rules request rsn value o = grind (arith, front_same, front_more, front_after, accept_grows)
 
 on_refuse_grows : (at : Place) (n request rsn : ℕ) (o : Moving) → Grows o (on_refuse at n request rsn o)
-unfolding send acts reply keeps makes on_refuse on_refuse_of
+unfolding send performs reply keeps reaches on_refuse on_refuse_of
 on_refuse_grows at n request rsn o = grind (arith, front_same, front_more, front_after, keep_grows)
 
 on_grant_grows : (at : Place) (n request rsn : ℕ) (value : List ℕ) (o : Moving) → Grows o (on_grant at n request rsn value o)
-unfolding send acts reply keeps makes on_grant reads
+unfolding send performs reply keeps reaches on_grant read_granted
 on_grant_grows at n request rsn value o = grind (arith, front_same, front_more, front_after)
 
 on_done_grows : (at : Place) (n request : ℕ) (o : Moving) → Grows o (on_done at n request o)
-unfolding send acts reply keeps makes on_done on_done_of
+unfolding send performs reply keeps reaches on_done on_done_of
 on_done_grows at n request o = grind (arith, front_same, front_more, front_after, next_grows)
 
 on_revoke_grows : (at : Place) (n rsn : ℕ) (o : Moving) → Grows o (on_revoke at n rsn o)
-unfolding send acts reply keeps makes on_revoke on_revoke_of acknowledge
+unfolding send performs reply keeps reaches on_revoke renew on_revoke_of acknowledge
 on_revoke_grows at n rsn o = grind (arith, front_same, front_more, front_after)
 
 on_revokeack_grows : (at : Place) (rules : Rules) (n rsn : ℕ) (o : Moving) → Grows o (on_revokeack at rules n rsn o)
-unfolding send acts reply keeps makes on_revokeack acknowledged
+unfolding send performs reply keeps reaches on_revokeack acknowledged
 on_revokeack_grows at rules n rsn o = grind (arith, front_same, front_more, front_after, end_revocation_grows)
 
 on_vstore_grows : (at : Place) (n rsn : ℕ) (o : Moving) → Grows o (on_vstore at n rsn o)
-unfolding send acts reply keeps makes on_vstore
+unfolding send performs reply keeps reaches on_vstore
 on_vstore_grows at n rsn o = grind (arith, front_same, front_more, front_after)
 
 on_vdelete_grows : (at : Place) (n rsn : ℕ) (o : Moving) → Grows o (on_vdelete at n rsn o)
-unfolding send acts reply keeps makes on_vdelete
+unfolding send performs reply keeps reaches on_vdelete
 on_vdelete_grows at n rsn o = grind (arith, front_same, front_more, front_after)
 
 finish_grows : (rsn : ℕ) (o : Moving) → Grows o (finish rsn o)
-unfolding send acts reply keeps makes finish greater
+unfolding send performs reply keeps reaches finish greater
 finish_grows rsn o = grind (arith, front_same, front_more, front_after)
 
 on_vstored_grows : (at : Place) (n rsn : ℕ) (o : Moving) → Grows o (on_vstored at n rsn o)
-unfolding send acts reply keeps makes on_vstored on_vstored_of
+unfolding send performs reply keeps reaches on_vstored on_vstored_of
 on_vstored_grows at n rsn o = grind (arith, front_same, front_more, front_after, send_all_grows)
 
 on_vdeleted_grows : (n rsn : ℕ) (o : Moving) → Grows o (on_vdeleted n rsn o)
-unfolding send acts reply keeps makes on_vdeleted on_vdeleted_of
+unfolding send performs reply keeps reaches on_vdeleted on_vdeleted_of
 on_vdeleted_grows n rsn o = grind (arith, front_same, front_more, front_after, finish_grows)
 
-call_for_grows : (at : Place) (call : ℕ) (o_p : ClientOp) (o : Moving) → Grows o (call_for at call o_p o)
-unfolding send acts reply keeps makes call_for
-call_for_grows at call o_p o = grind (arith, front_same, front_more, front_after)
+call_for_grows : (at : Place) (call : ℕ) (asked : ClientOp) (o : Moving) → Grows o (call_for at call asked o)
+unfolding send performs reply keeps reaches call_for
+call_for_grows at call asked o = grind (arith, front_same, front_more, front_after)
 
-wait_grows : (at : Place) (call : ℕ) (o_p : ClientOp) (o : Moving) → Grows o (wait_for_copies at call o_p o)
-unfolding send acts reply keeps makes wait_for_copies
-wait_grows at call o_p o = grind (arith, front_same, front_more, front_after, revoke_grows)
+wait_grows : (at : Place) (call : ℕ) (asked : ClientOp) (o : Moving) → Grows o (wait_for_copies at call asked o)
+unfolding send performs reply keeps reaches wait_for_copies
+wait_grows at call asked o = grind (arith, front_same, front_more, front_after, revoke_grows)
 
-want_of_grows : (at : Place) (rules : Rules) (call : ℕ) (o_p : ClientOp) (o : Moving) → Grows o (want_of at rules call o_p o)
-unfolding send acts reply keeps makes want_of
-want_of_grows at rules call o_p o = grind (arith, front_same, front_more, front_after, satisfy_grows, wait_grows, call_for_grows)
+want_of_grows : (at : Place) (rules : Rules) (call : ℕ) (asked : ClientOp) (o : Moving) → Grows o (want_of at rules call asked o)
+unfolding send performs reply keeps reaches want_of
+want_of_grows at rules call asked o = grind (arith, front_same, front_more, front_after, satisfy_grows, wait_grows, call_for_grows)
 
-pub want_grows : (at : Place) (rules : Rules) (call : ℕ) (o_p : ClientOp) (o : Moving) → Grows o (want at rules call o_p o)
-unfolding send acts reply keeps makes want opened_at_home end_vacuum
-want_grows at rules call o_p o = grind (arith, front_same, front_more, front_after, want_of_grows, opened_grows)
+pub want_grows : (at : Place) (rules : Rules) (call : ℕ) (asked : ClientOp) (o : Moving) → Grows o (want at rules call asked o)
+unfolding send performs reply keeps reaches want opened_at_home end_vacuum
+want_grows at rules call asked o = grind (arith, front_same, front_more, front_after, want_of_grows, opened_grows)
 
-pub release_grows : (at : Place) (call : ℕ) (o : Moving) → Grows o (release call o)
-unfolding release keeps reply acts
-release_grows at call o = grind (arith, front_same, front_more)
+pub release_grows : (call : ℕ) (o : Moving) → Grows o (release call o)
+unfolding release keeps reply performs
+release_grows call o = grind (arith, front_same, front_more)
 
 pub unlock_grows : (at : Place) (call : ℕ) (o : Moving) → Grows o (unlock at call o)
 unfolding unlock
-unlock_grows at call o = grows_after o _ _ (release_grows at call o) (drained_grows at (release call o))
+unlock_grows at call o = grows_after o _ _ (release_grows call o) (drained_grows at (release call o))
 
 begin_grows : (at : Place) (o : Moving) (ns : List ℕ) → Grows o (begin_vacuum at o ns)
-unfolding send acts reply keeps makes begin_vacuum
+unfolding send performs reply keeps reaches begin_vacuum
 begin_grows at o ns = grind (arith, front_same, front_more, front_after, finish_grows, send_all_grows)
 
 pub vacuum_grows : (at : Place) (ns : List ℕ) (o : Moving) → Grows o (vacuum at ns o)
-unfolding send acts reply keeps makes vacuum vacuum_at_home
+unfolding send performs reply keeps reaches vacuum vacuum_at_home
 vacuum_grows at ns o = grind (arith, front_same, front_more, front_after, begin_grows, send_all_grows, give_grows)
 
 pub call_again_grows : (at : Place) (o : Moving) → Grows o (call_again at o)
-unfolding send acts reply keeps makes call_again call_again_of
+unfolding send performs reply keeps reaches call_again call_again_of
 call_again_grows at o = grind (arith, front_same, front_more, front_after)
 
-pub resend_grows : (at : Place) (o : Moving) → Grows o (revoke_again at o)
-unfolding send acts reply keeps makes revoke_again revoke_again_of
-resend_grows at o = grind (arith, front_same, front_more, front_after, send_all_grows)
+pub revoke_again_grows : (at : Place) (o : Moving) → Grows o (revoke_again at o)
+unfolding send performs reply keeps reaches revoke_again revoke_again_of
+revoke_again_grows at o = grind (arith, front_same, front_more, front_after, send_all_grows)
 
 home_grows : (at : Place) (o p : Moving) → Grows o p → Grows o (at_home at p o)
 unfolding at_home
@@ -262,10 +262,10 @@ arrive_grows at rules n (msg.VDeleted db key rsn) o = home_grows at o _ (on_vdel
 arrive_grows at rules n _ o = grows_same o
 
 pub move_grows : (at : Place) (rules : Rules) (e : MoveEvent) (o : Moving) → Grows o (move at rules e o)
-unfolding store keeps reply acts
-move_grows at rules (event.Want call o_p) o = want_grows at rules call o_p o
+unfolding store keeps reply performs
+move_grows at rules (event.Want call asked) o = want_grows at rules call asked o
 move_grows at rules (event.Store call v) o = grind (arith, front_same, front_more)
 move_grows at rules (event.Unlock call) o = unlock_grows at call o
 move_grows at rules (event.Arrive sender m) o = arrive_grows at rules sender m o
 move_grows at rules (event.Vacuum others) o = vacuum_grows at others o
-move_grows at rules event.Resend o = grows_after o (call_again at o) _ (call_again_grows at o) (resend_grows at (call_again at o))
+move_grows at rules event.Resend o = grows_after o (call_again at o) _ (call_again_grows at o) (revoke_again_grows at (call_again at o))

@@ -4,5 +4,6 @@ pub mod Events
 pub mod Growing
 pub mod Tracking
 pub mod Names
-pub mod Sending
-pub mod Sound
+pub mod SentParts
+pub mod SentEvents
+pub mod LowCalls

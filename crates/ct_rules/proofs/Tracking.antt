@@ -15,8 +15,8 @@ use Rattle.ct_msg.specs.declared.client.ClientOp.{ClientOp}
 use Rattle.ct_msg.specs.declared.client.ClientOp.TheVariants as op
 use Rattle.ct_vacuum.specs.Vacuum.{Vacuuming, vacuum_begun, stored, deleted}
 use Rattle.ct_rules.specs.State.{is_nil, rsn_of, is_mastered, is_free, given, with_flags, with_value, risen, is_read_op, is_for_reading, value_of}
-use Rattle.ct_rules.specs.Parts.{Moving, acts, send, send_all, reply, keeps, makes, opened, open_of, end_vacuum, give, applies, satisfy, revoke, read_here, delegate, grant, yield_record, drain, drained, satisfy_own, raise, end_revocation, next, next_of, keep, call_for, wait_for_copies, want_of, opened_at_home, want}
-use Rattle.ct_rules.specs.Frames.{pass_again, enqueue, on_call_of, called, on_call, wait, handle, recalled, on_recall, hand_on, on_give_of, on_give, satisfy_wish, becomes, take, refuse, on_pass, on_refuse_of, on_refuse, reads, on_grant, on_done_of, on_done, called_in, acknowledge, on_revoke_of, on_revoke, acknowledged, on_revokeack, stored_copy, deleted_copy, on_vstore, on_vdelete, finish, on_vstored_of, on_vstored, on_vdeleted_of, on_vdeleted}
+use Rattle.ct_rules.specs.Parts.{Moving, performs, send, send_all, reply, keeps, reaches, opened, open_of, end_vacuum, give, applies, satisfy, revoke, read_here, delegate, grant, yield_record, drain, drained, satisfy_own, raise, end_revocation, next, next_of, keep, call_for, wait_for_copies, want_of, opened_at_home, want}
+use Rattle.ct_rules.specs.Messages.{pass_again, enqueue, on_call_of, called, on_call, wait, handle, recalled, on_recall, hand_on, on_give_of, on_give, satisfy_wish, becomes, accept, refuse, on_pass, on_refuse_of, on_refuse, read_granted, on_grant, on_done_of, on_done, called_in, acknowledge, renew, on_revoke_of, on_revoke, acknowledged, on_revokeack, stored_copy, deleted_copy, on_vstore, on_vdelete, finish, on_vstored_of, on_vstored, on_vdeleted_of, on_vdeleted}
 use Rattle.ct_rules.specs.Moves.{store, release, unlock, is_vacuumed, begin_vacuum, vacuum_at_home, vacuum, call_again_of, call_again, revoke_again_of, revoke_again, at_home, from_home, arrive, move}
 use Rattle.ct_rules.specs.Laws.{TracksAsHolder, KeepsTracking}
 use Rattle.ct_rules.specs.declared.event.MoveEvent.{MoveEvent}
@@ -38,7 +38,7 @@ if_tracks at true x y p q = p
 if_tracks at false x y p q = q
 
 send_tracks : (at : Place) (n : ℕ) (m : Msg) (o : Moving) → Tracks at o → Tracks at (send n m o)
-unfolding Tracks send acts
+unfolding Tracks send performs
 send_tracks at n m o h = h
 
 send_all_tracks : (at : Place) (ns : List ℕ) (m : Msg) (o : Moving) → Tracks at o → Tracks at (send_all ns m o)
@@ -47,11 +47,11 @@ send_all_tracks at [] m o h = h
 send_all_tracks at (n ∷ ns) m o h = send_all_tracks at ns m (send n m o) (send_tracks at n m o h)
 
 read_here_tracks : (at : Place) (request : ℕ) (o : Moving) (w : Option Wish) → Tracks at o → Tracks at (read_here at request o w)
-unfolding Tracks keeps reply acts read_here
+unfolding Tracks keeps reply performs read_here
 read_here_tracks at request o w h = grind (arith)
 
 delegate_tracks : (at : Place) (node request : ℕ) (o : Moving) → is_mastered at.me o.state.copy ≡ true → is_none o.state.vacuum ≡ true → Tracks at o → Tracks at (delegate at node request o)
-unfolding Tracks send acts reply keeps makes delegate is_mastered with_flags
+unfolding Tracks send performs reply keeps reaches delegate is_mastered with_flags
 delegate_tracks at node request o held still h = grind (arith)
 
 grant_tracks : (at : Place) (node request : ℕ) (o : Moving) → is_mastered at.me o.state.copy ≡ true → is_none o.state.vacuum ≡ true → Tracks at o → Tracks at (grant at node request o)
@@ -59,7 +59,7 @@ unfolding grant
 grant_tracks at node request o held still h = send_tracks at _ _ _ (if_tracks at _ _ _ (read_here_tracks at request o o.state.wish h) (delegate_tracks at node request o held still h))
 
 give_tracks : (at : Place) (o : Moving) → is_nil o.state.tracking.tracked ≡ true → Tracks at o → Tracks at (give at o)
-unfolding Tracks give send acts keeps given is_mastered
+unfolding Tracks give send performs keeps given is_mastered
 give_tracks at o none h = grind arith
 
 revoke_tracks : (at : Place) (o : Moving) → Tracks at o → Tracks at (revoke at o)
@@ -107,14 +107,14 @@ unfolding drained
 drained_tracks at o h = drain_tracks at o.state.waiting o h
 
 applies_tracks : (at : Place) (call : ℕ) (o : Moving) (r : Result (List ℕ) CallFault) → Tracks at o → Tracks at (applies call o r)
-unfolding Tracks applies reply acts keeps is_mastered with_value
+unfolding Tracks applies reply performs keeps is_mastered with_value
 applies_tracks at call o (Ok v) h = grind arith
 applies_tracks at call o (Err (fault.TooLong n)) h = h
 applies_tracks at call o (Err fault.NoSuchCall) h = h
 applies_tracks at call o (Err fault.NoMemory) h = h
 
-satisfy_tracks : (at : Place) (rules : Rules) (call : ℕ) (o_p : ClientOp) (o : Moving) → Tracks at o → Tracks at (satisfy rules call o_p o)
-unfolding Tracks satisfy reply acts keeps is_mastered with_value
+satisfy_tracks : (at : Place) (rules : Rules) (call : ℕ) (asked : ClientOp) (o : Moving) → Tracks at o → Tracks at (satisfy rules call asked o)
+unfolding Tracks satisfy reply performs keeps is_mastered with_value
 satisfy_tracks at rules call (op.Lock db key) o h = h
 satisfy_tracks at rules call (op.Read db key) o h = h
 satisfy_tracks at rules call (op.Write db key v) o h = grind arith
@@ -132,13 +132,13 @@ unfolding satisfy_own
 own_tracks at rules o None h = h
 own_tracks at rules o (Some w) h = if_tracks at _ _ _ (satisfy_tracks at rules w.call w.op _ (unwished_tracks at o h)) h
 
-take_of_tracks : (at : Place) (rules : Rules) (o : Moving) (w : Option Wish) → Tracks at o → Tracks at (satisfy_wish rules o w)
+satisfy_wish_tracks : (at : Place) (rules : Rules) (o : Moving) (w : Option Wish) → Tracks at o → Tracks at (satisfy_wish rules o w)
 unfolding satisfy_wish
-take_of_tracks at rules o None h = h
-take_of_tracks at rules o (Some w) h = satisfy_tracks at rules w.call w.op _ (unwished_tracks at o h)
+satisfy_wish_tracks at rules o None h = h
+satisfy_wish_tracks at rules o (Some w) h = satisfy_tracks at rules w.call w.op _ (unwished_tracks at o h)
 
 raise_tracks : (at : Place) (o : Moving) → Tracks at o → Tracks at (raise o)
-unfolding Tracks send acts reply keeps makes raise
+unfolding Tracks send performs reply keeps reaches raise
 raise_tracks at o h = grind (arith)
 
 end_revocation_tracks : (at : Place) (rules : Rules) (o : Moving) → Tracks at o → Tracks at (end_revocation at rules o)
@@ -146,11 +146,11 @@ unfolding end_revocation
 end_revocation_tracks at rules o h = drained_tracks at _ (own_tracks at rules (raise o) o.state.wish (raise_tracks at o h))
 
 next_tracks : (at : Place) (o : Moving) → Tracks at o → Tracks at (next at o)
-unfolding Tracks send acts reply keeps makes next next_of
+unfolding Tracks send performs reply keeps reaches next next_of
 next_tracks at o h = grind (arith)
 
 kept_tracks : (at : Place) (rsn : ℕ) (value : List ℕ) (o : Moving) → at.me ≡ at.lmaster → Tracks at o → Tracks at (keep at rsn value o)
-unfolding Tracks keeps makes keep is_mastered next next_of send acts
+unfolding Tracks keeps reaches keep is_mastered next next_of send performs
 kept_tracks at rsn value o home h = grind (arith)
 
 opened_tracks : (at : Place) (o : Moving) → at.me ≡ at.lmaster → Tracks at o → Tracks at (opened at o)
@@ -158,7 +158,7 @@ unfolding Tracks keeps opened open_of is_mastered
 opened_tracks at o home h = grind (arith)
 
 called_tracks : (at : Place) (n request : ℕ) (k : CallKind) (o : Moving) → Tracks at o → Tracks at (called at n request k o)
-unfolding Tracks send acts reply keeps makes called on_call_of pass_again enqueue next next_of
+unfolding Tracks send performs reply keeps reaches called on_call_of pass_again enqueue next next_of
 called_tracks at n request k o h = grind (arith)
 
 call_tracks : (at : Place) (n request : ℕ) (k : CallKind) (o : Moving) → at.me ≡ at.lmaster → Tracks at o → Tracks at (on_call at n request k o)
@@ -185,8 +185,8 @@ recall_tracks : (at : Place) (r : RecallNote) (o : Moving) → Tracks at o → T
 unfolding on_recall
 recall_tracks at r o h = if_tracks at _ _ _ h (recalled_tracks at r o h)
 
-handed_tracks : (at : Place) (e : Option Entry) (ws : List Waiter) (n : ℕ) (o : Moving) → Tracks at o → Tracks at (makes n (keeps (record o.state { entry = e; queue = ws }) o))
-unfolding Tracks keeps makes
+handed_tracks : (at : Place) (e : Option Entry) (ws : List Waiter) (n : ℕ) (o : Moving) → Tracks at o → Tracks at (reaches n (keeps (record o.state { entry = e; queue = ws }) o))
+unfolding Tracks keeps reaches
 handed_tracks at e ws n o h = h
 
 hand_on_tracks : (at : Place) (rsn : ℕ) (value : List ℕ) (o : Moving) (ws : List Waiter) → at.me ≡ at.lmaster → Tracks at o → Tracks at (hand_on at rsn value o ws)
@@ -213,23 +213,23 @@ unfolding on_refuse
 on_refuse_tracks at n request rsn o home h = refuse_of_tracks at n request rsn o o.state.entry home h
 
 becomes_tracks : (at : Place) (rsn : ℕ) (value : List ℕ) (o : Moving) → Tracks at o → Tracks at (becomes at rsn value o)
-unfolding Tracks keeps makes becomes
+unfolding Tracks keeps reaches becomes
 becomes_tracks at rsn value o h = grind (arith)
 
 pass_tracks : (at : Place) (rules : Rules) (request rsn : ℕ) (value : List ℕ) (o : Moving) → Tracks at o → Tracks at (on_pass at rules request rsn value o)
-unfolding on_pass take refuse
-pass_tracks at rules request rsn value o h = if_tracks at _ _ _ h (if_tracks at _ _ _ (drained_tracks at _ (take_of_tracks at rules _ _ (becomes_tracks at (rsn + 1) value o h))) (send_tracks at _ _ _ (waiting_tracks at [] o h)))
+unfolding on_pass accept refuse
+pass_tracks at rules request rsn value o h = if_tracks at _ _ _ h (if_tracks at _ _ _ (drained_tracks at _ (satisfy_wish_tracks at rules _ _ (becomes_tracks at (rsn + 1) value o h))) (send_tracks at _ _ _ (waiting_tracks at [] o h)))
 
 on_grant_tracks : (at : Place) (n request rsn : ℕ) (value : List ℕ) (o : Moving) → Tracks at o → Tracks at (on_grant at n request rsn value o)
-unfolding Tracks send acts reply keeps makes on_grant reads
+unfolding Tracks send performs reply keeps reaches on_grant read_granted
 on_grant_tracks at n request rsn value o h = grind (arith)
 
 on_done_tracks : (at : Place) (n request : ℕ) (o : Moving) → Tracks at o → Tracks at (on_done at n request o)
-unfolding Tracks send acts reply keeps makes on_done on_done_of next next_of
+unfolding Tracks send performs reply keeps reaches on_done on_done_of next next_of
 on_done_tracks at n request o h = grind (arith)
 
 on_revoke_tracks : (at : Place) (n rsn : ℕ) (o : Moving) → Tracks at o → Tracks at (on_revoke at n rsn o)
-unfolding Tracks send acts reply keeps makes on_revoke on_revoke_of acknowledge called_in is_mastered
+unfolding Tracks send performs reply keeps reaches on_revoke renew on_revoke_of acknowledge called_in is_mastered
 on_revoke_tracks at n rsn o h = grind (arith)
 
 acknowledged_tracks : (at : Place) (n rsn : ℕ) (o : Moving) → Tracks at o → Tracks at (acknowledged n rsn o)
@@ -241,15 +241,15 @@ unfolding on_revokeack
 on_revokeack_tracks at rules n rsn o h = if_tracks at _ _ _ (end_revocation_tracks at rules _ (acknowledged_tracks at n rsn o h)) (acknowledged_tracks at n rsn o h)
 
 on_vstore_tracks : (at : Place) (n rsn : ℕ) (o : Moving) → Tracks at o → Tracks at (on_vstore at n rsn o)
-unfolding Tracks send acts reply keeps makes on_vstore stored_copy is_mastered
+unfolding Tracks send performs reply keeps reaches on_vstore stored_copy is_mastered
 on_vstore_tracks at n rsn o h = grind (arith)
 
 on_vdelete_tracks : (at : Place) (n rsn : ℕ) (o : Moving) → Tracks at o → Tracks at (on_vdelete at n rsn o)
-unfolding Tracks send acts reply keeps makes on_vdelete deleted_copy is_mastered
+unfolding Tracks send performs reply keeps reaches on_vdelete deleted_copy is_mastered
 on_vdelete_tracks at n rsn o h = grind (arith)
 
 finish_tracks : (at : Place) (rsn : ℕ) (o : Moving) → is_nil o.state.tracking.tracked ≡ true → Tracks at o → Tracks at (finish rsn o)
-unfolding Tracks send acts reply keeps makes finish
+unfolding Tracks send performs reply keeps reaches finish
 finish_tracks at rsn o none h = grind (arith)
 
 vacuuming_tracks : (at : Place) (v : Vacuuming) (o : Moving) → is_none o.state.vacuum ≡ false → Tracks at o → Tracks at (keeps (record o.state { vacuum = Some v }) o)
@@ -270,29 +270,29 @@ unfolding on_vdeleted_of
 vdeleted_of_tracks at n rsn o None is h = h
 vdeleted_of_tracks at n rsn o (Some v) is h = if_tracks at _ _ _ (finish_tracks at rsn o (running_untracked at o v is h) h) (vacuuming_tracks at (deleted n rsn v) o (ap (λ (x : Option Vacuuming). is_none x) is) h)
 
-call_for_tracks : (at : Place) (call : ℕ) (o_p : ClientOp) (o : Moving) → Tracks at o → Tracks at (call_for at call o_p o)
-unfolding Tracks send acts reply keeps makes call_for
-call_for_tracks at call o_p o h = grind (arith)
+call_for_tracks : (at : Place) (call : ℕ) (asked : ClientOp) (o : Moving) → Tracks at o → Tracks at (call_for at call asked o)
+unfolding Tracks send performs reply keeps reaches call_for
+call_for_tracks at call asked o h = grind (arith)
 
 own_wish_tracks : (at : Place) (w : Wish) (o : Moving) → Tracks at o → Tracks at (keeps (record o.state { wish = Some w }) o)
 unfolding Tracks keeps
 own_wish_tracks at w o h = h
 
-wait_for_tracks : (at : Place) (call : ℕ) (o_p : ClientOp) (o : Moving) → Tracks at o → Tracks at (wait_for_copies at call o_p o)
+wait_for_tracks : (at : Place) (call : ℕ) (asked : ClientOp) (o : Moving) → Tracks at o → Tracks at (wait_for_copies at call asked o)
 unfolding wait_for_copies
-wait_for_tracks at call o_p o h = (let k = own_wish_tracks at (record { call = call; request = 0; op = o_p }) o h in if_tracks at _ _ _ (revoke_tracks at _ k) k)
+wait_for_tracks at call asked o h = (let k = own_wish_tracks at (record { call = call; request = 0; op = asked }) o h in if_tracks at _ _ _ (revoke_tracks at _ k) k)
 
 reply_tracks : (at : Place) (call : ℕ) (a : Answer) (o : Moving) → Tracks at o → Tracks at (reply call a o)
-unfolding Tracks reply acts
+unfolding Tracks reply performs
 reply_tracks at call a o h = h
 
-want_of_tracks : (at : Place) (rules : Rules) (call : ℕ) (o_p : ClientOp) (o : Moving) → Tracks at o → Tracks at (want_of at rules call o_p o)
+want_of_tracks : (at : Place) (rules : Rules) (call : ℕ) (asked : ClientOp) (o : Moving) → Tracks at o → Tracks at (want_of at rules call asked o)
 unfolding want_of
-want_of_tracks at rules call o_p o h = if_tracks at (is_read_op o_p && (is_mastered at.me o.state.copy || is_for_reading o.state.copy)) _ _
+want_of_tracks at rules call asked o h = if_tracks at (is_read_op asked && (is_mastered at.me o.state.copy || is_for_reading o.state.copy)) _ _
     (reply_tracks at call (answer.Read (value_of o.state.copy)) o h)
     (if_tracks at (is_mastered at.me o.state.copy) _ _
-    (if_tracks at (is_nil o.state.tracking.tracked) _ _ (satisfy_tracks at rules call o_p o h) (wait_for_tracks at call o_p o h))
-    (call_for_tracks at call o_p o h))
+    (if_tracks at (is_nil o.state.tracking.tracked) _ _ (satisfy_tracks at rules call asked o h) (wait_for_tracks at call asked o h))
+    (call_for_tracks at call asked o h))
 
 opened_home_tracks : (at : Place) (o : Moving) → Tracks at o → Tracks at (opened_at_home at o)
 unfolding opened_at_home
@@ -300,24 +300,24 @@ opened_home_tracks at o h = cond_both (nat_eq at.me at.lmaster && is_none o.stat
     (λ t. ended_tracks at (opened at o) (opened_tracks at o (eqb-true at.me at.lmaster (and_parts (nat_eq at.me at.lmaster) (is_none o.state.locked) t).0) h))
     (λ _. h)
 
-pub want_tracks : (at : Place) (rules : Rules) (call : ℕ) (o_p : ClientOp) (o : Moving) → Tracks at o → Tracks at (want at rules call o_p o)
+pub want_tracks : (at : Place) (rules : Rules) (call : ℕ) (asked : ClientOp) (o : Moving) → Tracks at o → Tracks at (want at rules call asked o)
 unfolding want
-want_tracks at rules call o_p o h = want_of_tracks at rules call o_p _ (opened_home_tracks at o h)
+want_tracks at rules call asked o h = want_of_tracks at rules call asked _ (opened_home_tracks at o h)
 
 pub store_tracks : (at : Place) (call : ℕ) (v : List ℕ) (o : Moving) → Tracks at o → Tracks at (store call v o)
-unfolding Tracks send acts reply keeps makes store is_mastered with_value
+unfolding Tracks send performs reply keeps reaches store is_mastered with_value
 store_tracks at call v o h = grind (arith)
 
 pub release_tracks : (at : Place) (call : ℕ) (o : Moving) → Tracks at o → Tracks at (release call o)
-unfolding Tracks send acts reply keeps makes release
+unfolding Tracks send performs reply keeps reaches release
 release_tracks at call o h = grind (arith)
 
 vacuumed_untracked : (me : ℕ) (s : RecState) → is_vacuumed me s ≡ true → (is_nil s.tracking.tracked ≡ true) × (is_mastered me s.copy ≡ true)
 unfolding is_vacuumed is_free
 vacuumed_untracked me s t = (grind arith, grind arith)
 
-begun_tracks : (at : Place) (ns : List ℕ) (o : Moving) → is_nil o.state.tracking.tracked ≡ true → Tracks at o → Tracks at (makes (rsn_of o.state.copy + 1) (keeps (record o.state { copy = risen o.state.copy; vacuum = Some (vacuum_begun (rsn_of o.state.copy) ns) }) o))
-unfolding Tracks makes keeps
+begun_tracks : (at : Place) (ns : List ℕ) (o : Moving) → is_nil o.state.tracking.tracked ≡ true → Tracks at o → Tracks at (reaches (rsn_of o.state.copy + 1) (keeps (record o.state { copy = risen o.state.copy; vacuum = Some (vacuum_begun (rsn_of o.state.copy) ns) }) o))
+unfolding Tracks reaches keeps
 begun_tracks at ns o none h = grind arith
 
 begin_tracks : (at : Place) (o : Moving) (others : List ℕ) → is_nil o.state.tracking.tracked ≡ true → Tracks at o → Tracks at (begin_vacuum at o others)
@@ -373,7 +373,7 @@ arrive_tracks at rules n _ o h = h
 
 pub move_tracks : (at : Place) (rules : Rules) (e : MoveEvent) (o : Moving) → Tracks at o → Tracks at (move at rules e o)
 unfolding unlock revoke_again call_again
-move_tracks at rules (event.Want call o_p) o h = want_tracks at rules call o_p o h
+move_tracks at rules (event.Want call asked) o h = want_tracks at rules call asked o h
 move_tracks at rules (event.Store call v) o h = store_tracks at call v o h
 move_tracks at rules (event.Unlock call) o h = drained_tracks at _ (release_tracks at call o h)
 move_tracks at rules (event.Arrive sender m) o h = arrive_tracks at rules sender m o h

@@ -1,5 +1,5 @@
 -- States that can stand at a place, and what keeps them so.
-use Rattle.std.specs.Prelude.{◌≡◌, ◌≢◌, ℕ, ◌<◌, ◌≤◌, ◌^◌, Bool, true, false, ◌&&◌, List, Contains, Option, None, Some, is_none, is_some}
+use Rattle.std.specs.Prelude.{◌≡◌, ◌≢◌, ℕ, ◌<◌, ◌≤◌, ◌^◌, Bool, true, false, ◌&&◌, List, Option, None, Some, is_none, is_some}
 use Rattle.std.specs.List.{list_all}
 use Rattle.std.specs.List.Sorted.{IsStrictlyIncreasing}
 use Rattle.ct_msg.specs.declared.client.ClientOp.{ClientOp}
@@ -35,6 +35,16 @@ sent_for (Some e) = e.request
 unfoldable pub wished_as : Option Wish → ℕ
 wished_as None = 0
 wished_as (Some w) = w.request
+
+-- the number of the call that waits, 0 where none does
+unfoldable pub wishing_call : Option Wish → ℕ
+wishing_call None = 0
+wishing_call (Some w) = w.call
+
+-- the number of the call that has the lock, 0 where none has
+unfoldable pub locking_call : Option ℕ → ℕ
+locking_call None = 0
+locking_call (Some call) = call
 
 -- the RSN of the revocation that runs, 0 where none does
 unfoldable pub revoked_rsn : Option Revocation → ℕ
@@ -100,8 +110,8 @@ pub record HasShape (at : Place) (copy : Option RecCopy) (entry : Option Entry) 
   -- so are those of the recalls that wait, whose leasts are below 2^62
   pub waiting_recalled : list_all is_recalled waiting ≡ true
 
--- all other numbers are below 2^62: the RSN of the copy, the entry's least and request, the RSNs of the revocation and of
--- the vacuum, and the request of the wish
+-- these numbers are below 2^62: the RSN of the copy, the entry's least and request, the RSNs of the revocation and of the
+-- vacuum, and the request of the wish
 pub record HasNumbers (copy : Option RecCopy) (entry : Option Entry) (tracking : Tracked) (vacuum : Option Vacuuming) (wish : Option Wish) : Type 0 where
   pub copy_limit : rsn_of copy < 2 ^ 62
   pub least_limit : least_of entry < 2 ^ 62
@@ -110,10 +120,27 @@ pub record HasNumbers (copy : Option RecCopy) (entry : Option Entry) (tracking :
   pub vacuum_limit : vacuumed_rsn vacuum < 2 ^ 62
   pub wish_limit : wished_as wish < 2 ^ 62
 
--- a state is in form at a place
-pub record IsInForm (at : Place) (s : RecState) : Type 0 where
+-- the numbers of the node that the rule reads: the next request number is at least 1, and as the floor below 2^62
+pub record HasCounters (next floor : ℕ) : Type 0 where
+  pub from_one : 1 ≤ next
+  pub next_limit : next < 2 ^ 62
+  pub floor_limit : floor < 2 ^ 62
+
+-- a state is in form at a place of a node with this next request number
+pub record IsInForm (at : Place) (next : ℕ) (s : RecState) : Type 0 where
   pub shape : HasShape at s.copy s.entry s.queue s.waiting s.tracking s.vacuum s.locked s.wish
   pub numbers : HasNumbers s.copy s.entry s.tracking s.vacuum s.wish
+  pub counters : HasCounters next at.floor
+
+-- the calls of the lock and of the wish have numbers below 2^62
+pub record HasLowCalls (locked : Option ℕ) (wish : Option Wish) : Type 0 where
+  pub lock_limit : locking_call locked < 2 ^ 62
+  pub wish_limit : wishing_call wish < 2 ^ 62
+
+-- so has the call that wants the record, where the event is one
+unfoldable pub CallsLow : MoveEvent → Type 0
+CallsLow (event.Want call asked) = call < 2 ^ 62
+CallsLow _ = Unit {0}
 
 -- the messages that speak of one record
 unfoldable pub is_of_record : Msg → Bool
@@ -134,19 +161,17 @@ is_of_record _ = false
 
 -- an event may come to a state. A call that wants the record finds no other call that waits, and none but a read comes
 -- under the lock; only who has the lock stores and unlocks; a message speaks of a record and keeps the rules of its
--- fields; the nodes that a vacuum asks ascend, and this node is none of them
-abbrev pub MayCome : Place → RecState → MoveEvent → Type 0
-MayCome at s (event.Want call o_p) = (is_wanting o_p ≡ true) × (s.wish ≡ None) × (is_read_op o_p ≡ false → s.locked ≡ None)
-MayCome at s (event.Store call v) = is_some s.locked ≡ true
-MayCome at s (event.Unlock call) = is_some s.locked ≡ true
-MayCome at s (event.Arrive sender m) = (is_of_record m ≡ true) × (is_message sender m ≡ true)
-MayCome at s (event.Vacuum others) = IsStrictlyIncreasing others × ¬ (Contains others at.me)
-MayCome at s event.Resend = Unit {0}
+-- fields; the nodes that a vacuum asks ascend
+abbrev pub MayCome : RecState → MoveEvent → Type 0
+MayCome s (event.Want call asked) = (is_wanting asked ≡ true) × (s.wish ≡ None) × (is_read_op asked ≡ false → s.locked ≡ None)
+MayCome s (event.Store call v) = is_some s.locked ≡ true
+MayCome s (event.Unlock call) = is_some s.locked ≡ true
+MayCome s (event.Arrive sender m) = (is_of_record m ≡ true) × (is_message sender m ≡ true)
+MayCome s (event.Vacuum others) = IsStrictlyIncreasing others
+MayCome s event.Resend = Unit {0}
 
 -- what a whole step leaves: a state in form, a next request number that is not smaller, a floor that is not smaller
 pub record IsAfter (at : Place) (next : ℕ) (o : Moving) : Type 0 where
-  pub form : IsInForm at o.state
+  pub form : IsInForm (record at { floor = o.floor }) o.next o.state
   pub next_rises : next ≤ o.next
-  pub next_limit : o.next < 2 ^ 62
   pub floor_rises : at.floor ≤ o.floor
-  pub floor_limit : o.floor < 2 ^ 62

@@ -1,5 +1,5 @@
 -- What follows for the rules of one record.
-use Rattle.std.specs.Prelude.{◌≡◌, ℕ, ◌<◌, ◌≤◌, ◌^◌, true, false, List, ◌++◌, Option, Some, is_none}
+use Rattle.std.specs.Prelude.{◌≡◌, ℕ, ◌≤◌, true, false, List, ◌++◌, Option, Some, is_none}
 use Rattle.ct_call.specs.Rules.{Rules}
 use Rattle.ct_frame.specs.declared.frame.Msg.{Msg}
 use Rattle.ct_frame.specs.declared.frame.Msg.TheVariants as msg
@@ -9,26 +9,33 @@ use Rattle.ct_vacuum.specs.Vacuum.{Vacuuming}
 use Rattle.ct_rules.specs.State.{nothing_kept, is_nil, is_mastered}
 use Rattle.ct_rules.specs.Parts.{Moving}
 use Rattle.ct_rules.specs.Moves.{arrive, move, moved}
-use Rattle.ct_rules.specs.Form.{IsInForm, MayCome, IsAfter}
-use Rattle.ct_rules.specs.declared.event.Act.{Act}
+use Rattle.ct_rules.specs.Form.{HasCounters, HasLowCalls, CallsLow, IsInForm, MayCome, IsAfter}
 use Rattle.ct_rules.specs.declared.event.MoveEvent.{MoveEvent}
 use Rattle.ct_rules.specs.declared.event.Place.{Place}
 use Rattle.ct_rules.specs.declared.state.RecState.{RecState}
 
--- a state in which nothing is kept is in form at every place
+-- a state in which nothing is kept is in form at every place, whatever the numbers of the node are
 abbrev pub StartsInForm : Type 0
-StartsInForm = (at : Place) → IsInForm at nothing_kept
+StartsInForm = (at : Place) (next : ℕ) → HasCounters next at.floor → IsInForm at next nothing_kept
 
--- a state in form stays in form: whatever may come to it, if no number reaches 2^62, leaves it so, with a next request
--- number and a floor that are not smaller, and below 2^62
+-- a state in form stays in form: whatever may come to it, if no number reaches 2^62, leaves it so, under a next request
+-- number and a floor that are not smaller
 abbrev pub KeepsForm : Type 0
 KeepsForm = (at : Place) (rules : Rules) (e : MoveEvent) (s : RecState) (next : ℕ) (o : Moving) →
-    IsInForm at s → next < 2 ^ 62 → at.floor < 2 ^ 62 → MayCome at s e →
+    IsInForm at next s → MayCome s e →
     moved at rules e s next ≡ Some o → IsAfter at next o
 
+-- the calls of the lock and of the wish keep numbers below 2^62, whatever comes; and so they begin
+abbrev pub KeepsCallsLow : Type 0
+KeepsCallsLow = (at : Place) (rules : Rules) (e : MoveEvent) (o : Moving) →
+    CallsLow e → HasLowCalls o.state.locked o.state.wish → HasLowCalls (move at rules e o).state.locked (move at rules e o).state.wish
+
+abbrev pub StartsWithLowCalls : Type 0
+StartsWithLowCalls = HasLowCalls nothing_kept.locked nothing_kept.wish
+
 -- the first list is a front of the second
-unfoldable pub IsFront : List Act → List Act → Type 0
-IsFront before after = (more : List Act) × (after ≡ before ++ more)
+unfoldable pub IsFront : {X : Type 0} → List X → List X → Type 0
+IsFront {X} before after = (more : List X) × (after ≡ before ++ more)
 
 -- what grows alone: the next request number, the floor, what was spent, and what is done
 pub record Grows (o p : Moving) : Type 0 where

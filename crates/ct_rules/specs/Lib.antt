@@ -1,6 +1,6 @@
 pub mod State
 pub mod Parts
-pub mod Frames
+pub mod Messages
 pub mod Moves
 pub mod Form
 pub mod Laws

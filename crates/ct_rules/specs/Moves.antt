@@ -9,8 +9,8 @@ use Rattle.ct_vacuum.specs.Vacuum.{Vacuuming, vacuum_begun}
 use Rattle.ct_vacuum.specs.declared.vacuum.VacuumPhase.{VacuumPhase}
 use Rattle.ct_vacuum.specs.declared.vacuum.VacuumPhase.TheVariants.{Storing, Deleting}
 use Rattle.ct_rules.specs.State.{is_nil, rsn_of, value_of, with_value, risen, is_free, kind_of}
-use Rattle.ct_rules.specs.Parts.{Moving, send, send_all, reply, keeps, makes, give, drained, want}
-use Rattle.ct_rules.specs.Frames.{on_call, on_recall, on_give, on_pass, on_refuse, on_grant, on_done, on_revoke, on_revokeack, on_vstore, on_vstored, on_vdelete, on_vdeleted, finish}
+use Rattle.ct_rules.specs.Parts.{Moving, send, send_all, reply, keeps, reaches, give, drained, want}
+use Rattle.ct_rules.specs.Messages.{on_call, on_recall, on_give, on_pass, on_refuse, on_grant, on_done, on_revoke, on_revokeack, on_vstore, on_vstored, on_vdelete, on_vdeleted, finish}
 use Rattle.ct_rules.specs.declared.state.RecState.{RecState}
 use Rattle.ct_rules.specs.declared.state.Wish.{Wish}
 use Rattle.ct_rules.specs.declared.event.MoveEvent.{MoveEvent}
@@ -21,11 +21,15 @@ use Rattle.ct_rules.specs.declared.event.Place.{Place}
 
 -- Store: the value is set
 unfoldable pub store : ℕ → List ℕ → Moving → Moving
-store call v o = reply call answer.Stored (keeps (record o.state { copy = with_value v o.state.copy }) o)
+store call v o =
+    let o' = keeps (record o.state { copy = with_value v o.state.copy }) o in
+    reply call answer.Stored o'
 
 -- Unlock: the lock ends
 unfoldable pub release : ℕ → Moving → Moving
-release call o = reply call answer.Unlocked (keeps (record o.state { locked = None }) o)
+release call o =
+    let o' = keeps (record o.state { locked = None }) o in
+    reply call answer.Unlocked o'
 
 -- Unlock at a node that serves: the lock ends, and then Drain
 unfoldable pub unlock : Place → ℕ → Moving → Moving
@@ -45,10 +49,10 @@ phase_message at rsn Deleting = msg.VDelete at.db at.key rsn
 -- Vacuum: it begins in the phase Storing; with no other member Finish
 unfoldable pub begin_vacuum : Place → Moving → List ℕ → Moving
 begin_vacuum at o [] = finish (rsn_of o.state.copy) o
-begin_vacuum at o (n ∷ ns) = send_all (n ∷ ns) (msg.VStore at.db at.key (rsn_of o.state.copy)) (makes (rsn_of o.state.copy + 1) (keeps (record o.state {
-  copy = risen o.state.copy;
-  vacuum = Some (vacuum_begun (rsn_of o.state.copy) (n ∷ ns));
-}) o))
+begin_vacuum at o (n ∷ ns) =
+    let rsn = rsn_of o.state.copy in
+    let o' = keeps (record o.state { copy = risen o.state.copy; vacuum = Some (vacuum_begun rsn (n ∷ ns)) }) o in
+    send_all (n ∷ ns) (msg.VStore at.db at.key rsn) (reaches (rsn + 1) o')
 
 -- Vacuum at L: one that runs asks the missing nodes again, and else one begins
 unfoldable pub vacuum_at_home : Place → List ℕ → Moving → Option Vacuuming → Moving
@@ -113,7 +117,7 @@ arrive at rules n _ o = o
 
 -- the rule of one record: what comes of each event
 abbrev pub move : Place → Rules → MoveEvent → Moving → Moving
-move at rules (event.Want call o_p) o = want at rules call o_p o
+move at rules (event.Want call asked) o = want at rules call asked o
 move at rules (event.Store call v) o = store call v o
 move at rules (event.Unlock call) o = unlock at call o
 move at rules (event.Arrive sender m) o = arrive at rules sender m o

@@ -13,7 +13,7 @@ use Rattle.ct_call.specs.Table.{applied}
 use Rattle.ct_call.specs.declared.fault.CallFault.{CallFault}
 use Rattle.ct_call.specs.declared.fault.CallFault.TheVariants as fault
 use Rattle.ct_deleg.specs.Tracked.{untracked, added, revocation_begun}
-use Rattle.ct_rules.specs.State.{is_nil, plain, delegated, being_revoked, a_copy, rsn_of, value_of, is_mastered, is_for_reading, with_value, with_flags, raised, given, is_quiet, is_free, is_read_op, is_read_kind, kind_of, is_wished}
+use Rattle.ct_rules.specs.State.{is_nil, plain, delegated, being_revoked, a_copy, rsn_of, value_of, is_mastered, is_for_reading, with_value, with_flags, risen, given, is_quiet, is_free, is_read_op, is_read_kind, kind_of, is_wished}
 use Rattle.ct_rules.specs.declared.state.Entry.{Entry}
 use Rattle.ct_rules.specs.declared.state.RecState.{RecState}
 use Rattle.ct_rules.specs.declared.state.RecallNote.{RecallNote}
@@ -32,12 +32,12 @@ pub record Moving : Type 0 where
   pub spent : Bool
 
 -- this is done after all else
-unfoldable pub acts : Act → Moving → Moving
-acts a o = record o { acts = o.acts ++ a ∷ [] }
+unfoldable pub performs : Act → Moving → Moving
+performs a o = record o { acts = o.acts ++ a ∷ [] }
 
 -- a message is sent
 unfoldable pub send : ℕ → Msg → Moving → Moving
-send receiver m o = acts (act.Send receiver m) o
+send receiver m o = performs (act.Send receiver m) o
 
 -- the same message to several nodes, in order
 unfoldable pub send_all : List ℕ → Msg → Moving → Moving
@@ -46,15 +46,15 @@ send_all (n ∷ ns) m o = send_all ns m (send n m o)
 
 -- a client's call is answered
 unfoldable pub reply : ℕ → Answer → Moving → Moving
-reply call a o = acts (act.Answer call a) o
+reply call a o = performs (act.Answer call a) o
 
 -- the step goes on with this state
 unfoldable pub keeps : RecState → Moving → Moving
 keeps s o = record o { state = s }
 
--- Numbers: this number is made; where it reaches 2^62 the whole step is refused
-unfoldable pub makes : ℕ → Moving → Moving
-makes n o = record o { spent = o.spent || nat_le (2 ^ 62) n }
+-- Numbers: this number is reached; where it is 2^62 or more the whole step is refused
+unfoldable pub reaches : ℕ → Moving → Moving
+reaches n o = record o { spent = o.spent || nat_le (2 ^ 62) n }
 
 -- Open: where there is no entry the record is made, under the floor's RSN
 unfoldable pub open_of : Place → Moving → Option Entry → Moving
@@ -74,52 +74,56 @@ end_vacuum o = keeps (record o.state { vacuum = None }) o
 
 -- Satisfy a function, which answered this
 unfoldable pub applies : ℕ → Moving → Result (List ℕ) CallFault → Moving
-applies call o (Ok v) = reply call (answer.Applied v) (keeps (record o.state { copy = with_value v o.state.copy }) o)
+applies call o (Ok v) =
+    let o' = keeps (record o.state { copy = with_value v o.state.copy }) o in
+    reply call (answer.Applied v) o'
 applies call o (Err (fault.TooLong n)) = reply call (answer.Refused (why.TooLong n)) o
 applies call o (Err fault.NoSuchCall) = reply call (answer.Refused why.NoSuchCall) o
 applies call o (Err fault.NoMemory) = o
 
 -- Satisfy: what a call asks is done at the holder, and answered
 unfoldable pub satisfy : Rules → ℕ → ClientOp → Moving → Moving
-satisfy rules call (op.Lock db key) o = reply call (answer.Locked (value_of o.state.copy)) (keeps (record o.state { locked = Some call }) o)
+satisfy rules call (op.Lock db key) o =
+    let o' = keeps (record o.state { locked = Some call }) o in
+    reply call (answer.Locked (value_of o.state.copy)) o'
 satisfy rules call (op.Read db key) o = reply call (answer.Read (value_of o.state.copy)) o
-satisfy rules call (op.Write db key v) o = reply call answer.Written (keeps (record o.state { copy = with_value v o.state.copy }) o)
+satisfy rules call (op.Write db key v) o =
+    let o' = keeps (record o.state { copy = with_value v o.state.copy }) o in
+    reply call answer.Written o'
 satisfy rules call (op.Apply db key f arg) o = applies call o (applied f (value_of o.state.copy) arg rules)
 satisfy rules call _ o = o
 
 -- Revoke: all copies for reading are called in
 unfoldable pub revoke : Place → Moving → Moving
-revoke at o = send_all o.state.tracking.tracked (msg.Revoke at.db at.key (rsn_of o.state.copy)) (keeps (record o.state {
-  copy = with_flags being_revoked o.state.copy;
-  tracking = revocation_begun (rsn_of o.state.copy) o.state.tracking;
-}) o)
+revoke at o =
+    let rsn = rsn_of o.state.copy in
+    let o' = keeps (record o.state { copy = with_flags being_revoked o.state.copy; tracking = revocation_begun rsn o.state.tracking }) o in
+    send_all o.state.tracking.tracked (msg.Revoke at.db at.key rsn) o'
 
 -- Give: the record goes back to its location master
 unfoldable pub give : Place → Moving → Moving
-give at o = send at.lmaster (msg.Give at.db at.key (rsn_of o.state.copy) (value_of o.state.copy)) (keeps (record o.state {
-  copy = given o.state.copy;
-  waiting = [];
-}) o)
+give at o =
+    let o' = keeps (record o.state { copy = given o.state.copy; waiting = [] }) o in
+    send at.lmaster (msg.Give at.db at.key (rsn_of o.state.copy) (value_of o.state.copy)) o'
 
--- Handle a recall of kind Read for this node: a wish with its request is answered
+-- Handle a recall of kind Read for this node: a wish with its request is cleared and answered
 unfoldable pub read_here : Place → ℕ → Moving → Option Wish → Moving
 read_here at request o None = o
 read_here at request o (Some w) =
-    if is_wished at.readonly request kind.Read (Some w)
-    then reply w.call (answer.Read (value_of o.state.copy)) (keeps (record o.state { wish = None }) o)
-    else o
+    let o' = keeps (record o.state { wish = None }) o in
+    if is_wished at.readonly request kind.Read (Some w) then reply w.call (answer.Read (value_of o.state.copy)) o' else o
 
 -- Handle a recall of kind Read for another node: it is tracked and gets a Grant
 unfoldable pub delegate : Place → ℕ → ℕ → Moving → Moving
-delegate at node request o = send node (msg.Grant at.db at.key request (rsn_of o.state.copy) (value_of o.state.copy)) (keeps (record o.state {
-  copy = with_flags delegated o.state.copy;
-  tracking = added node o.state.tracking;
-}) o)
+delegate at node request o =
+    let o' = keeps (record o.state { copy = with_flags delegated o.state.copy; tracking = added node o.state.tracking }) o in
+    send node (msg.Grant at.db at.key request (rsn_of o.state.copy) (value_of o.state.copy)) o'
 
 -- Handle a recall of kind Read: the copy or the answer, and then Done
 unfoldable pub grant : Place → ℕ → ℕ → Moving → Moving
-grant at node request o = send at.lmaster (msg.Done at.db at.key node request)
-    (if nat_eq node at.me then read_here at request o o.state.wish else delegate at node request o)
+grant at node request o =
+    let o' = if nat_eq node at.me then read_here at request o o.state.wish else delegate at node request o in
+    send at.lmaster (msg.Done at.db at.key node request) o'
 
 -- Handle a recall of kind Lock, the first that waits: Revoke while nodes are tracked, and else Give
 unfoldable pub yield_record : Place → Moving → Moving
@@ -146,11 +150,15 @@ satisfy_own rules o (Some w) = if w.request == 0 then satisfy rules w.call w.op 
 
 -- End of revocation: the next RSN, no flags, nothing tracked
 unfoldable pub raise : Moving → Moving
-raise o = makes (rsn_of o.state.copy + 1) (keeps (record o.state { copy = raised o.state.copy; tracking = untracked }) o)
+raise o =
+    let o' = keeps (record o.state { copy = with_flags plain (risen o.state.copy); tracking = untracked }) o in
+    reaches (rsn_of o.state.copy + 1) o'
 
 -- End of revocation: the next RSN, then the own wish, then Drain
 unfoldable pub end_revocation : Place → Rules → Moving → Moving
-end_revocation at rules o = drained at (satisfy_own rules (raise o) o.state.wish)
+end_revocation at rules o =
+    let o' = satisfy_own rules (raise o) o.state.wish in
+    drained at o'
 
 -- Next, with the entry and the queue
 unfoldable pub next_of : Place → Moving → Option Entry → List Waiter → Moving
@@ -164,32 +172,36 @@ next at o = next_of at o o.state.entry o.state.queue
 
 -- Keep: the location master has the record itself, and then Next
 unfoldable pub keep : Place → ℕ → List ℕ → Moving → Moving
-keep at rsn value o = next at (makes rsn (keeps (record o.state {
-  entry = Some (record { holder = at.lmaster; least = rsn; request = 0; value = value });
-  copy = Some (a_copy rsn at.lmaster plain value);
-}) o))
+keep at rsn value o =
+    let o' = keeps (record o.state {
+      entry = Some (record { holder = at.lmaster; least = rsn; request = 0; value = value });
+      copy = Some (a_copy rsn at.lmaster plain value);
+    }) o in
+    next at (reaches rsn o')
 
--- Want: L gets a Call under the next request number
+-- Want: the call waits under the next request number, and L gets a Call
 unfoldable pub call_for : Place → ℕ → ClientOp → Moving → Moving
-call_for at call o_p o = send at.lmaster (msg.Call at.db at.key o.next (kind_of at.readonly o_p)) (makes (o.next + 1) (record o {
-  state = record o.state { wish = Some (record { call = call; request = o.next; op = o_p }) };
-  next = o.next + 1;
-}))
+call_for at call asked o =
+    let o' = record o {
+      state = record o.state { wish = Some (record { call = call; request = o.next; op = asked }) };
+      next = o.next + 1;
+    } in
+    send at.lmaster (msg.Call at.db at.key o.next (kind_of at.readonly asked)) (reaches (o.next + 1) o')
 
 -- Want: the holder's own wish waits for the end of a revocation, which begins unless it runs
 unfoldable pub wait_for_copies : Place → ℕ → ClientOp → Moving → Moving
-wait_for_copies at call o_p o =
-    let o' = keeps (record o.state { wish = Some (record { call = call; request = 0; op = o_p }) }) o in
+wait_for_copies at call asked o =
+    let o' = keeps (record o.state { wish = Some (record { call = call; request = 0; op = asked }) }) o in
     if is_quiet o.state.tracking then revoke at o' else o'
 
 -- Want, once the location master has an entry
 unfoldable pub want_of : Place → Rules → ℕ → ClientOp → Moving → Moving
-want_of at rules call o_p o =
-    if is_read_op o_p && (is_mastered at.me o.state.copy || is_for_reading o.state.copy)
+want_of at rules call asked o =
+    if is_read_op asked && (is_mastered at.me o.state.copy || is_for_reading o.state.copy)
     then reply call (answer.Read (value_of o.state.copy)) o
     else (if is_mastered at.me o.state.copy
-    then (if is_nil o.state.tracking.tracked then satisfy rules call o_p o else wait_for_copies at call o_p o)
-    else call_for at call o_p o)
+    then (if is_nil o.state.tracking.tracked then satisfy rules call asked o else wait_for_copies at call asked o)
+    else call_for at call asked o)
 
 -- Want: at L, unless the record is locked, Open, and a vacuum ends
 unfoldable pub opened_at_home : Place → Moving → Moving
@@ -197,4 +209,4 @@ opened_at_home at o = if nat_eq at.me at.lmaster && is_none o.state.locked then 
 
 -- Want: a lock, a read, a write or a function wants the record
 unfoldable pub want : Place → Rules → ℕ → ClientOp → Moving → Moving
-want at rules call o_p o = want_of at rules call o_p (opened_at_home at o)
+want at rules call asked o = want_of at rules call asked (opened_at_home at o)

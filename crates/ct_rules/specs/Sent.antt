@@ -1,5 +1,5 @@
 -- What a node sends about a record keeps the rules of its fields.
-use Rattle.std.specs.Prelude.{◌≡◌, ℕ, ◌<◌, ◌≤◌, ◌^◌, Bool, true, ◌&&◌, Some}
+use Rattle.std.specs.Prelude.{◌≡◌, ℕ, Bool, true, ◌&&◌, Some}
 use Rattle.std.specs.List.{list_all}
 use Rattle.ct_frame.specs.Fields.{is_db, is_node, is_message}
 use Rattle.ct_call.specs.Rules.{Rules}
@@ -16,10 +16,10 @@ use Rattle.ct_rules.specs.declared.state.RecallNote.{RecallNote}
 use Rattle.ct_rules.specs.declared.state.Waiter.{Waiter}
 
 -- a message that is sent keeps the rules of its fields
-unfoldable pub is_sound : ℕ → Act → Bool
-is_sound me (act.Send receiver m) = is_message me m
-is_sound me (act.Answer call answer) = true
-is_sound me (act.Finished floor) = true
+unfoldable pub is_well_formed : ℕ → Act → Bool
+is_well_formed me (act.Send receiver m) = is_message me m
+is_well_formed me (act.Answer call answer) = true
+is_well_formed me (act.Finished floor) = true
 
 -- a request that waits is of a node
 unfoldable pub is_of_node : Waiter → Bool
@@ -42,6 +42,5 @@ is_from_node _ = true
 -- its fields, and all that waits then is of nodes
 abbrev pub SendsSound : Type 0
 SendsSound = (at : Place) (rules : Rules) (e : MoveEvent) (s : RecState) (next : ℕ) (o : Moving) →
-    is_db at.db ≡ true → IsInForm at s → waits_for_nodes s ≡ true → 1 ≤ next → next < 2 ^ 62 → at.floor < 2 ^ 62 →
-    MayCome at s e → is_from_node e ≡ true → moved at rules e s next ≡ Some o →
-    (list_all (is_sound at.me) o.acts ≡ true) × (waits_for_nodes o.state ≡ true)
+    is_db at.db ≡ true → IsInForm at next s → waits_for_nodes s ≡ true → MayCome s e → is_from_node e ≡ true → moved at rules e s next ≡ Some o →
+    (list_all (is_well_formed at.me) o.acts ≡ true) × (waits_for_nodes o.state ≡ true)

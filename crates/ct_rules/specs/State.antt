@@ -91,11 +91,6 @@ unfoldable pub risen : Option RecCopy → Option RecCopy
 risen None = None
 risen (Some c) = Some (record c { header = record c.header { rsn = c.header.rsn + 1 } })
 
--- the copy under the next RSN, with no flags
-unfoldable pub raised : Option RecCopy → Option RecCopy
-raised None = None
-raised (Some c) = Some (record c { header = record c.header { rsn = c.header.rsn + 1; flags = plain } })
-
 -- the copy that its data master gave away
 unfoldable pub given : Option RecCopy → Option RecCopy
 given None = None

@@ -1,16 +1,18 @@
 //! What follows for the rules of every record.
-ghost use Rattle.ct_rules.specs.Laws.{GrowsAlone, KeepsForm, KeepsTracking, ReadsNoNames, StartsInForm};
+ghost use Rattle.ct_rules.specs.Laws.{GrowsAlone, KeepsCallsLow, KeepsForm, KeepsTracking, ReadsNoNames, StartsInForm, StartsWithLowCalls};
 ghost use Rattle.ct_rules.specs.Sent.{SendsSound};
 
 /// A state in which nothing is kept is in form at every place.
 pub fn starts_in_form()
-    ensures { StartsInForm }
+    ensures form { StartsInForm }
+    ensures calls { StartsWithLowCalls }
 {}
 
 /// A state in form stays in form: whatever may come to it leaves it so, with all its numbers below 2^62, unless a number
-/// would reach that.
+/// would reach that. The calls of its lock and of its wish keep numbers below 2^62 besides.
 pub fn keeps_form()
-    ensures { KeepsForm }
+    ensures form { KeepsForm }
+    ensures calls { KeepsCallsLow }
 {}
 
 /// Whatever comes, the next request number and the floor do not fall, what is spent stays spent, and what the node did

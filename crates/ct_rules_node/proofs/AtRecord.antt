@@ -80,7 +80,7 @@ nil_is : (ns : List ℕ) → is_nil ns ≡ true → ns ≡ []
 nil_is [] e = refl
 nil_is (n ∷ ns) e = absurd (cc)
 
-none_is : {X : Type 0} (x : Option X) → is_none x ≡ true → x ≡ None
+pub none_is : {X : Type 0} (x : Option X) → is_none x ≡ true → x ≡ None
 none_is None e = refl
 none_is (Some x) e = absurd (cc)
 
@@ -101,9 +101,9 @@ tracks_none me copy t n f g =
 blank_copy : (s : RecState) → is_blank s ≡ true → is_none s.copy ≡ true
 blank_copy s e = grind arith
 
-pub formed_is_kept : (at : Place) (s : RecState) → IsInForm at s → TracksAsHolder at s.copy s.tracking s.vacuum → or_nothing (unless_blank s) ≡ s
+pub formed_is_kept : (at : Place) (next : ℕ) (s : RecState) → IsInForm at next s → TracksAsHolder at s.copy s.tracking s.vacuum → or_nothing (unless_blank s) ≡ s
 unfolding or_nothing unless_blank
-formed_is_kept at s f t =
+formed_is_kept at next s f t =
     elim (is_blank s) as (λ b. is_blank s ≡ b → or_nothing (cond b None (Some s)) ≡ s) [
       | true ↦ λ e. (let u = tracks_none at.me s.copy s.tracking (blank_copy s e) t.tracked_held f.shape.revocation_held in ap (λ (b : Bool). or_nothing (cond b None (Some s))) (sym e) ∙ blank_is_nothing s u)
       | false ↦ λ _. refl

@@ -2,6 +2,7 @@
 use Rattle.std.proofs.Common.{◌≡◌, ℕ, ◌+◌, ◌≤◌, ◌==◌, Bool, true, false, cond, ◌||◌, List, [], ◌∷◌, ◌++◌, length, map, Option, Some, None, refl, sym, ap, ◌∙◌, append_assoc, append-nil, arith}
 use Rattle.std.proofs.lemmas.List.{length-set}
 use Rattle.ct_bytes.specs.Words.{others}
+use Rattle.std.proofs.lemmas.Bool.{or_left}
 use Rattle.ct_msg.specs.declared.client.ClientOp.{ClientOp}
 use Rattle.ct_msg.specs.declared.client.ClientOp.TheVariants as op
 use Rattle.ct_msg.specs.declared.client.Why.{Why}
@@ -14,15 +15,15 @@ use Rattle.ct_frame.specs.declared.frame.Msg.TheVariants as msg
 use Rattle.ct_call.specs.Rules.{Rules}
 use Rattle.ct_deleg.specs.Tracked.{Revocation}
 use Rattle.ct_store.specs.Map.{Pairs}
-use Rattle.ct_rules.specs.Parts.{Moving, acts, send, send_all, reply, keeps, want}
+use Rattle.ct_rules.specs.Parts.{Moving, performs, send, send_all, reply, keeps, want}
 use Rattle.ct_rules.specs.Moves.{release, call_again_of, call_again, revoke_again_of, revoke_again}
-use Rattle.ct_rules.specs.Laws.{IsFront as IsActsFront, Grows}
+use Rattle.ct_rules.specs.Laws.{Grows}
 use Rattle.ct_rules.specs.declared.event.Act.{Act}
 use Rattle.ct_rules.specs.declared.event.MoveEvent.TheVariants as move_event
 use Rattle.ct_rules.specs.declared.event.Place.{Place}
 use Rattle.ct_rules.specs.declared.state.RecState.{RecState}
 use Rattle.ct_rules.specs.declared.state.Wish.{Wish}
-use Rattle.ct_rules.proofs.Growing.{move_grows}
+use Rattle.ct_rules.proofs.Growing.{front_same, front_more, front_after, grows_same, release_grows, call_again_grows, revoke_again_grows, move_grows}
 use Rattle.ct_rules_node.specs.Node.{Database, Phase, Idle, Serving, Installed, Freezing, Frozen, with_db}
 use Rattle.ct_rules_node.specs.Turn.{Turn}
 use Rattle.ct_rules_node.specs.Records.{out_of, put_back, acted, at_record, place_of, view}
@@ -33,55 +34,9 @@ use Rattle.ct_rules_node.specs.Steps.{on_record_of, if_persistent, if_sound, if_
 use Rattle.ct_rules_node.specs.Admission.{record_in}
 use Rattle.ct_rules_node.specs.Laws.{TurnGrows, StaysInOrder}
 use Rattle.ct_rules_node.proofs.AtRecord.{moves_at}
-use Rattle.ct_rules_node.proofs.Steady.{front_same, front_more, front_after, Steady, same, steady_grows, with_phase_steady, answers_steady, notes_steady, makes_steady, commit_steady, on_pupdate_steady, on_pack_steady, read_pair_steady, begin_round_steady, frozen_steady, on_freeze_steady, on_freezeack_steady, on_pull_steady, on_pullreply_steady, on_push_steady, on_pushack_steady, begin_takeover_steady, on_release_steady, on_releaseack_steady, on_take_steady, update_in_steady, retry_lead_steady}
+use Rattle.ct_rules_node.proofs.BesideRecords.{Steady, same, steady_grows, with_phase_steady, answers_steady, notes_steady, makes_steady, commit_steady, on_pupdate_steady, on_pack_steady, read_pair_steady, begin_round_steady, frozen_steady, on_freeze_steady, on_freezeack_steady, on_pull_steady, on_pullreply_steady, on_push_steady, on_pushack_steady, begin_takeover_steady, on_release_steady, on_releaseack_steady, on_take_steady, update_in_steady, retry_lead_steady}
 
 -- ---- the parts of the rules of one record that are not events of their own
-
-acts_after : (a b c : List Act) → IsActsFront a b → IsActsFront b c → IsActsFront a c
-unfolding IsActsFront
-acts_after a b c f g = (f.0 ++ g.0, g.1 ∙ ap (λ (l : List Act). l ++ g.0) f.1 ∙ append_assoc a f.0 g.0)
-
-no_grows : (o : Moving) → Grows o o
-unfolding IsActsFront
-no_grows o = record { next = omega arith; floor = omega arith; spent = λ e. e; acts = ([], sym (append-nil o.acts)) }
-
-send_grows : (n : ℕ) (m : Msg) (o : Moving) → Grows o (send n m o)
-unfolding send acts IsActsFront
-send_grows n m o = record { next = omega arith; floor = omega arith; spent = λ e. e; acts = (_, refl) }
-
-moving_after : (o p q : Moving) → Grows o p → Grows p q → Grows o q
-moving_after o p q f g = record { next = omega arith; floor = omega arith; spent = λ e. g.spent (f.spent e); acts = acts_after o.acts p.acts q.acts f.acts g.acts }
-
-send_all_grows : (ns : List ℕ) (m : Msg) (o : Moving) → Grows o (send_all ns m o)
-unfolding send_all
-send_all_grows [] m o = no_grows o
-send_all_grows (n ∷ ns) m o = moving_after o (send n m o) (send_all ns m (send n m o)) (send_grows n m o) (send_all_grows ns m (send n m o))
-
-pub release_grows : (call : ℕ) (o : Moving) → Grows o (release call o)
-unfolding release keeps reply acts IsActsFront
-release_grows call o = record { next = omega arith; floor = omega arith; spent = λ e. e; acts = (_, refl) }
-
-moving_either : (o p q : Moving) (b : Bool) → Grows o p → Grows o q → Grows o (cond b p q)
-moving_either o p q true f g = f
-moving_either o p q false f g = g
-
-call_again_of_grows : (at : Place) (o : Moving) (w : Option Wish) → Grows o (call_again_of at o w)
-unfolding call_again_of
-call_again_of_grows at o None = no_grows o
-call_again_of_grows at o (Some w) = moving_either o o _ (w.request == 0) (no_grows o) (send_grows _ _ o)
-
-pub call_again_grows : (at : Place) (o : Moving) → Grows o (call_again at o)
-unfolding call_again
-call_again_grows at o = call_again_of_grows at o o.state.wish
-
-revoke_again_of_grows : (at : Place) (o : Moving) (r : Option Revocation) → Grows o (revoke_again_of at o r)
-unfolding revoke_again_of
-revoke_again_of_grows at o None = no_grows o
-revoke_again_of_grows at o (Some r) = send_all_grows _ _ o
-
-pub revoke_again_grows : (at : Place) (o : Moving) → Grows o (revoke_again at o)
-unfolding revoke_again
-revoke_again_grows at o = revoke_again_of_grows at o o.state.tracking.revoking
 
 keeps_grows : (s : RecState) (o p : Moving) → Grows (keeps s o) p → Grows o p
 unfolding keeps
@@ -89,7 +44,7 @@ keeps_grows s o p g = record { next = g.next; floor = g.floor; spent = g.spent; 
 
 want_again_of_grows : (at : Place) (rules : Rules) (o : Moving) (w : Option Wish) → Grows o (want_again_of at rules o w)
 unfolding want_again_of
-want_again_of_grows at rules o None = no_grows o
+want_again_of_grows at rules o None = grows_same o
 want_again_of_grows at rules o (Some w) = keeps_grows (record o.state { wish = None }) o _ (move_grows at rules (move_event.Want w.call w.op) (keeps (record o.state { wish = None }) o))
 
 pub want_again_grows : (rules : Rules) (at : Place) (o : Moving) → Grows o (want_again rules at o)
@@ -103,14 +58,14 @@ pub record Grown (t u : Turn) : Type 0 where
   pub grows : TurnGrows t u
   pub stays : StaysInOrder t u
 
-grows_after : (t u v : Turn) → TurnGrows t u → TurnGrows u v → TurnGrows t v
-grows_after t u v f g = record { promise = omega arith; next = omega arith; spent = λ e. g.spent (f.spent e); outs = front_after t.outs u.outs v.outs f.outs g.outs }
+turn_grows_after : (t u v : Turn) → TurnGrows t u → TurnGrows u v → TurnGrows t v
+turn_grows_after t u v f g = record { promise = omega arith; next = omega arith; spent = λ e. g.spent (f.spent e); outs = front_after t.outs u.outs v.outs f.outs g.outs }
 
 stays_after : (t u v : Turn) → StaysInOrder t u → StaysInOrder u v → StaysInOrder t v
 stays_after t u v f g = record { dbs = g.dbs ∙ f.dbs; order = λ h. g.order (f.order h) }
 
 pub grown_after : {t u v : Turn} → Grown t u → Grown u v → Grown t v
-grown_after {t} {u} {v} f g = record { grows = grows_after t u v f.grows g.grows; stays = stays_after t u v f.stays g.stays }
+grown_after {t} {u} {v} f g = record { grows = turn_grows_after t u v f.grows g.grows; stays = stays_after t u v f.stays g.stays }
 
 pub steadily : (t u : Turn) → Steady t u → Grown t u
 steadily t u s = record { grows = steady_grows t u s; stays = record { dbs = s.dbs; order = s.order } }
@@ -125,10 +80,6 @@ either_grown false f g = g
 -- a part that looks at no record comes after
 pub steady_grown : {t u v : Turn} → Steady u v → Grown t u → Grown t v
 steady_grown {t} {u} {v} s g = grown_after g (steadily u v s)
-
-or_left : (a b : Bool) → a ≡ true → (a || b) ≡ true
-or_left true b e = refl
-or_left false b e = absurd (cc)
 
 acted_grows : (me db : ℕ) (key : List ℕ) (o : Moving) (u : Turn) → u.node.next ≤ o.next → TurnGrows u (acted me db key o u)
 unfolding acted put_back
@@ -154,10 +105,10 @@ unlocks_grown c me call db key u Serving rules s = at_record_grown c me db key _
 unlocks_grown c me call db key u Installed rules s = at_record_grown c me db key _ u (λ at o. move_grows at rules (move_event.Unlock call) o) s
 unlocks_grown c me call db key u (Frozen g) rules s = at_record_grown c me db key _ u (λ at o. move_grows at rules (move_event.Unlock call) o) s
 
-wants_grown : {t : Turn} (c : Config) (rules : Rules) (me call db : ℕ) (key : List ℕ) (o_p : ClientOp) (u : Turn) → Grown t u → Grown t (at_record c me db key (λ at o. want at rules call o_p o) u)
-wants_grown c rules me call db key o_p u s = at_record_grown c me db key _ u (λ at o. move_grows at rules (move_event.Want call o_p) o) s
+wants_grown : {t : Turn} (c : Config) (rules : Rules) (me call db : ℕ) (key : List ℕ) (asked : ClientOp) (u : Turn) → Grown t u → Grown t (at_record c me db key (λ at o. want at rules call asked o) u)
+wants_grown c rules me call db key asked u s = at_record_grown c me db key _ u (λ at o. move_grows at rules (move_event.Want call asked) o) s
 
-serves_grown : {t : Turn} (c : Config) (rules : Rules) (me call : ℕ) (u : Turn) (o_p : ClientOp) → Grown t u → Grown t (serves c rules me call u o_p)
+serves_grown : {t : Turn} (c : Config) (rules : Rules) (me call : ℕ) (u : Turn) (asked : ClientOp) → Grown t u → Grown t (serves c rules me call u asked)
 unfolding serves reads
 serves_grown c rules me call u (op.Read db key) s = either_grown _ (steady_grown (read_pair_steady call db key same) s) (wants_grown c rules me call db key (op.Read db key) u s)
 serves_grown c rules me call u (op.Store db key v) s = at_record_grown c me db key _ u (λ at o. move_grows at rules (move_event.Store call v) o) s
@@ -167,14 +118,14 @@ serves_grown c rules me call u (op.Lock db key) s = wants_grown c rules me call 
 serves_grown c rules me call u (op.Write db key v) s = wants_grown c rules me call db key (op.Write db key v) u s
 serves_grown c rules me call u (op.Apply db key f arg) s = wants_grown c rules me call db key (op.Apply db key f arg) u s
 
-serves_or_grown : {t : Turn} (c : Config) (rules : Rules) (me call : ℕ) (o_p : ClientOp) (u : Turn) (w : Option Why) → Grown t u → Grown t (serves_or c rules me call o_p u w)
+serves_or_grown : {t : Turn} (c : Config) (rules : Rules) (me call : ℕ) (asked : ClientOp) (u : Turn) (w : Option Why) → Grown t u → Grown t (serves_or c rules me call asked u w)
 unfolding serves_or
-serves_or_grown c rules me call o_p u (Some w) s = steady_grown (answers_steady call _ same) s
-serves_or_grown c rules me call o_p u None s = serves_grown c rules me call u o_p s
+serves_or_grown c rules me call asked u (Some w) s = steady_grown (answers_steady call _ same) s
+serves_or_grown c rules me call asked u None s = serves_grown c rules me call u asked s
 
-client_grown : (c : Config) (rules : Rules) (me call : ℕ) (o_p : ClientOp) (u : Turn) → Grown u (client c rules me call o_p u)
+client_grown : (c : Config) (rules : Rules) (me call : ℕ) (asked : ClientOp) (u : Turn) → Grown u (client c rules me call asked u)
 unfolding client
-client_grown c rules me call o_p u = serves_or_grown c rules me call o_p _ (refusal c rules u.node o_p) (steady_grown (makes_steady call same) grown_same)
+client_grown c rules me call asked u = serves_or_grown c rules me call asked _ (refusal c rules u.node asked) (steady_grown (makes_steady call same) grown_same)
 
 -- ---- thaws
 

@@ -1,13 +1,12 @@
 pub mod Keys
 pub mod Installed
-pub mod Told
+pub mod Tables
 pub mod AtRecord
-pub mod Steady
-pub mod Alone
+pub mod BesideRecords
 pub mod Growing
 pub mod Refusals
 pub mod Quiet
 pub mod Starting
-pub mod Whole
+pub mod Rounds
 pub mod Numbered
 pub mod Waiting

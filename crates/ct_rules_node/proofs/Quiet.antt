@@ -1,5 +1,6 @@
 -- A node that is not present sends no message of a record.
 use Rattle.std.proofs.Common.{◌≡◌, ℕ, Bool, true, false, cond, not, ◌&&◌, ◌||◌, List, [], ◌++◌, map, Option, Some, None, refl, ap, ◌∙◌, append-nil}
+use Rattle.std.proofs.lemmas.Bool.{or_left}
 use Rattle.std.specs.Prelude.{is_none, is_some, nat_eq}
 use Rattle.ct_msg.specs.declared.client.Answer.TheVariants as answer
 use Rattle.ct_msg.specs.declared.client.ClientOp.{ClientOp}
@@ -14,7 +15,7 @@ use Rattle.ct_frame.specs.declared.frame.Msg.{Msg}
 use Rattle.ct_frame.specs.declared.frame.Msg.TheVariants as msg
 use Rattle.ct_call.specs.Rules.{Rules}
 use Rattle.ct_rules.specs.State.{is_mastered, is_for_reading, value_of, is_read_op}
-use Rattle.ct_rules.specs.Parts.{Moving, acts, reply, keeps, opened_at_home, want_of, want}
+use Rattle.ct_rules.specs.Parts.{Moving, performs, reply, keeps, opened_at_home, want_of, want}
 use Rattle.ct_rules.specs.Moves.{store, release}
 use Rattle.ct_rules.specs.declared.event.Place.{Place}
 use Rattle.ct_rules_node.specs.Node.{Node, Phase, Idle, Serving, Installed, Freezing, Frozen, is_serving, is_present, is_present_in, is_freezing, is_persistent, has_records, kind_at, state_at}
@@ -27,7 +28,7 @@ use Rattle.ct_rules_node.specs.Steps.{on_record_of, if_persistent, if_sound, if_
 use Rattle.ct_rules_node.specs.Admission.{record_in, is_current}
 use Rattle.ct_rules_node.specs.Laws.{sends_of_record, record_sends, HoldsLocks}
 use Rattle.ct_rules_node.proofs.Refusals.{first_none, not_refused}
-use Rattle.ct_rules_node.proofs.Steady.{sends_more, Steady, same, either, answers_steady, commit_steady, on_pupdate_steady, on_pack_steady, read_pair_steady, begin_round_steady, frozen_steady, on_freeze_steady, on_freezeack_steady, on_pull_steady, on_pullreply_steady, on_push_steady, on_pushack_steady, begin_takeover_steady, on_release_steady, on_releaseack_steady, on_take_steady, retry_lead_steady}
+use Rattle.ct_rules_node.proofs.BesideRecords.{sends_more, Steady, same, either, answers_steady, commit_steady, on_pupdate_steady, on_pack_steady, read_pair_steady, begin_round_steady, frozen_steady, on_freeze_steady, on_freezeack_steady, on_pull_steady, on_pullreply_steady, on_push_steady, on_pushack_steady, begin_takeover_steady, on_release_steady, on_releaseack_steady, on_take_steady, retry_lead_steady}
 
 abbrev Quiet : Turn → Turn → Type 0
 Quiet t u = record_sends u.outs ≡ record_sends t.outs
@@ -40,11 +41,11 @@ unfolding at_record acted
 at_record_quiet c me db key part u e = sends_more u.outs _ ∙ ap (λ (l : List Out). record_sends u.outs ++ l) e ∙ append-nil (record_sends u.outs)
 
 release_quiet : (c : Config) (me call db : ℕ) (key : List ℕ) (u : Turn) → Quiet u (at_record c me db key (λ at o. release call o) u)
-unfolding release reply keeps acts out_of view record_sends sends_of_record
+unfolding release reply keeps performs out_of view record_sends sends_of_record
 release_quiet c me call db key u = at_record_quiet c me db key _ u refl
 
 store_quiet : (c : Config) (me call db : ℕ) (key v : List ℕ) (u : Turn) → Quiet u (at_record c me db key (λ at o. store call v o) u)
-unfolding store reply keeps acts out_of view record_sends sends_of_record
+unfolding store reply keeps performs out_of view record_sends sends_of_record
 store_quiet c me call db key v u = at_record_quiet c me db key _ u refl
 
 skipped : {X : Type 0} (b : Bool) (t u : X) → b ≡ false → cond b u t ≡ t
@@ -55,10 +56,6 @@ taken : {X : Type 0} (b : Bool) (t u : X) → b ≡ true → cond b u t ≡ u
 taken true t u e = refl
 taken false t u e = absurd (cc)
 
-left_or : (a b : Bool) → a ≡ true → (a || b) ≡ true
-left_or true b e = refl
-left_or false b e = absurd (cc)
-
 not_both : (a b : Bool) → b ≡ false → (a && b) ≡ false
 not_both true b e = e
 not_both false b e = refl
@@ -68,14 +65,14 @@ read_locked : (at : Place) (rules : Rules) (call db : ℕ) (key : List ℕ) (o :
 unfolding want opened_at_home want_of is_read_op
 read_locked at rules call db key o l h =
     ap (want_of at rules call (op.Read db key)) (skipped (nat_eq at.me at.lmaster && is_none o.state.locked) o _ (not_both _ _ l))
-    ∙ taken (is_mastered at.me o.state.copy || is_for_reading o.state.copy) _ (reply call (answer.Read (value_of o.state.copy)) o) (left_or _ _ h)
+    ∙ taken (is_mastered at.me o.state.copy || is_for_reading o.state.copy) _ (reply call (answer.Read (value_of o.state.copy)) o) (or_left _ _ h)
 
 some_none : {X : Type 0} (x : Option X) → is_some x ≡ true → is_none x ≡ false
 some_none None e = absurd (cc)
 some_none (Some x) e = refl
 
 read_quiet : (c : Config) (rules : Rules) (me call db : ℕ) (key : List ℕ) (u : Turn) → is_some (state_at db key u.node).locked ≡ true → is_mastered me (state_at db key u.node).copy ≡ true → Quiet u (at_record c me db key (λ at o. want at rules call (op.Read db key) o) u)
-unfolding place_of view reply acts out_of record_sends sends_of_record
+unfolding place_of view reply performs out_of record_sends sends_of_record
 read_quiet c rules me call db key u l h =
     at_record_quiet c me db key _ u
     (ap (λ (o : Moving). record_sends (map (out_of u.node.generation me db key) o.acts)) (read_locked (place_of c me db key u.node) rules call db key (view db key u.node) (some_none _ l) h))

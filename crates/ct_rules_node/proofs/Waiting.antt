@@ -14,7 +14,7 @@ use Rattle.ct_rules_node.specs.Rounds.{Called, called_of, calls_of, calls_in, pe
 use Rattle.ct_rules_node.specs.Laws.{AllAscend, NodeAscends, is_called_at}
 use Rattle.ct_rules_node.proofs.Keys.{below_unseen}
 use Rattle.ct_rules_node.proofs.Installed.{same_number, own_key}
-use Rattle.ct_rules_node.proofs.Told.{another_db}
+use Rattle.ct_rules_node.proofs.Tables.{another_db}
 use Rattle.ct_rules_node.proofs.Numbered.{Few, numbered_few}
 
 abbrev At : ℕ → List ℕ → List Called → List Called

@@ -19,7 +19,7 @@ use Rattle.ct_deleg.specs.Tracked.{untracked}
 use Rattle.ct_merge.specs.Rule.{row_at}
 use Rattle.ct_store.specs.Map.{Pairs, Ascends, key_cmp, look}
 use Rattle.ct_rules.specs.Form.{IsInForm, is_of_record}
-use Rattle.ct_rules.specs.Laws.{TracksAsHolder}
+use Rattle.ct_rules.specs.Laws.{TracksAsHolder, IsFront}
 use Rattle.ct_rules.specs.Parts.{Moving}
 use Rattle.ct_rules.specs.State.{is_blank, is_mastered}
 use Rattle.ct_rules.specs.declared.event.Place.{Place}
@@ -82,11 +82,6 @@ InstallsEach = (me db : ℕ) (members : List ℕ) (table : List TableRow) (m : P
 
 -- ---- the table of a Pull, by key
 
--- the one row of these, if there is one
-unfoldable pub first_row : List TableRow → Option TableRow
-first_row [] = None
-first_row (row ∷ rows) = Some row
-
 -- the records of each of these databases are in order
 unfoldable pub AllAscend : List Database → Type 0
 AllAscend dbs = AllByRecursion (λ d. Ascends d.records) dbs
@@ -94,7 +89,7 @@ AllAscend dbs = AllByRecursion (λ d. Ascends d.records) dbs
 -- Pull: the table has at a database and key the row of the copy there, and its rows are in order
 pub record IsTable (me : ℕ) (dbs : List Database) : Type 0 where
   pub seen : (db : ℕ) (key : List ℕ) →
-      row_at db key (table_of me 0 dbs) ≡ first_row (row_of me db key (or_nothing (look key (or_untouched (slice_get dbs db)).records)).copy)
+      row_at db key (table_of me 0 dbs) ≡ row_of me db key (or_nothing (look key (or_untouched (slice_get dbs db)).records)).copy
   pub order : ascends row_before (table_of me 0 dbs) ≡ true
 
 -- so it is of all databases whose maps ascend
@@ -130,13 +125,9 @@ BlankIsNothing = (s : RecState) → s.tracking ≡ untracked → or_nothing (unl
 -- nothing is lost of a state in form with tracking at the holder alone: where it is blank it is the one in which nothing
 -- is kept
 abbrev pub FormedIsKept : Type 0
-FormedIsKept = (at : Place) (s : RecState) → IsInForm at s → TracksAsHolder at s.copy s.tracking s.vacuum → or_nothing (unless_blank s) ≡ s
+FormedIsKept = (at : Place) (next : ℕ) (s : RecState) → IsInForm at next s → TracksAsHolder at s.copy s.tracking s.vacuum → or_nothing (unless_blank s) ≡ s
 
 -- ---- a whole step
-
--- the first list is a front of the second
-unfoldable pub IsFront : List Out → List Out → Type 0
-IsFront before after = (more : List Out) × (after ≡ before ++ more)
 
 -- what grows alone: the promise, the next request number, what was spent, and what is done
 pub record TurnGrows (t u : Turn) : Type 0 where

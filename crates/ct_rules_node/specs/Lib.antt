@@ -10,5 +10,5 @@ pub mod Takeovers
 pub mod Retries
 pub mod Admission
 pub mod Steps
-pub mod Given
+pub mod Coming
 pub mod Laws

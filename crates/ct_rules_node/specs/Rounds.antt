@@ -107,15 +107,20 @@ unfoldable pub own_or_none : ℕ → Bool → Option ℕ
 own_or_none me true = Some me
 own_or_none me false = None
 
--- Pull: the row of a copy, with this node as data master where it is holder
-unfoldable pub row_of : ℕ → ℕ → List ℕ → Option RecCopy → List TableRow
-row_of me db key None = []
-row_of me db key (Some c) = record { db = db; key = key; rsn = c.header.rsn; value = c.value; master = own_or_none me (is_mastered me (Some c)) } ∷ []
+-- Pull: the row of a copy, where there is one, with this node as data master where it is holder
+unfoldable pub row_of : ℕ → ℕ → List ℕ → Option RecCopy → Option TableRow
+row_of me db key None = None
+row_of me db key (Some c) = Some (record { db = db; key = key; rsn = c.header.rsn; value = c.value; master = own_or_none me (is_mastered me (Some c)) })
+
+-- Pull: a row, where there is one, stands before others
+unfoldable pub with_row : Option TableRow → List TableRow → List TableRow
+with_row None rows = rows
+with_row (Some row) rows = row ∷ rows
 
 -- Pull: a row for each copy of a database, by key
 unfoldable pub rows_of : ℕ → ℕ → Pairs RecState → List TableRow
 rows_of me db [] = []
-rows_of me db (e ∷ m) = row_of me db e.0 e.1.copy ++ rows_of me db m
+rows_of me db (e ∷ m) = with_row (row_of me db e.0 e.1.copy) (rows_of me db m)
 
 -- Pull: a row for each copy, by database and key; i is the number of the first of these databases
 unfoldable pub table_of : ℕ → ℕ → List Database → List TableRow

@@ -1,4 +1,4 @@
-use Rattle.ct_rules.proofs.Sound.{what_is_sent}
+use Rattle.ct_rules.proofs.SentEvents.{what_is_sent}
 use Rattle.ct_rules.proofs.laws.sends_sound.Goals as goal
 
 pub returns : goal.returns

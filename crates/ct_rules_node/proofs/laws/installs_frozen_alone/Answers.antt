@@ -1,4 +1,4 @@
-use Rattle.ct_rules_node.proofs.Alone.{pushed_alone}
+use Rattle.ct_rules_node.proofs.Rounds.{pushed_alone}
 use Rattle.ct_rules_node.proofs.laws.installs_frozen_alone.Goals as goal
 
 pub returns : goal.returns

@@ -1,4 +1,4 @@
-use Rattle.ct_rules_node.proofs.Whole.{freezes_each, restarts_each, installs_dbs, installs_frozen}
+use Rattle.ct_rules_node.proofs.Rounds.{freezes_each, restarts_each, installs_dbs, installs_frozen}
 use Rattle.ct_rules_node.proofs.laws.rounds_change_nodes.Goals as goal
 
 pub returns : goal.returns

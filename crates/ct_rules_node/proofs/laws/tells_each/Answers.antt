@@ -1,4 +1,4 @@
-use Rattle.ct_rules_node.proofs.Told.{tells_at}
+use Rattle.ct_rules_node.proofs.Tables.{tells_at}
 use Rattle.ct_rules_node.proofs.laws.tells_each.Goals as goal
 
 pub returns : goal.returns

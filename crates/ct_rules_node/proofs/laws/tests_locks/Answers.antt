@@ -1,4 +1,4 @@
-use Rattle.ct_rules_node.proofs.Whole.{sees_locks}
+use Rattle.ct_rules_node.proofs.Rounds.{sees_locks}
 use Rattle.ct_rules_node.proofs.laws.tests_locks.Goals as goal
 
 pub returns : goal.returns

@@ -23,8 +23,8 @@ use Rattle.ct_store.proofs.Maps.{one_key, equal}
 use Rattle.ct_rules.specs.State.{is_mastered}
 use Rattle.ct_rules.specs.declared.state.RecState.{RecState}
 use Rattle.ct_rules_node.specs.Node.{Database, or_nothing, or_untouched, untouched}
-use Rattle.ct_rules_node.specs.Rounds.{row_of, rows_of, table_of, own_or_none}
-use Rattle.ct_rules_node.specs.Laws.{first_row, AllAscend, IsTable}
+use Rattle.ct_rules_node.specs.Rounds.{row_of, with_row, rows_of, table_of, own_or_none}
+use Rattle.ct_rules_node.specs.Laws.{AllAscend, IsTable}
 use Rattle.ct_rules_node.proofs.Keys.{below_unseen}
 use Rattle.ct_rules_node.proofs.Installed.{place, row_is, same_number, own_key}
 
@@ -55,8 +55,8 @@ another_db a b n = elim (is_eq (nat_cmp a b)) as (λ t. is_eq (nat_cmp a b) ≡ 
 skip_row : (db : ℕ) (key : List ℕ) (row : TableRow) (rest : List TableRow) → is_row_at db key row ≡ false → row_at db key (row ∷ rest) ≡ row_at db key rest
 skip_row db key row rest e = ap (λ (b : Bool). cond b (Some row) (row_at db key rest)) e
 
-other_db_row : (me db i : ℕ) (key k : List ℕ) (c : Option RecCopy) (rest : List TableRow) → db ≢ i → row_at db key (row_of me i k c ++ rest) ≡ row_at db key rest
-unfolding row_of
+other_db_row : (me db i : ℕ) (key k : List ℕ) (c : Option RecCopy) (rest : List TableRow) → db ≢ i → row_at db key (with_row (row_of me i k c) rest) ≡ row_at db key rest
+unfolding row_of with_row
 other_db_row me db i key k None rest n = refl
 other_db_row me db i key k (Some c) rest n = skip_row db key _ rest (ap (λ (b : Bool). b && is_eq (key_cmp key k)) (another_db db i n))
 
@@ -65,30 +65,30 @@ unfolding rows_of
 none_of_other me db i key [] n = refl
 none_of_other me db i key (e ∷ m) n = other_db_row me db i key e.0 e.1.copy (rows_of me i m) n ∙ none_of_other me db i key m n
 
-own_row : (me db : ℕ) (k : List ℕ) (c : Option RecCopy) (rest : List TableRow) → row_at db k rest ≡ None → row_at db k (row_of me db k c ++ rest) ≡ first_row (row_of me db k c)
-unfolding row_of first_row
+own_row : (me db : ℕ) (k : List ℕ) (c : Option RecCopy) (rest : List TableRow) → row_at db k rest ≡ None → row_at db k (with_row (row_of me db k c) rest) ≡ row_of me db k c
+unfolding row_of with_row
 own_row me db k None rest n = n
 own_row me db k (Some c) rest n = ap (λ (b : Bool). cond b (Some (told_row me db k c)) (row_at db k rest)) (λ i. same_number db i && own_key k i)
 
-other_key_row : (me db : ℕ) (key k : List ℕ) (c : Option RecCopy) (rest : List TableRow) → is_eq (key_cmp key k) ≡ false → row_at db key (row_of me db k c ++ rest) ≡ row_at db key rest
-unfolding row_of
+other_key_row : (me db : ℕ) (key k : List ℕ) (c : Option RecCopy) (rest : List TableRow) → is_eq (key_cmp key k) ≡ false → row_at db key (with_row (row_of me db k c) rest) ≡ row_at db key rest
+unfolding row_of with_row
 other_key_row me db key k None rest e = refl
 other_key_row me db key k (Some c) rest e = skip_row db key _ rest (λ i. same_number db i && e i)
 
 row_case : (me db : ℕ) (key k : List ℕ) (s : RecState) (before : Option RecState) (rest : List TableRow) (t : Bool) → is_eq (key_cmp key k) ≡ t
-    → row_at db k rest ≡ None → row_at db key rest ≡ first_row (row_of me db key (or_nothing before).copy)
-    → row_at db key (row_of me db k s.copy ++ rest) ≡ first_row (row_of me db key (or_nothing (cond t (Some s) before)).copy)
+    → row_at db k rest ≡ None → row_at db key rest ≡ row_of me db key (or_nothing before).copy
+    → row_at db key (with_row (row_of me db k s.copy) rest) ≡ row_of me db key (or_nothing (cond t (Some s) before)).copy
 unfolding or_nothing
 row_case me db key k s before rest true e none ih =
-    subst (λ (q : List ℕ). row_at db q (row_of me db k s.copy ++ rest) ≡ first_row (row_of me db q s.copy)) (sym (one_key key k (equal _ e))) (own_row me db k s.copy rest none)
+    subst (λ (q : List ℕ). row_at db q (with_row (row_of me db k s.copy) rest) ≡ row_of me db q s.copy) (sym (one_key key k (equal _ e))) (own_row me db k s.copy rest none)
 row_case me db key k s before rest false e none ih = other_key_row me db key k s.copy rest e ∙ ih
 
-rows_seen : (me db : ℕ) (key : List ℕ) (m : Pairs RecState) → Ascends m → row_at db key (rows_of me db m) ≡ first_row (row_of me db key (or_nothing (look key m)).copy)
-unfolding rows_of row_of or_nothing first_row IsStrictlySortedBy
+rows_seen : (me db : ℕ) (key : List ℕ) (m : Pairs RecState) → Ascends m → row_at db key (rows_of me db m) ≡ row_of me db key (or_nothing (look key m)).copy
+unfolding rows_of row_of with_row or_nothing IsStrictlySortedBy
 rows_seen me db key [] h = refl
 rows_seen me db key (e ∷ m) h =
     row_case me db key e.0 e.1 (look key m) (rows_of me db m) (is_eq (key_cmp key e.0)) refl
-    (rows_seen me db e.0 m h.1 ∙ ap (λ (o : Option RecState). first_row (row_of me db e.0 (or_nothing o).copy)) (below_unseen e.0 m h.0)) (rows_seen me db key m h.1)
+    (rows_seen me db e.0 m h.1 ∙ ap (λ (o : Option RecState). row_of me db e.0 (or_nothing o).copy) (below_unseen e.0 m h.0)) (rows_seen me db key m h.1)
 
 -- ---- all databases
 
@@ -106,14 +106,14 @@ or_none None = refl
 or_none (Some x) = refl
 
 table_seen : (me i k j : ℕ) (key : List ℕ) (dbs : List Database) → j ≡ i + k → AllAscend dbs
-    → row_at j key (table_of me i dbs) ≡ first_row (row_of me j key (or_nothing (look key (or_untouched (slice_get dbs k)).records)).copy)
-unfolding table_of or_else AllAscend or_untouched untouched or_nothing row_of first_row
+    → row_at j key (table_of me i dbs) ≡ row_of me j key (or_nothing (look key (or_untouched (slice_get dbs k)).records)).copy
+unfolding table_of or_else AllAscend or_untouched untouched or_nothing row_of with_row
 table_seen me i k j key [] e h = refl
 table_seen me i zero j key (d ∷ ds) e h =
     row_in_both j key (rows_of me i d.records) (table_of me (i + 1) ds)
     ∙ ap (λ (r : Option TableRow). or_else (row_at j key (rows_of me i d.records)) r) (none_before me j (i + 1) key ds (omega arith))
     ∙ or_none (row_at j key (rows_of me i d.records))
-    ∙ subst (λ (q : ℕ). row_at j key (rows_of me q d.records) ≡ first_row (row_of me j key (or_nothing (look key d.records)).copy)) (omega arith) (rows_seen me j key d.records h.0)
+    ∙ subst (λ (q : ℕ). row_at j key (rows_of me q d.records) ≡ row_of me j key (or_nothing (look key d.records)).copy) (omega arith) (rows_seen me j key d.records h.0)
 table_seen me i (suc k) j key (d ∷ ds) e h =
     row_in_both j key (rows_of me i d.records) (table_of me (i + 1) ds)
     ∙ ap (λ (r : Option TableRow). or_else r (row_at j key (table_of me (i + 1) ds))) (none_of_other me j i key d.records (λ (q : j ≡ i). omega arith))
@@ -141,8 +141,8 @@ all_of_both : {X : Type 0} (P : X → Type 0) (xs ys : List X) → AllByRecursio
 all_of_both P [] ys h k = k
 all_of_both P (x ∷ xs) ys h k = (h.0, all_of_both P xs ys h.1 k)
 
-all_with_row : (me db : ℕ) (q : List ℕ) (c : Option RecCopy) (rest : List TableRow) (P : TableRow → Type 0) → ((y : TableRow) → y.db ≡ db → y.key ≡ q → P y) → AllByRecursion P rest → AllByRecursion P (row_of me db q c ++ rest)
-unfolding row_of
+all_with_row : (me db : ℕ) (q : List ℕ) (c : Option RecCopy) (rest : List TableRow) (P : TableRow → Type 0) → ((y : TableRow) → y.db ≡ db → y.key ≡ q → P y) → AllByRecursion P rest → AllByRecursion P (with_row (row_of me db q c) rest)
+unfolding row_of with_row
 all_with_row me db q None rest P f h = h
 all_with_row me db q (Some c) rest P f h = (f _ refl refl, h)
 
@@ -157,8 +157,8 @@ rows_after me db k x [] a b h = tt
 rows_after me db k x (e ∷ m) a b h =
     all_with_row me db e.0 e.1.copy (rows_of me db m) (λ y. table_order x y ≡ Less) (λ y c d. before_by_key x y db k e.0 a b c d h.0) (rows_after me db k x m a b h.1)
 
-sorted_with_row : (me db : ℕ) (q : List ℕ) (c : Option RecCopy) (rest : List TableRow) → ((y : TableRow) → y.db ≡ db → y.key ≡ q → AllAfter y rest) → IsStrictlySortedBy table_order rest → IsStrictlySortedBy table_order (row_of me db q c ++ rest)
-unfolding row_of IsStrictlySortedBy
+sorted_with_row : (me db : ℕ) (q : List ℕ) (c : Option RecCopy) (rest : List TableRow) → ((y : TableRow) → y.db ≡ db → y.key ≡ q → AllAfter y rest) → IsStrictlySortedBy table_order rest → IsStrictlySortedBy table_order (with_row (row_of me db q c) rest)
+unfolding row_of with_row IsStrictlySortedBy
 sorted_with_row me db q None rest f h = h
 sorted_with_row me db q (Some c) rest f h = (f (told_row me db q c) refl refl, h)
 

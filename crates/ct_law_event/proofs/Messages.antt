@@ -10,9 +10,9 @@ use Rattle.ct_law_change.proofs.Markings.{marking_moved}
 use Rattle.ct_law_change.proofs.Parts.{quiet}
 use Rattle.ct_law_change.proofs.Acts.{send_holds, node_holds, quiet_holds, calm_other, handle_lock_holds, handle_read_holds, drain_holds, satisfy_holds, grow_holds, lock_holds, recalls_holds}
 use Rattle.ct_law_change.proofs.Revoking.{Came, is_wish_some, is_wish_not}
-use Rattle.ct_law_event.proofs.Frames.{keeps_holds, want_of_holds, next_holds, become_holds}
+use Rattle.ct_law_event.proofs.Calls.{keeps_holds, want_of_holds, next_holds, become_holds}
 use Rattle.std.specs.List.{list_any}
-use Rattle.ct_rules.specs.Frames.{is_request, same_recall}
+use Rattle.ct_rules.specs.Messages.{is_request, same_recall}
 use Rattle.std.specs.Prelude.{List}
 use Rattle.ct_msg.specs.declared.client.Answer.TheVariants as answer
 use Rattle.ct_msg.specs.declared.client.ClientOp.TheVariants as op
@@ -277,10 +277,10 @@ module _ (rules : Rules) (ps : List ℕ) (m me : ℕ) (nodes : ℕ → Node) (fr
       (λ _. (g, h))))
       (λ _. add_recall_holds x g o sent h)
 
-  take_holds : (q rsn : ℕ) (value : List ℕ) (g : Ghost) (o : Out) → PassAt g.entry me o.node.next o.node.wish q rsn value → rank o.node.copy ≤ rsn + 1 → is_wish q false o.node.wish ≡ true → is_removed o.labels ≡ false →
-      Holds rules ps m me nodes frames r g o → Kept rules ps m me nodes frames r (Rule.take rules me m rsn value o)
-  unfolding Rule.take Rule.becomes satisfy_wish with_node is_here is_kind_here
-  take_holds q rsn value g o came small wished kept h =
+  accept_holds : (q rsn : ℕ) (value : List ℕ) (g : Ghost) (o : Out) → PassAt g.entry me o.node.next o.node.wish q rsn value → rank o.node.copy ≤ rsn + 1 → is_wish q false o.node.wish ≡ true → is_removed o.labels ≡ false →
+      Holds rules ps m me nodes frames r g o → Kept rules ps m me nodes frames r (Rule.accept rules me m rsn value o)
+  unfolding Rule.accept Rule.becomes satisfy_wish with_node is_here is_kind_here
+  accept_holds q rsn value g o came small wished kept h =
       let w = is_wish_some rules ps m me nodes frames r q false o.node.wish wished in
       let at = came.current w.0 w.1 w.2 w.3 in
       let unlocked : o.node.locked ≡ false = false_from_ne_true _ (λ t. (let up = (h.good.mine.here (h.good.mine.locked t).0).1 in omega arith)) in
@@ -309,7 +309,7 @@ module _ (rules : Rules) (ps : List ℕ) (m me : ℕ) (nodes : ℕ → Node) (fr
   on_pass_holds q rsn value g o came kept h = cond_both _ _ _ (Kept rules ps m me nodes frames r)
       (λ _. (g, h))
       (λ low. (let small = ltb-false _ _ low in cond_both _ _ _ (Kept rules ps m me nodes frames r)
-      (λ wished. take_holds q rsn value g o came small wished kept h)
+      (λ wished. accept_holds q rsn value g o came small wished kept h)
       (λ unwished. refuse_holds q rsn value g o came small unwished h)))
 
   pub on_done_holds : (n q : ℕ) (g : Ghost) (o : Out) (asks : List Waiter) → o.node.queue ≡ asks → me ≡ m → Holds rules ps m me nodes frames r g o → Kept rules ps m me nodes frames r (Rule.on_done me n q o asks)

@@ -17,11 +17,11 @@ use Rattle.ct_msg.specs.declared.client.Answer.{Answer}
 use Rattle.ct_msg.specs.declared.client.ClientOp.{ClientOp}
 use Rattle.ct_msg.specs.declared.client.ClientOp.TheVariants as op
 use Rattle.ct_vacuum.specs.Vacuum.{Vacuuming}
-use Rattle.ct_rules.specs.State.{being_revoked, delegated, rsn_of, given, with_flags, with_value, raised, value_of}
-use Rattle.ct_rules.specs.Parts.{Moving, acts, send, send_all, reply, keeps, makes, end_vacuum, give, applies, satisfy, revoke, read_here, delegate, grant, yield_record, drain, drained, satisfy_own, raise, end_revocation}
-use Rattle.ct_rules.specs.Frames.{satisfy_wish}
+use Rattle.ct_rules.specs.State.{being_revoked, delegated, rsn_of, given, with_flags, with_value, risen, value_of}
+use Rattle.ct_rules.specs.Parts.{Moving, performs, send, send_all, reply, keeps, reaches, end_vacuum, give, applies, satisfy, revoke, read_here, delegate, grant, yield_record, drain, drained, satisfy_own, raise, end_revocation}
+use Rattle.ct_rules.specs.Messages.{satisfy_wish}
 use Rattle.ct_rules.specs.Form.{least_of, sent_for, revoked_rsn, vacuumed_rsn, wished_as, is_asked, is_recalled}
-use Rattle.ct_rules.specs.Sent.{is_sound, is_of_node, is_for_node}
+use Rattle.ct_rules.specs.Sent.{is_well_formed, is_of_node, is_for_node}
 use Rattle.ct_frame.specs.Fields.{is_db, is_node, is_message, is_from_one}
 use Rattle.ct_frame.specs.declared.header.RecCopy.{RecCopy}
 use Rattle.ct_deleg.specs.Tracked.{Tracked}
@@ -37,7 +37,7 @@ use Rattle.ct_rules.specs.declared.state.Wish.{Wish}
 -- the middle of a step: what was sent so far keeps the rules of its fields, and so will what is kept
 pub record SentFacts (at : Place) (acts : List Act) (copy : Option RecCopy) (entry : Option Entry) (queue : List Waiter) (waiting : List RecallNote) (tracking : Tracked) (vacuum : Option Vacuuming) (wish : Option Wish) (next floor : ℕ) (spent : Bool) : Type 0 where
   pub db : is_db at.db ≡ true
-  pub sound : spent ≡ false → list_all (is_sound at.me) acts ≡ true
+  pub sound : spent ≡ false → list_all (is_well_formed at.me) acts ≡ true
   pub queue_asked : list_all is_asked queue ≡ true
   pub queue_nodes : list_all is_of_node queue ≡ true
   pub waiting_recalled : list_all is_recalled waiting ≡ true
@@ -69,20 +69,20 @@ pub if_sent : (at : Place) (b : Bool) (x y : Moving) → Sent at x → Sent at y
 if_sent at true x y p q = p
 if_sent at false x y p q = q
 
-pub acts_sent : (at : Place) (a : Act) (o : Moving) → (o.spent ≡ false → is_sound at.me a ≡ true) → Sent at o → Sent at (acts a o)
-unfolding Sent acts
-acts_sent at a o k h = grind (arith, list_all-append (is_sound at.me) o.acts (a ∷ []))
+pub performs_sent : (at : Place) (a : Act) (o : Moving) → (o.spent ≡ false → is_well_formed at.me a ≡ true) → Sent at o → Sent at (performs a o)
+unfolding Sent performs
+performs_sent at a o k h = grind (arith, list_all-append (is_well_formed at.me) o.acts (a ∷ []))
 
 pub send_sent : (at : Place) (n : ℕ) (m : Msg) (o : Moving) → (o.spent ≡ false → is_message at.me m ≡ true) → Sent at o → Sent at (send n m o)
-unfolding send is_sound
-send_sent at n m o k h = acts_sent at (act.Send n m) o k h
+unfolding send is_well_formed
+send_sent at n m o k h = performs_sent at (act.Send n m) o k h
 
 pub reply_sent : (at : Place) (call : ℕ) (a : Answer) (o : Moving) → Sent at o → Sent at (reply call a o)
-unfolding reply is_sound
-reply_sent at call a o h = acts_sent at (act.Answer call a) o (λ _. refl) h
+unfolding reply is_well_formed
+reply_sent at call a o h = performs_sent at (act.Answer call a) o (λ _. refl) h
 
 pub sends_on : (n : ℕ) (m : Msg) (o : Moving) {P : Type 0} → (o.spent ≡ false → P) → (send n m o).spent ≡ false → P
-unfolding send acts
+unfolding send performs
 sends_on n m o k = k
 
 pub send_all_sent : (at : Place) (ns : List ℕ) (m : Msg) (o : Moving) → (o.spent ≡ false → is_message at.me m ≡ true) → Sent at o → Sent at (send_all ns m o)
@@ -202,7 +202,7 @@ pub locked_sent : (at : Place) (l : Option ℕ) (o : Moving) → Sent at o → S
 unfolding Sent keeps
 locked_sent at l o h = h
 
-pub satisfy_sent : (at : Place) (rules : Rules) (call : ℕ) (o_p : ClientOp) (o : Moving) → Sent at o → Sent at (satisfy rules call o_p o)
+pub satisfy_sent : (at : Place) (rules : Rules) (call : ℕ) (asked : ClientOp) (o : Moving) → Sent at o → Sent at (satisfy rules call asked o)
 unfolding satisfy
 satisfy_sent at rules call (op.Lock db key) o h = reply_sent at _ _ _ (locked_sent at (Some call) o h)
 satisfy_sent at rules call (op.Read db key) o h = reply_sent at _ _ o h
@@ -217,13 +217,13 @@ unfolding satisfy_own
 own_sent at rules o None h = h
 own_sent at rules o (Some w) h = if_sent at _ _ _ (satisfy_sent at rules w.call w.op _ (unwished_sent at o h)) h
 
-pub take_of_sent : (at : Place) (rules : Rules) (o : Moving) (w : Option Wish) → Sent at o → Sent at (satisfy_wish rules o w)
+pub satisfy_wish_sent : (at : Place) (rules : Rules) (o : Moving) (w : Option Wish) → Sent at o → Sent at (satisfy_wish rules o w)
 unfolding satisfy_wish
-take_of_sent at rules o None h = h
-take_of_sent at rules o (Some w) h = satisfy_sent at rules w.call w.op _ (unwished_sent at o h)
+satisfy_wish_sent at rules o None h = h
+satisfy_wish_sent at rules o (Some w) h = satisfy_sent at rules w.call w.op _ (unwished_sent at o h)
 
 raise_sent : (at : Place) (o : Moving) → Sent at o → Sent at (raise o)
-unfolding Sent raise keeps makes raised rsn_of revoked_rsn
+unfolding Sent raise keeps reaches risen with_flags rsn_of revoked_rsn
 raise_sent at o h = grind arith
 
 pub end_revocation_sent : (at : Place) (rules : Rules) (o : Moving) → Sent at o → Sent at (end_revocation at rules o)

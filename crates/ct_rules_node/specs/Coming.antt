@@ -26,10 +26,10 @@ is_after_pending call n = list_all (λ x. nat_lt x.call call) (pending_calls n) 
 
 -- What is asked of an event: a call has 1 to 16 writes and a greater number than those that wait, a message is for this
 -- node and keeps the rules of its fields, members and able nodes ascend, and members are nodes, this one among them
-unfoldable pub is_given : Config → ℕ → Node → Event → Bool
-is_given c me n (event.Client call o) = is_allowed_op o && is_after_pending call n
-is_given c me n (event.Arrive f) = well_formed f && nat_eq f.receiver me
-is_given c me n event.Retry = true
-is_given c me n (event.Vacuum db) = true
-is_given c me n (event.BeginRound ticket members) = ascends nat_lt members && list_all (λ m. nat_lt m c.nodes) members && is_among me members
-is_given c me n (event.BeginTakeover able) = ascends nat_lt able
+unfoldable pub may_come : Config → ℕ → Node → Event → Bool
+may_come c me n (event.Client call o) = is_allowed_op o && is_after_pending call n
+may_come c me n (event.Arrive f) = well_formed f && nat_eq f.receiver me
+may_come c me n event.Retry = true
+may_come c me n (event.Vacuum db) = true
+may_come c me n (event.BeginRound ticket members) = ascends nat_lt members && list_all (λ m. nat_lt m c.nodes) members && is_among me members
+may_come c me n (event.BeginTakeover able) = ascends nat_lt able

@@ -105,7 +105,7 @@ told_more n asks (b ∷ bs) a = ap (λ l. answers n (asks (call_of b)) b ++ l) (
 
 module _ (at : Place) (asks : ℕ → Option ClientOp) where
   pub like_send : (to : ℕ) (m : Msg) (o : Moving) → out_of at asks (Parts.send to m o) ≡ Rule.send at.me to (body_of m) (out_of at asks o)
-  unfolding Parts.send Parts.acts Rule.send sends answers frames_of
+  unfolding Parts.send Parts.performs Rule.send sends answers frames_of
   like_send to m o = λ i. record {
     node = node_of at.me at.readonly o.state o.next o.floor;
     frames = (ap frames_of (sent_more at.me o.acts (act.Send to m)) ∙ frames_append (sent at.me o.acts) (record { sender = at.me; receiver = to; msg = m } ∷ [])) i;
@@ -122,15 +122,15 @@ module _ (at : Place) (asks : ℕ → Option ClientOp) where
   like_send_all (n ∷ ns) m o = like_send_all ns m (Parts.send n m o) ∙ ap (Rule.send_all at.me ns (body_of m)) (like_send n m o)
 
   pub like_reply : (call : ℕ) (asked : ClientOp) (a : Answer) (o : Moving) → asks call ≡ Some asked → out_of at asks (Parts.reply call a o) ≡ Rule.tell (Told at.me asked a) (out_of at asks o)
-  unfolding Parts.reply Parts.acts Rule.tell sends answers frames_of call_of
+  unfolding Parts.reply Parts.performs Rule.tell sends answers frames_of call_of
   like_reply call asked a o is = λ i. record {
     node = node_of at.me at.readonly o.state o.next o.floor;
     frames = (ap frames_of (sent_more at.me o.acts (act.Answer call a)) ∙ ap frames_of (append-nil (sent at.me o.acts))) i;
     labels = (told_more at.me asks o.acts (act.Answer call a) ∙ ap (λ x. told at.me asks o.acts ++ answers at.me x (act.Answer call a)) is) i;
   }
 
-  pub like_finished : (floor : ℕ) (o : Moving) → out_of at asks (Parts.acts (act.Finished floor) o) ≡ Rule.tell (Vacuumed at.me) (out_of at asks o)
-  unfolding Parts.acts Rule.tell sends answers frames_of
+  pub like_finished : (floor : ℕ) (o : Moving) → out_of at asks (Parts.performs (act.Finished floor) o) ≡ Rule.tell (Vacuumed at.me) (out_of at asks o)
+  unfolding Parts.performs Rule.tell sends answers frames_of
   like_finished floor o = λ i. record {
     node = node_of at.me at.readonly o.state o.next o.floor;
     frames = (ap frames_of (sent_more at.me o.acts (act.Finished floor)) ∙ ap frames_of (append-nil (sent at.me o.acts))) i;
@@ -193,8 +193,8 @@ unfolding State.with_flags State.is_mastered Rule.is_odd Rule.is_kind_odd copy_o
 flags_like me flags None ne m e = refl
 flags_like me flags (Some c) ne m e = grind arith
 
-pub raised_like : (me : ℕ) (c : Option RecCopy) → State.is_mastered me c ≡ true → Rule.is_odd (copy_of me c) ≡ false → copy_of me (State.raised c) ≡ Rule.risen (copy_of me c)
-unfolding State.raised State.is_mastered Rule.risen Rule.is_odd Rule.is_kind_odd copy_of kind_at
+pub raised_like : (me : ℕ) (c : Option RecCopy) → State.is_mastered me c ≡ true → Rule.is_odd (copy_of me c) ≡ false → copy_of me (State.with_flags plain (State.risen c)) ≡ Rule.risen (copy_of me c)
+unfolding State.with_flags State.risen State.is_mastered Rule.risen Rule.is_odd Rule.is_kind_odd copy_of kind_at
 raised_like me None m e = refl
 raised_like me (Some c) m e = grind arith
 

@@ -1,5 +1,5 @@
 -- What every event makes a node send keeps the rules of its fields.
-use Rattle.std.proofs.Common.{◌≡◌, ℕ, ◌+◌, Bool, true, false, List, [], ◌∷◌, Option, Some, None, refl, arith, ◌&&◌, ◌||◌, ◌<◌, ◌≤◌, ◌^◌, ◌++◌, ◌==◌, ◌-◌, subst, ◌∙◌, sym}
+use Rattle.std.proofs.Common.{◌≡◌, ℕ, ◌+◌, Bool, true, false, List, [], ◌∷◌, Option, Some, None, refl, arith, ◌&&◌, ◌||◌, ◌<◌, ◌^◌, ◌++◌, ◌==◌, ◌-◌, subst, ◌∙◌, sym}
 use Rattle.std.proofs.lemmas.Bool.{cond_both, and_parts, and_from}
 use Rattle.std.proofs.lemmas.List.Folds.{list_all-append}
 use Rattle.std.specs.List.{list_all}
@@ -16,11 +16,11 @@ use Rattle.ct_vacuum.specs.declared.vacuum.VacuumPhase.{VacuumPhase}
 use Rattle.ct_vacuum.specs.declared.vacuum.VacuumPhase.TheVariants.{Storing, Deleting}
 use Rattle.ct_vacuum.specs.Vacuum.{Vacuuming, vacuum_begun, stored, deleted}
 use Rattle.ct_rules.specs.State.{plain, for_reading, rank, is_given, kind_of, a_copy, is_nil, rsn_of, is_mastered, is_free, risen, is_read_op, is_for_reading, value_of}
-use Rattle.ct_rules.specs.Parts.{Moving, acts, send, keeps, makes, opened, open_of, end_vacuum, next, next_of, keep, call_for, wait_for_copies, want_of, opened_at_home, want}
-use Rattle.ct_rules.specs.Frames.{pass_again, enqueue, on_call_of, called, on_call, wait, handle, recalled, on_recall, hand_on, on_give_of, on_give, becomes, take, refuse, on_pass, on_refuse_of, on_refuse, reads, on_grant, on_done_of, on_done, called_in, acknowledge, on_revoke_of, on_revoke, acknowledged, on_revokeack, stored_copy, deleted_copy, on_vstore, on_vdelete, finish, greater, on_vstored_of, on_vstored, on_vdeleted_of, on_vdeleted}
+use Rattle.ct_rules.specs.Parts.{Moving, performs, send, keeps, reaches, opened, open_of, end_vacuum, next, next_of, keep, call_for, wait_for_copies, want_of, opened_at_home, want}
+use Rattle.ct_rules.specs.Messages.{pass_again, enqueue, on_call_of, called, on_call, wait, handle, recalled, on_recall, hand_on, on_give_of, on_give, becomes, accept, refuse, on_pass, on_refuse_of, on_refuse, read_granted, on_grant, on_done_of, on_done, called_in, acknowledge, renew, on_revoke_of, on_revoke, acknowledged, on_revokeack, stored_copy, deleted_copy, on_vstore, on_vdelete, finish, greater, on_vstored_of, on_vstored, on_vdeleted_of, on_vdeleted}
 use Rattle.ct_rules.specs.Moves.{store, release, unlock, phase_message, begin_vacuum, vacuum_at_home, vacuum, call_again_of, call_again, revoke_again_of, revoke_again, at_home, from_home, arrive, move, begins}
 use Rattle.ct_rules.specs.Form.{least_of, sent_for, revoked_rsn, vacuumed_rsn, wished_as, is_asked, is_recalled, MayCome, IsInForm}
-use Rattle.ct_rules.specs.Sent.{is_sound, is_of_node, is_for_node, waits_for_nodes, is_from_node, SendsSound}
+use Rattle.ct_rules.specs.Sent.{is_well_formed, is_of_node, is_for_node, waits_for_nodes, is_from_node, SendsSound}
 use Rattle.ct_frame.specs.Fields.{is_db, is_node, is_message, is_from_one}
 use Rattle.ct_rules.specs.declared.event.MoveEvent.{MoveEvent}
 use Rattle.ct_rules.specs.declared.event.MoveEvent.TheVariants as event
@@ -32,7 +32,7 @@ use Rattle.ct_rules.specs.declared.state.Waiter.{Waiter}
 use Rattle.ct_rules.specs.declared.state.Wish.{Wish}
 use Rattle.ct_rules.proofs.Arriving.{stored_rsn, deleted_rsn}
 use Rattle.ct_rules.proofs.Events.{unspent_same}
-use Rattle.ct_rules.proofs.Sending.{Sent, rsn_sound, request_sound, if_sent, acts_sent, send_sent, reply_sent, send_all_sent, db_of, copy_of, waiting_of, waiting_sent, ended_sent, give_sent, revoke_sent, yield_sent, still_sent, granted_sent, drained_sent, valued_sent, locked_sent, satisfy_sent, take_of_sent, unwished_sent, end_revocation_sent}
+use Rattle.ct_rules.proofs.SentParts.{Sent, rsn_sound, request_sound, if_sent, performs_sent, send_sent, reply_sent, send_all_sent, db_of, copy_of, waiting_of, waiting_sent, ended_sent, give_sent, revoke_sent, yield_sent, still_sent, granted_sent, drained_sent, valued_sent, locked_sent, satisfy_sent, satisfy_wish_sent, unwished_sent, end_revocation_sent}
 
 -- ---- NEXT and KEEP
 
@@ -57,8 +57,8 @@ next_sent : (at : Place) (o : Moving) → Sent at o → Sent at (next at o)
 unfolding next
 next_sent at o h = next_of_sent at o o.state.entry o.state.queue refl refl h
 
-kept_sent : (at : Place) (rsn : ℕ) (value : List ℕ) (o : Moving) → Sent at o → Sent at (makes rsn (keeps (record o.state { entry = Some (record { holder = at.lmaster; least = rsn; request = 0; value = value }); copy = Some (a_copy rsn at.lmaster plain value) }) o))
-unfolding Sent keeps makes least_of sent_for rsn_of
+kept_sent : (at : Place) (rsn : ℕ) (value : List ℕ) (o : Moving) → Sent at o → Sent at (reaches rsn (keeps (record o.state { entry = Some (record { holder = at.lmaster; least = rsn; request = 0; value = value }); copy = Some (a_copy rsn at.lmaster plain value) }) o))
+unfolding Sent keeps reaches least_of sent_for rsn_of
 kept_sent at rsn value o h = grind arith
 
 keep_sent : (at : Place) (rsn : ℕ) (value : List ℕ) (o : Moving) → Sent at o → Sent at (keep at rsn value o)
@@ -139,8 +139,8 @@ recall_sent at r o asked named h = if_sent at _ _ _ h (recalled_sent at r o aske
 
 -- ---- Give, Pass and Refuse
 
-handed_sent : (at : Place) (rsn : ℕ) (value : List ℕ) (o : Moving) (w : Waiter) (ws : List Waiter) → o.state.queue ≡ w ∷ ws → Sent at o → Sent at (makes (rsn + 1) (keeps (record o.state { entry = Some (record { holder = w.node; least = rsn + 1; request = w.request; value = value }); queue = ws }) o))
-unfolding Sent keeps makes least_of sent_for is_asked
+handed_sent : (at : Place) (rsn : ℕ) (value : List ℕ) (o : Moving) (w : Waiter) (ws : List Waiter) → o.state.queue ≡ w ∷ ws → Sent at o → Sent at (reaches (rsn + 1) (keeps (record o.state { entry = Some (record { holder = w.node; least = rsn + 1; request = w.request; value = value }); queue = ws }) o))
+unfolding Sent keeps reaches least_of sent_for is_asked
 handed_sent at rsn value o w ws is h = grind arith
 
 hand_on_sent : (at : Place) (rsn : ℕ) (value : List ℕ) (o : Moving) (ws : List Waiter) → o.state.queue ≡ ws → rsn < 2 ^ 62 → Sent at o → Sent at (hand_on at rsn value o ws)
@@ -159,13 +159,13 @@ refuse_of_sent at n request rsn o None h = h
 refuse_of_sent at n request rsn o (Some e) h = if_sent at _ _ _ (keep_sent at (rsn + 2) e.value o h) h
 
 becomes_sent : (at : Place) (rsn : ℕ) (value : List ℕ) (o : Moving) → Sent at o → Sent at (becomes at rsn value o)
-unfolding Sent becomes keeps makes rsn_of revoked_rsn
+unfolding Sent becomes keeps reaches rsn_of revoked_rsn
 becomes_sent at rsn value o h = grind arith
 
 pass_sent : (at : Place) (rules : Rules) (request rsn : ℕ) (value : List ℕ) (o : Moving) → is_from_one request ≡ true → rsn < 2 ^ 62 → Sent at o → Sent at (on_pass at rules request rsn value o)
-unfolding on_pass take refuse
+unfolding on_pass accept refuse
 pass_sent at rules request rsn value o asked below h = if_sent at _ _ _ h (if_sent at _ _ _
-    (drained_sent at _ (take_of_sent at rules _ _ (becomes_sent at (rsn + 1) value o h)))
+    (drained_sent at _ (satisfy_wish_sent at rules _ _ (becomes_sent at (rsn + 1) value o h)))
     (send_sent at _ _ _ (λ _. (request_sound at.me at.db request rsn at.key [] kind.Lock (db_of at o h) asked below).2) (waiting_sent at [] o refl refl h)))
 
 -- ---- Grant, Done, Revoke and RevokeAck
@@ -174,14 +174,14 @@ copied_sent : (at : Place) (rsn master flags : ℕ) (value : List ℕ) (o : Movi
 unfolding Sent keeps rsn_of
 copied_sent at rsn master flags value o below h = grind arith
 
-reads_sent : (at : Place) (request : ℕ) (o : Moving) (w : Option Wish) (value : List ℕ) → Sent at o → Sent at (reads request o w value)
-unfolding reads
-reads_sent at request o None value h = h
-reads_sent at request o (Some w) value h = reply_sent at _ _ _ (unwished_sent at o h)
+read_granted_sent : (at : Place) (request : ℕ) (o : Moving) (w : Option Wish) (value : List ℕ) → Sent at o → Sent at (read_granted request o w value)
+unfolding read_granted
+read_granted_sent at request o None value h = h
+read_granted_sent at request o (Some w) value h = reply_sent at _ _ _ (unwished_sent at o h)
 
 on_grant_sent : (at : Place) (n request rsn : ℕ) (value : List ℕ) (o : Moving) → rsn < 2 ^ 62 → Sent at o → Sent at (on_grant at n request rsn value o)
 unfolding on_grant
-on_grant_sent at n request rsn value o below h = if_sent at _ _ _ (reads_sent at request _ o.state.wish value (copied_sent at rsn n for_reading value o below h)) h
+on_grant_sent at n request rsn value o below h = if_sent at _ _ _ (read_granted_sent at request _ o.state.wish value (copied_sent at rsn n for_reading value o below h)) h
 
 served_sent : (at : Place) (o : Moving) (w : Waiter) (ws : List Waiter) → o.state.queue ≡ w ∷ ws → Sent at o → Sent at (keeps (record o.state { queue = ws }) o)
 unfolding Sent keeps
@@ -200,9 +200,9 @@ acknowledge_sent : (at : Place) (n rsn : ℕ) (o : Moving) → rsn < 2 ^ 62 → 
 unfolding acknowledge
 acknowledge_sent at n rsn o below h = send_sent at _ _ _ (λ _. (rsn_sound at.me at.db rsn at.key [] (db_of at o h) below).2) (called_in_sent at rsn o h)
 
-renewed_sent : (at : Place) (call : ℕ) (o_p : ClientOp) (o : Moving) → Sent at o → Sent at (makes (o.next + 1) (record o { state = record o.state { wish = Some (record { call = call; request = o.next; op = o_p }) }; next = o.next + 1 }))
-unfolding Sent makes wished_as
-renewed_sent at call o_p o h = grind arith
+renewed_sent : (at : Place) (call : ℕ) (asked : ClientOp) (o : Moving) → Sent at o → Sent at (reaches (o.next + 1) (record o { state = record o.state { wish = Some (record { call = call; request = o.next; op = asked }) }; next = o.next + 1 }))
+unfolding Sent reaches wished_as
+renewed_sent at call asked o h = grind arith
 
 -- the number that is drawn
 drawn : (at : Place) (o : Moving) → Sent at o → (o.spent || nat_le (2 ^ 62) (o.next + 1)) ≡ false → is_from_one o.next ≡ true
@@ -213,15 +213,15 @@ call_sound : (me db request : ℕ) (key : List ℕ) (k : CallKind) → is_db db 
 call_sound me db request key k d q = grind arith
 
 acknowledged_spent : (at : Place) (h rsn : ℕ) (o : Moving) → (acknowledge at h rsn o).spent ≡ o.spent
-unfolding acknowledge send acts keeps
+unfolding acknowledge send performs keeps
 acknowledged_spent at h rsn o = refl
 
-made_spent : (n : ℕ) (o : Moving) → (makes n o).spent ≡ (o.spent || nat_le (2 ^ 62) n)
-unfolding makes
+made_spent : (n : ℕ) (o : Moving) → (reaches n o).spent ≡ (o.spent || nat_le (2 ^ 62) n)
+unfolding reaches
 made_spent n o = refl
 
 revoke_of_sent : (at : Place) (n rsn : ℕ) (o : Moving) (w : Option Wish) → rsn < 2 ^ 62 → Sent at o → Sent at (on_revoke_of at n rsn o w)
-unfolding on_revoke_of
+unfolding renew on_revoke_of
 revoke_of_sent at n rsn o None below h = acknowledge_sent at n rsn o below h
 revoke_of_sent at n rsn o (Some w) below h = if_sent at _ _ _
     (send_sent at _ _ _ (λ u. call_sound at.me at.db o.next at.key kind.Read (db_of at o h) (drawn at o h (sym (acknowledged_spent at n rsn _ ∙ made_spent (o.next + 1) _) ∙ u))) (acknowledge_sent at n rsn _ below (renewed_sent at w.call w.op o h)))
@@ -253,13 +253,13 @@ on_vdelete_sent : (at : Place) (n rsn : ℕ) (o : Moving) → rsn < 2 ^ 62 → S
 unfolding on_vdelete
 on_vdelete_sent at n rsn o below h = send_sent at _ _ _ (λ _. (rsn_sound at.me at.db rsn at.key [] (db_of at o h) below).6) (deleted_sent at rsn o h)
 
-finished_sent : (at : Place) (rsn : ℕ) (o : Moving) → Sent at o → Sent at (makes (rsn + 2) (record o { state = record o.state { copy = None; entry = None; vacuum = None }; floor = greater o.floor (rsn + 2) }))
-unfolding Sent makes greater rsn_of least_of sent_for vacuumed_rsn
+finished_sent : (at : Place) (rsn : ℕ) (o : Moving) → Sent at o → Sent at (reaches (rsn + 2) (record o { state = record o.state { copy = None; entry = None; vacuum = None }; floor = greater o.floor (rsn + 2) }))
+unfolding Sent reaches greater rsn_of least_of sent_for vacuumed_rsn
 finished_sent at rsn o h = grind arith
 
 finish_sent : (at : Place) (rsn : ℕ) (o : Moving) → Sent at o → Sent at (finish rsn o)
-unfolding finish is_sound
-finish_sent at rsn o h = acts_sent at _ _ (λ _. refl) (finished_sent at rsn o h)
+unfolding finish is_well_formed
+finish_sent at rsn o h = performs_sent at _ _ (λ _. refl) (finished_sent at rsn o h)
 
 vacuuming_sent : (at : Place) (v w : Vacuuming) (o : Moving) → o.state.vacuum ≡ Some v → w.rsn ≡ v.rsn → Sent at o → Sent at (keeps (record o.state { vacuum = Some w }) o)
 unfolding Sent keeps vacuumed_rsn
@@ -277,36 +277,36 @@ vdeleted_of_sent at n rsn o (Some v) is h = if_sent at _ _ _ (finish_sent at rsn
 
 -- ---- what clients and the node itself do
 
-call_for_sent : (at : Place) (call : ℕ) (o_p : ClientOp) (o : Moving) → Sent at o → Sent at (call_for at call o_p o)
+call_for_sent : (at : Place) (call : ℕ) (asked : ClientOp) (o : Moving) → Sent at o → Sent at (call_for at call asked o)
 unfolding call_for
-call_for_sent at call o_p o h = send_sent at _ _ _ (λ u. call_sound at.me at.db o.next at.key (kind_of at.readonly o_p) (db_of at o h) (drawn at o h (sym (made_spent (o.next + 1) _) ∙ u))) (renewed_sent at call o_p o h)
+call_for_sent at call asked o h = send_sent at _ _ _ (λ u. call_sound at.me at.db o.next at.key (kind_of at.readonly asked) (db_of at o h) (drawn at o h (sym (made_spent (o.next + 1) _) ∙ u))) (renewed_sent at call asked o h)
 
-own_wish_sent : (at : Place) (call : ℕ) (o_p : ClientOp) (o : Moving) → Sent at o → Sent at (keeps (record o.state { wish = Some (record { call = call; request = 0; op = o_p }) }) o)
+own_wish_sent : (at : Place) (call : ℕ) (asked : ClientOp) (o : Moving) → Sent at o → Sent at (keeps (record o.state { wish = Some (record { call = call; request = 0; op = asked }) }) o)
 unfolding Sent keeps wished_as
-own_wish_sent at call o_p o h = grind arith
+own_wish_sent at call asked o h = grind arith
 
-wait_for_sent : (at : Place) (call : ℕ) (o_p : ClientOp) (o : Moving) → Sent at o → Sent at (wait_for_copies at call o_p o)
+wait_for_sent : (at : Place) (call : ℕ) (asked : ClientOp) (o : Moving) → Sent at o → Sent at (wait_for_copies at call asked o)
 unfolding wait_for_copies
-wait_for_sent at call o_p o h = (let k = own_wish_sent at call o_p o h in if_sent at _ _ _ (revoke_sent at _ k) k)
+wait_for_sent at call asked o h = (let k = own_wish_sent at call asked o h in if_sent at _ _ _ (revoke_sent at _ k) k)
 
-want_of_sent : (at : Place) (rules : Rules) (call : ℕ) (o_p : ClientOp) (o : Moving) → Sent at o → Sent at (want_of at rules call o_p o)
+want_of_sent : (at : Place) (rules : Rules) (call : ℕ) (asked : ClientOp) (o : Moving) → Sent at o → Sent at (want_of at rules call asked o)
 unfolding want_of
-want_of_sent at rules call o_p o h = if_sent at (is_read_op o_p && (is_mastered at.me o.state.copy || is_for_reading o.state.copy)) _ _
+want_of_sent at rules call asked o h = if_sent at (is_read_op asked && (is_mastered at.me o.state.copy || is_for_reading o.state.copy)) _ _
     (reply_sent at call (answer.Read (value_of o.state.copy)) o h)
     (if_sent at (is_mastered at.me o.state.copy) _ _
-    (if_sent at (is_nil o.state.tracking.tracked) _ _ (satisfy_sent at rules call o_p o h) (wait_for_sent at call o_p o h))
-    (call_for_sent at call o_p o h))
+    (if_sent at (is_nil o.state.tracking.tracked) _ _ (satisfy_sent at rules call asked o h) (wait_for_sent at call asked o h))
+    (call_for_sent at call asked o h))
 
-pub want_sent : (at : Place) (rules : Rules) (call : ℕ) (o_p : ClientOp) (o : Moving) → Sent at o → Sent at (want at rules call o_p o)
+pub want_sent : (at : Place) (rules : Rules) (call : ℕ) (asked : ClientOp) (o : Moving) → Sent at o → Sent at (want at rules call asked o)
 unfolding want opened_at_home
-want_sent at rules call o_p o h = want_of_sent at rules call o_p _ (if_sent at _ _ _ (ended_sent at _ (opened_sent at o h)) h)
+want_sent at rules call asked o h = want_of_sent at rules call asked _ (if_sent at _ _ _ (ended_sent at _ (opened_sent at o h)) h)
 
-begun_sent : (at : Place) (ns : List ℕ) (o : Moving) → Sent at o → Sent at (makes (rsn_of o.state.copy + 1) (keeps (record o.state { copy = risen o.state.copy; vacuum = Some (vacuum_begun (rsn_of o.state.copy) ns) }) o))
-unfolding Sent makes keeps risen rsn_of vacuumed_rsn
+begun_sent : (at : Place) (ns : List ℕ) (o : Moving) → Sent at o → Sent at (reaches (rsn_of o.state.copy + 1) (keeps (record o.state { copy = risen o.state.copy; vacuum = Some (vacuum_begun (rsn_of o.state.copy) ns) }) o))
+unfolding Sent reaches keeps risen rsn_of vacuumed_rsn
 begun_sent at ns o h = grind arith
 
-unspent_before : (n : ℕ) (s : RecState) (o : Moving) → (makes n (keeps s o)).spent ≡ false → o.spent ≡ false
-unfolding makes keeps
+unspent_before : (n : ℕ) (s : RecState) (o : Moving) → (reaches n (keeps s o)).spent ≡ false → o.spent ≡ false
+unfolding reaches keeps
 unspent_before n s o u = grind arith
 
 begin_sent : (at : Place) (o : Moving) (others : List ℕ) → Sent at o → Sent at (begin_vacuum at o others)
@@ -381,39 +381,39 @@ pub resend_sent : (at : Place) (o : Moving) → Sent at o → Sent at (revoke_ag
 unfolding revoke_again call_again
 resend_sent at o h = revoke_again_sent at (call_again_of at o o.state.wish) _ refl (call_again_sent at o o.state.wish refl h)
 
-pub move_sent : (at : Place) (rules : Rules) (e : MoveEvent) (o : Moving) → MayCome at o.state e → is_from_node e ≡ true → Sent at o → Sent at (move at rules e o)
+pub move_sent : (at : Place) (rules : Rules) (e : MoveEvent) (o : Moving) → MayCome o.state e → is_from_node e ≡ true → Sent at o → Sent at (move at rules e o)
 unfolding store unlock release
-move_sent at rules (event.Want call o_p) o may node h = want_sent at rules call o_p o h
+move_sent at rules (event.Want call asked) o may node h = want_sent at rules call asked o h
 move_sent at rules (event.Store call v) o may node h = reply_sent at _ _ _ (valued_sent at v o h)
 move_sent at rules (event.Unlock call) o may node h = drained_sent at _ (reply_sent at _ _ _ (locked_sent at None o h))
 move_sent at rules (event.Arrive sender m) o may node h = arrive_sent at rules sender m o may.1 node h
 move_sent at rules (event.Vacuum others) o may node h = vacuum_sent at others o h
 move_sent at rules event.Resend o may node h = resend_sent at o h
 
-pub begins_sent : (at : Place) (s : RecState) (next : ℕ) → is_db at.db ≡ true → IsInForm at s → waits_for_nodes s ≡ true → 1 ≤ next → next < 2 ^ 62 → at.floor < 2 ^ 62 → Sent at (begins s next at.floor)
+pub begins_sent : (at : Place) (s : RecState) (next : ℕ) → is_db at.db ≡ true → IsInForm at next s → waits_for_nodes s ≡ true → Sent at (begins s next at.floor)
 unfolding Sent
-begins_sent at s next d f nodes one below low = (let p = and_parts (list_all is_of_node s.queue) (list_all is_for_node s.waiting) nodes in record {
+begins_sent at s next d f nodes = (let p = and_parts (list_all is_of_node s.queue) (list_all is_for_node s.waiting) nodes in record {
   db = d;
   sound = λ _. refl;
   queue_asked = f.shape.queue_asked;
   queue_nodes = p.0;
   waiting_recalled = f.shape.waiting_recalled;
   waiting_nodes = p.1;
-  from_one = one;
+  from_one = f.counters.from_one;
   copy_limit = λ _. f.numbers.copy_limit;
   least_limit = λ _. f.numbers.least_limit;
   request_limit = λ _. f.numbers.request_limit;
   revocation_limit = λ _. f.numbers.revocation_limit;
   vacuum_limit = λ _. f.numbers.vacuum_limit;
   wish_limit = λ _. f.numbers.wish_limit;
-  next_limit = λ _. below;
-  floor_limit = λ _. low;
+  next_limit = λ _. f.counters.next_limit;
+  floor_limit = λ _. f.counters.floor_limit;
 })
 
-pub sent_sound : (at : Place) (o : Moving) → o.spent ≡ false → Sent at o → (list_all (is_sound at.me) o.acts ≡ true) × (waits_for_nodes o.state ≡ true)
+pub sent_sound : (at : Place) (o : Moving) → o.spent ≡ false → Sent at o → (list_all (is_well_formed at.me) o.acts ≡ true) × (waits_for_nodes o.state ≡ true)
 unfolding Sent
 sent_sound at o u h = (h.sound u, and_from _ _ h.queue_nodes h.waiting_nodes)
 
 pub what_is_sent : SendsSound
-what_is_sent at rules e s next o d f nodes one below low may node whole = (let u = unspent_same (move at rules e (begins s next at.floor)) o whole in
-    subst (λ (x : Moving). (list_all (is_sound at.me) x.acts ≡ true) × (waits_for_nodes x.state ≡ true)) u.1 (sent_sound at (move at rules e (begins s next at.floor)) u.0 (move_sent at rules e (begins s next at.floor) may node (begins_sent at s next d f nodes one below low))))
+what_is_sent at rules e s next o d f nodes may node whole = (let u = unspent_same (move at rules e (begins s next at.floor)) o whole in
+    subst (λ (x : Moving). (list_all (is_well_formed at.me) x.acts ≡ true) × (waits_for_nodes x.state ≡ true)) u.1 (sent_sound at (move at rules e (begins s next at.floor)) u.0 (move_sent at rules e (begins s next at.floor) may node (begins_sent at s next d f nodes))))

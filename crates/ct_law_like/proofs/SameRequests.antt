@@ -24,9 +24,9 @@ use Rattle.ct_rules.specs.declared.state.Wish.{Wish}
 use Rattle.ct_law_world.specs.Labels.{Told}
 use Rattle.ct_law_fact.proofs.Rule
 use Rattle.ct_law_fact.proofs.Rule.{Copy, Out}
-use Rattle.ct_law_like.proofs.Likeness.{kind_at, copy_of, wish_of, body_of, out_of, FineAt, like_send, like_reply, rsn_like, rank_like, value_like, mastered_like, for_reading_like, with_value_like, given_like, raised_like, own_like, free_like}
-use Rattle.ct_law_like.proofs.Alike.{none_is_not_some, idle_like, if_like, like_opened_quiet, like_satisfy, like_revoke, like_grant, like_yield, like_drained}
-use Rattle.ct_rules.specs.Frames
+use Rattle.ct_law_like.proofs.SeenNode.{kind_at, copy_of, wish_of, body_of, out_of, FineAt, like_send, like_reply, rsn_like, rank_like, value_like, mastered_like, for_reading_like, with_value_like, given_like, raised_like, own_like, free_like}
+use Rattle.ct_law_like.proofs.SameParts.{none_is_not_some, idle_like, if_like, like_opened_quiet, like_satisfy, like_revoke, like_grant, like_yield, like_drained}
+use Rattle.ct_rules.specs.Messages
 use Rattle.std.specs.List.{list_any}
 
 even-value : (v : List ℕ) (c : Option Copy) → Rule.is_odd (Rule.with_value v c) ≡ Rule.is_odd c
@@ -44,8 +44,8 @@ unfolding Rule.is_odd Rule.is_kind_odd
 even_own me l rsn value e = ap Rule.is_odd (own_like me l rsn value e)
 
 -- what Revoke leaves of a copy
-pub stale_like : (me rsn : ℕ) (c : Option RecCopy) → Rule.is_odd (copy_of me c) ≡ false → copy_of me (Frames.called_in rsn c) ≡ Rule.stale rsn (copy_of me c)
-unfolding copy_of kind_at Frames.called_in Rule.stale Rule.is_odd Rule.is_kind_odd Rule.is_kind_reading
+pub stale_like : (me rsn : ℕ) (c : Option RecCopy) → Rule.is_odd (copy_of me c) ≡ false → copy_of me (Messages.called_in rsn c) ≡ Rule.stale rsn (copy_of me c)
+unfolding copy_of kind_at Messages.called_in Rule.stale Rule.is_odd Rule.is_kind_odd Rule.is_kind_reading
 stale_like me rsn None e = refl
 stale_like me rsn (Some c) e = grind arith
 
@@ -66,14 +66,14 @@ even_open_of at o None home even = even_own at.me at.lmaster o.floor [] home
 
 module _ (at : Place) (asks : ℕ → Option ClientOp) (ne : at.me ≢ nobody) where
   fine_applies : (call : ℕ) (o : Moving) → FineAt at asks o → (r : Result (List ℕ) CallFault) → FineAt at asks (Parts.applies call o r)
-  unfolding Parts.applies Parts.keeps Parts.reply Parts.acts
+  unfolding Parts.applies Parts.keeps Parts.reply Parts.performs
   fine_applies call o h (Ok v) = record { even = ap Rule.is_odd (with_value_like at.me v o.state.copy) ∙ even-value v (copy_of at.me o.state.copy) ∙ h.even; waits = h.waits }
   fine_applies call o h (Err (fault.TooLong n)) = record { even = h.even; waits = h.waits }
   fine_applies call o h (Err fault.NoSuchCall) = record { even = h.even; waits = h.waits }
   fine_applies call o h (Err fault.NoMemory) = h
 
   pub fine_satisfy : (rules : Rules) (call : ℕ) (asked : ClientOp) (o : Moving) → FineAt at asks o → FineAt at asks (Parts.satisfy rules call asked o)
-  unfolding Parts.satisfy Parts.keeps Parts.reply Parts.acts
+  unfolding Parts.satisfy Parts.keeps Parts.reply Parts.performs
   fine_satisfy rules call (op.Lock db key) o h = record { even = h.even; waits = h.waits }
   fine_satisfy rules call (op.Read db key) o h = record { even = h.even; waits = h.waits }
   fine_satisfy rules call (op.Write db key v) o h = record { even = ap Rule.is_odd (with_value_like at.me v o.state.copy) ∙ even-value v (copy_of at.me o.state.copy) ∙ h.even; waits = h.waits }
@@ -98,15 +98,15 @@ module _ (at : Place) (asks : ℕ → Option ClientOp) (ne : at.me ≢ nobody) w
   fine_own rules o (Some w) h = cond_both (w.request == 0) _ _ (FineAt at asks) (λ _. fine_satisfy rules w.call w.op _ (unwished o h)) (λ _. h)
 
   like_raise : (o : Moving) → State.is_mastered at.me o.state.copy ≡ true → Rule.is_odd (copy_of at.me o.state.copy) ≡ false → out_of at asks (Parts.raise o) ≡ Rule.with_node (record (out_of at asks o).node { copy = Rule.risen (copy_of at.me o.state.copy); tracked = []; revoking = None }) (out_of at asks o)
-  unfolding Parts.raise Parts.makes Parts.keeps Rule.with_node
+  unfolding Parts.raise Parts.reaches Parts.keeps Rule.with_node
   like_raise o held even = λ i. record (out_of at asks o) { node = record (out_of at asks o).node { copy = raised_like at.me o.state.copy held even i; tracked = []; revoking = None } }
 
   fine_raise : (o : Moving) → State.is_mastered at.me o.state.copy ≡ true → FineAt at asks o → FineAt at asks (Parts.raise o)
-  unfolding Parts.raise Parts.makes Parts.keeps
+  unfolding Parts.raise Parts.reaches Parts.keeps
   fine_raise o held h = record { even = ap Rule.is_odd (raised_like at.me o.state.copy held h.even) ∙ even-risen (copy_of at.me o.state.copy) ∙ h.even; waits = h.waits }
 
   raise_wish : (o : Moving) → (Parts.raise o).state.wish ≡ o.state.wish
-  unfolding Parts.raise Parts.makes Parts.keeps
+  unfolding Parts.raise Parts.reaches Parts.keeps
   raise_wish o = refl
 
   pub like_end_revocation : (rules : Rules) (o : Moving) → State.is_mastered at.me o.state.copy ≡ true → FineAt at asks o → out_of at asks (Parts.end_revocation at rules o) ≡ Rule.end_revocation rules at.me at.lmaster (out_of at asks o)
@@ -122,13 +122,13 @@ module _ (at : Place) (asks : ℕ → Option ClientOp) (ne : at.me ≢ nobody) w
   like_next o = like_next_of at asks o o.state.entry o.state.queue
 
   pub like_keep : (rsn : ℕ) (value : List ℕ) (o : Moving) → at.me ≡ at.lmaster → out_of at asks (Parts.keep at rsn value o) ≡ Rule.keep at.me rsn value (out_of at asks o)
-  unfolding Parts.keep Parts.makes Parts.keeps Rule.keep Rule.become Rule.with_node
+  unfolding Parts.keep Parts.reaches Parts.keeps Rule.keep Rule.become Rule.with_node
   like_keep rsn value o home = like_next _
       ∙ ap (Rule.next at.me) (λ i. record (out_of at asks o) { node = record (out_of at asks o).node { entry = Some (record { holder = sym home i; least = rsn; request = 0; value = value }); copy = own_like at.me at.lmaster rsn value home i } })
 
   -- Want
   like_call_for : (call : ℕ) (asked : ClientOp) (o : Moving) → out_of at asks (Parts.call_for at call asked o) ≡ Rule.call at.me at.lmaster (record { real = asked; readonly = at.readonly }) (out_of at asks o)
-  unfolding Parts.call_for Parts.makes Rule.call Rule.with_node body_of wish_of
+  unfolding Parts.call_for Parts.reaches Rule.call Rule.with_node body_of wish_of
   like_call_for call asked o = like_send at asks at.lmaster _ _
 
   kept_like : (call : ℕ) (asked : ClientOp) (o : Moving) → out_of at asks (Parts.keeps (record o.state { wish = Some (record { call = call; request = 0; op = asked }) }) o) ≡ Rule.wish_kept (record { real = asked; readonly = at.readonly }) (out_of at asks o)
@@ -164,38 +164,38 @@ module _ (at : Place) (asks : ℕ → Option ClientOp) (ne : at.me ≢ nobody) w
       ∙ ap (Rule.want_of rules at.me at.lmaster (record { real = asked; readonly = at.readonly })) (if_like at asks ne (nat_eq at.me at.lmaster && is_none o.state.locked) _ _ _ _ _ (λ i. nat_eq at.me at.lmaster && none_is_not_some o.state.locked i) (λ t. like_opened_quiet at asks ne o (home t)) (λ _. refl))
 
   -- Call
-  like_pass_again : (e : Entry) (o : Moving) → out_of at asks (Frames.pass_again at e o) ≡ Rule.pass_again at.me e (out_of at asks o)
-  unfolding Frames.pass_again Rule.pass_again body_of
+  like_pass_again : (e : Entry) (o : Moving) → out_of at asks (Messages.pass_again at e o) ≡ Rule.pass_again at.me e (out_of at asks o)
+  unfolding Messages.pass_again Rule.pass_again body_of
   like_pass_again e o = like_send at asks e.holder _ o
 
-  like_enqueue : (w : Waiter) (o : Moving) (ws : List Waiter) → out_of at asks (Frames.enqueue at w o ws) ≡ Rule.enqueue at.me w (out_of at asks o) ws
-  unfolding Frames.enqueue Rule.enqueue Parts.keeps Rule.with_node
+  like_enqueue : (w : Waiter) (o : Moving) (ws : List Waiter) → out_of at asks (Messages.enqueue at w o ws) ≡ Rule.enqueue at.me w (out_of at asks o) ws
+  unfolding Messages.enqueue Rule.enqueue Parts.keeps Rule.with_node
   like_enqueue w o [] = like_next (record o { state = record o.state { queue = w ∷ [] } })
   like_enqueue w o (v ∷ vs) = refl
 
-  like_on_call_of : (n q : ℕ) (k : CallKind) (o : Moving) (e : Option Entry) → out_of at asks (Frames.on_call_of at n q k o e) ≡ Rule.on_call_of at.me n q k (out_of at asks o) e
-  unfolding Frames.on_call_of Rule.on_call_of
+  like_on_call_of : (n q : ℕ) (k : CallKind) (o : Moving) (e : Option Entry) → out_of at asks (Messages.on_call_of at n q k o e) ≡ Rule.on_call_of at.me n q k (out_of at asks o) e
+  unfolding Messages.on_call_of Rule.on_call_of
   like_on_call_of n q k o None = refl
   like_on_call_of n q k o (Some e) = if_like at asks ne (nat_eq e.holder n && nat_eq e.request q) _ _ _ _ _ refl (λ _. like_pass_again e o)
-      (λ _. if_like at asks ne (list_any (Frames.is_request n q) o.state.queue) _ _ _ _ _ refl
+      (λ _. if_like at asks ne (list_any (Messages.is_request n q) o.state.queue) _ _ _ _ _ refl
       (λ _. like_next _ ∙ ap (Rule.next at.me) (if_like at asks ne (e.request == 0) _ _ _ _ _ refl (λ _. refl) (λ _. like_pass_again e o)))
       (λ _. like_enqueue (record { node = n; request = q; kind = k }) o o.state.queue))
 
-  pub like_called : (n q : ℕ) (k : CallKind) (o : Moving) → at.me ≡ at.lmaster → out_of at asks (Frames.called at n q k (Parts.end_vacuum (Parts.opened at o))) ≡ Rule.on_call at.me n q k (out_of at asks o)
-  unfolding Frames.called Rule.on_call
+  pub like_called : (n q : ℕ) (k : CallKind) (o : Moving) → at.me ≡ at.lmaster → out_of at asks (Messages.called at n q k (Parts.end_vacuum (Parts.opened at o))) ≡ Rule.on_call at.me n q k (out_of at asks o)
+  unfolding Messages.called Rule.on_call
   like_called n q k o home = like_on_call_of n q k (Parts.end_vacuum (Parts.opened at o)) (Parts.end_vacuum (Parts.opened at o)).state.entry ∙ ap (λ (x : Out). Rule.on_call_of at.me n q k x x.node.entry) (like_opened_quiet at asks ne o home)
 
   -- Recall
-  like_wait : (r : RecallNote) (o : Moving) → out_of at asks (Frames.wait r o) ≡ Rule.add_recall r (out_of at asks o)
-  unfolding Frames.wait Rule.add_recall Parts.keeps Rule.with_node
-  like_wait r o = if_like at asks ne (list_any (Frames.same_recall r) o.state.waiting) _ o _ (out_of at asks o) _ refl (λ _. refl) (λ _. refl)
+  like_wait : (r : RecallNote) (o : Moving) → out_of at asks (Messages.wait r o) ≡ Rule.add_recall r (out_of at asks o)
+  unfolding Messages.wait Rule.add_recall Parts.keeps Rule.with_node
+  like_wait r o = if_like at asks ne (list_any (Messages.same_recall r) o.state.waiting) _ o _ (out_of at asks o) _ refl (λ _. refl) (λ _. refl)
 
-  like_handle : (r : RecallNote) (o : Moving) → State.is_mastered at.me o.state.copy ≡ true → FineAt at asks o → out_of at asks (Frames.handle at r o) ≡ Rule.handle at.me at.lmaster r (out_of at asks o)
-  unfolding Frames.handle Rule.handle Parts.end_vacuum Rule.end_vacuum Parts.keeps Rule.with_node
+  like_handle : (r : RecallNote) (o : Moving) → State.is_mastered at.me o.state.copy ≡ true → FineAt at asks o → out_of at asks (Messages.handle at r o) ≡ Rule.handle at.me at.lmaster r (out_of at asks o)
+  unfolding Messages.handle Rule.handle Parts.end_vacuum Rule.end_vacuum Parts.keeps Rule.with_node
   like_handle r o held fine = if_like at asks ne (is_read_kind r.kind) _ _ _ _ _ refl (λ _. like_grant at asks ne r (Parts.end_vacuum o) held fine) (λ _. like_yield at asks ne (Parts.keeps (record o.state { waiting = r ∷ o.state.waiting; vacuum = None }) o) held fine.even)
 
-  pub like_recalled : (r : RecallNote) (o : Moving) → FineAt at asks o → out_of at asks (Frames.recalled at r o) ≡ Rule.on_recall at.me at.lmaster r (out_of at asks o)
-  unfolding Frames.recalled Rule.on_recall body_of
+  pub like_recalled : (r : RecallNote) (o : Moving) → FineAt at asks o → out_of at asks (Messages.recalled at r o) ≡ Rule.on_recall at.me at.lmaster r (out_of at asks o)
+  unfolding Messages.recalled Rule.on_recall body_of
   like_recalled r o fine = if_like at asks ne (nat_lt r.least (State.rank o.state.copy)) _ _ _ _ _ (ap (nat_lt r.least) (rank_like at.me o.state.copy))
       (λ _. if_like at asks ne (State.is_mastered at.me o.state.copy) _ _ _ _ _ (mastered_like at.me o.state.copy fine.even)
       (λ held. if_like at asks ne (State.is_free at.me o.state) _ _ _ _ _ (free_like at.me at.readonly o.state o.next o.floor fine.even) (λ _. like_handle r o held fine) (λ _. like_wait r o))

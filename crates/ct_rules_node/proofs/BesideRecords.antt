@@ -1,7 +1,7 @@
 -- What a step adds to where no record is looked at: it only grows, and no message of a record is sent.
 use Rattle.std.proofs.Common.{◌≡◌, ℕ, suc, ◌+◌, ◌<◌, ◌≤◌, Bool, true, false, cond, ◌||◌, List, [], ◌∷◌, ◌++◌, length, map, Option, Some, None, refl, sym, ap, ◌∙◌, subst, append_assoc, append-nil, arith}
 use Rattle.std.proofs.lemmas.List.{length-set, length-map}
-use Rattle.std.proofs.lemmas.Bool.{cond_both, ltb-true}
+use Rattle.std.proofs.lemmas.Bool.{cond_both, ltb-true, or_left}
 use Rattle.std.specs.Prelude.{nat_lt}
 use Rattle.std.specs.List.{filter}
 use Rattle.ct_bytes.specs.declared.address.Address.{Address}
@@ -20,6 +20,8 @@ use Rattle.ct_frame.specs.declared.round.PushBody.{PushBody}
 use Rattle.ct_merge.specs.Gathered.{Gathered}
 use Rattle.ct_store.specs.Map.{Ascends}
 use Rattle.ct_rules.specs.Form.{is_of_record}
+use Rattle.ct_rules.specs.Laws.{IsFront}
+use Rattle.ct_rules.proofs.Growing.{front_same, front_more}
 use Rattle.ct_rules_node.specs.Node.{Node, Database, Phase, Committing, Lead, Nothing, Freezes, Pulls, Installs, Completed, Takeover, Run, NoRun, Releasing, Taking, with_db, db_at, is_frozen_in, is_present_in}
 use Rattle.ct_rules_node.specs.Turn.{Turn, does, with_node, with_lead, with_phase, makes, answers, notes, posts, posts_all}
 use Rattle.ct_rules_node.specs.Records.{with_state}
@@ -28,24 +30,10 @@ use Rattle.ct_rules_node.specs.Databases.{updates, with_commit, awaits_others, c
 use Rattle.ct_rules_node.specs.Rounds.{begin_round, ends_lock, ends_commit, ends_commits, freezes, on_freeze, all_frozen, on_freezeack, on_pull, push_of, pushes, all_pulled, on_pullreply, releases, frozen_state, frozen_db, changed, bared, installed_db, installed_dbs, installed_node, makes_rows, installs, on_push, all_installed, on_pushack}
 use Rattle.ct_rules_node.specs.Takeovers.{send_releases, runs, begin_takeover, on_release, all_released, released_by, on_releaseack, takes, on_take}
 use Rattle.ct_rules_node.specs.Retries.{update_again, update_in, retry_run, retry_lead}
-use Rattle.ct_rules_node.specs.Laws.{AllAscend, NodeAscends, IsFront, TurnGrows, sends_of_record, record_sends}
+use Rattle.ct_rules_node.specs.Laws.{AllAscend, NodeAscends, TurnGrows, sends_of_record, record_sends}
 use Rattle.ct_rules_node.proofs.Keys.{changed_ascends, kept_ascends}
 use Rattle.ct_rules_node.proofs.Installed.{install_ascends}
 use Rattle.ct_rules_node.proofs.AtRecord.{all_set, at_ascends}
-
--- ---- what is done before stays in front
-
-pub front_same : (a : List Out) → IsFront a a
-unfolding IsFront
-front_same a = ([], sym (append-nil a))
-
-pub front_more : (a b xs : List Out) → IsFront a b → IsFront a (b ++ xs)
-unfolding IsFront
-front_more a b xs f = (f.0 ++ xs, ap (λ (l : List Out). l ++ xs) f.1 ∙ append_assoc a f.0 xs)
-
-pub front_after : (a b c : List Out) → IsFront a b → IsFront b c → IsFront a c
-unfolding IsFront
-front_after a b c f g = (f.0 ++ g.0, g.1 ∙ ap (λ (l : List Out). l ++ g.0) f.1 ∙ append_assoc a f.0 g.0)
 
 -- what is sent of records by more outputs
 pub sends_more : (xs ys : List Out) → record_sends (xs ++ ys) ≡ record_sends xs ++ record_sends ys
@@ -105,13 +93,9 @@ pub with_phase_steady : {t u : Turn} (p : Phase) → Steady t u → Steady t (wi
 unfolding with_phase
 with_phase_steady _ s = record { promise = s.promise; next = s.next; spent = s.spent; outs = s.outs; quiet = s.quiet; dbs = s.dbs; order = s.order }
 
-or_true : (a b : Bool) → a ≡ true → (a || b) ≡ true
-or_true true b e = refl
-or_true false b e = absurd (cc)
-
 pub makes_steady : {t u : Turn} (n : ℕ) → Steady t u → Steady t (makes n u)
 unfolding makes
-makes_steady {t} {u} n s = record { promise = s.promise; next = s.next; spent = λ e. or_true u.spent _ (s.spent e); outs = s.outs; quiet = s.quiet; dbs = s.dbs; order = s.order }
+makes_steady {t} {u} n s = record { promise = s.promise; next = s.next; spent = λ e. or_left u.spent _ (s.spent e); outs = s.outs; quiet = s.quiet; dbs = s.dbs; order = s.order }
 
 pub answers_steady : {t u : Turn} (call : ℕ) (a : Answer) → Steady t u → Steady t (answers call a u)
 unfolding answers sends_of_record
@@ -257,7 +241,7 @@ unfolding installed_dbs
 installed_length me i members table ptables [] = refl
 installed_length me i members table ptables (d ∷ ds) = ap suc (installed_length me (i + 1) members table ptables ds)
 
-installed_order : (me i : ℕ) (members : List ℕ) (table : List TableRow) (ptables : List PTable) (dbs : List Database) → AllAscend dbs → AllAscend (installed_dbs me i members table ptables dbs)
+pub installed_order : (me i : ℕ) (members : List ℕ) (table : List TableRow) (ptables : List PTable) (dbs : List Database) → AllAscend dbs → AllAscend (installed_dbs me i members table ptables dbs)
 unfolding installed_dbs installed_db AllAscend
 installed_order me i members table ptables [] h = tt
 installed_order me i members table ptables (d ∷ ds) h =

@@ -1,5 +1,6 @@
 -- What a round and a stop make of a whole node, database by database.
 use Rattle.std.proofs.Common.{◌≡◌, ℕ, zero, suc, ◌+◌, ◌<◌, Bool, true, false, cond, ◌||◌, List, [], ◌∷◌, length, map, Option, Some, None, refl, sym, ◌∙◌, ap, subst, arith}
+use Rattle.std.proofs.lemmas.Bool.{or_parts}
 use Rattle.std.specs.Prelude.{slice_get, is_some}
 use Rattle.std.specs.Ordering.{is_eq}
 use Rattle.std.specs.List.Sorted.{IsStrictlySortedBy}
@@ -16,7 +17,7 @@ use Rattle.ct_call.specs.Rules.{Rules}
 use Rattle.ct_store.specs.Map.{Pairs, Ascends, key_cmp, look}
 use Rattle.ct_store.proofs.Maps.{one_key, equal}
 use Rattle.ct_rules.specs.declared.state.RecState.{RecState}
-use Rattle.ct_rules_node.specs.Node.{Node, Database, untouched, or_untouched, or_nothing, db_at, state_at, is_frozen_in, restarted_db, restarted}
+use Rattle.ct_rules_node.specs.Node.{Node, Database, untouched, or_untouched, or_nothing, db_at, state_at, is_frozen_in, is_present_in, restarted_db, restarted}
 use Rattle.ct_rules_node.specs.Turn.{Turn, does, with_node, notes, posts}
 use Rattle.ct_rules_node.specs.Clients.{is_locked, any_locked_in, any_locked}
 use Rattle.ct_rules_node.specs.Rounds.{changed, frozen_db, freezes, releases, installed_db, installed_dbs, installed_node, installs, on_push}
@@ -83,25 +84,38 @@ installs_frozen c rules me t f members table ptables assigned e s z =
     ∙ taken_node (is_sound c f) t (on_push c me f.sender f.generation members table ptables assigned t) _ s
     (taken_node (is_frozen_in f.generation t.node.phase) _ (posts f.generation me f.sender msg.PushAck (installs c me f.sender f.generation members table ptables assigned t)) _ z (installs_node c me f.sender f.generation members table ptables assigned t))
 
--- ---- the test for locks
+node_of : (b : Bool) (t u : Turn) → u.node ≡ t.node → (cond b u t).node ≡ t.node
+node_of true t u e = e
+node_of false t u e = refl
 
-neither : (a b : Bool) → (a || b) ≡ false → (a ≡ false) × (b ≡ false)
-neither true b e = absurd (cc)
-neither false b e = (refl, e)
+unless_frozen : (b : Bool) (t u v : Turn) → b ≡ false → v.node ≡ t.node → (cond b u v).node ≡ t.node
+unless_frozen true t u v f e = absurd (cc)
+unless_frozen false t u v f e = e
+
+pub pushed_alone : (c : Config) (rules : Rules) (me : ℕ) (t : Turn) (f : Frame) (members : List ℕ) (table : List TableRow) (ptables : List PTable) (assigned : List Assigned) → f.msg ≡ msg.Push members table ptables assigned
+    → is_frozen_in f.generation t.node.phase ≡ false → (happens c rules me t (event.Arrive f)).node ≡ t.node
+unfolding happens arrives if_sound on_push posts does
+pushed_alone c rules me t f members table ptables assigned e n =
+    ap (λ (m : Msg). (arrives c rules me f t m).node) e
+    ∙ node_of (is_sound c f) t (on_push c me f.sender f.generation members table ptables assigned t)
+    (unless_frozen (is_frozen_in f.generation t.node.phase) t (posts f.generation me f.sender msg.PushAck (installs c me f.sender f.generation members table ptables assigned t)) _ n
+    (node_of (is_present_in f.generation t.node) t (posts f.generation me f.sender msg.PushAck t) refl))
+
+-- ---- the test for locks
 
 none_locked_in : (m : Pairs RecState) (key : List ℕ) → any_locked_in m ≡ false → is_some (or_nothing (look key m)).locked ≡ false
 unfolding any_locked_in or_nothing
 none_locked_in [] key e = refl
 none_locked_in (x ∷ m) key e =
-    let n = neither (is_some x.1.locked) _ e in
+    let n = or_parts (is_some x.1.locked) _ e in
     let r = none_locked_in m key n.1 in
     elim (is_eq (key_cmp key x.0)) as (λ b. is_some (or_nothing (cond b (Some x.1) (look key m))).locked ≡ false) [ true ↦ n.0 | false ↦ r ]
 
 none_locked : (dbs : List Database) (db : ℕ) (key : List ℕ) → any_locked dbs ≡ false → is_some (or_nothing (look key (or_untouched (slice_get dbs db)).records)).locked ≡ false
 unfolding any_locked or_untouched untouched or_nothing
 none_locked [] db key e = refl
-none_locked (d ∷ ds) zero key e = none_locked_in d.records key (neither (any_locked_in d.records) _ e).0
-none_locked (d ∷ ds) (suc db) key e = none_locked ds db key (neither (any_locked_in d.records) _ e).1
+none_locked (d ∷ ds) zero key e = none_locked_in d.records key (or_parts (any_locked_in d.records) _ e).0
+none_locked (d ∷ ds) (suc db) key e = none_locked ds db key (or_parts (any_locked_in d.records) _ e).1
 
 no_lock : (o : Option RecState) → o ≡ None → is_some (or_nothing o).locked ≡ false
 unfolding or_nothing

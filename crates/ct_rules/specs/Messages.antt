@@ -11,7 +11,7 @@ use Rattle.ct_deleg.specs.Tracked.{untracked, called_back, ends}
 use Rattle.ct_vacuum.specs.Vacuum.{Vacuuming, ends_phase, stored, deleted}
 use Rattle.ct_vacuum.specs.declared.vacuum.VacuumPhase.TheVariants.{Storing, Deleting}
 use Rattle.ct_rules.specs.State.{plain, for_reading, a_copy, rank, rsn_of, value_of, is_mastered, is_given, is_free, is_read_kind, same_kind, kind_of, is_wished}
-use Rattle.ct_rules.specs.Parts.{Moving, acts, send, send_all, reply, keeps, makes, opened, end_vacuum, satisfy, grant, yield_record, drained, end_revocation, next, keep}
+use Rattle.ct_rules.specs.Parts.{Moving, performs, send, send_all, reply, keeps, reaches, opened, end_vacuum, satisfy, grant, yield_record, drained, end_revocation, next, keep}
 use Rattle.ct_rules.specs.declared.state.Entry.{Entry}
 use Rattle.ct_rules.specs.declared.state.RecallNote.{RecallNote}
 use Rattle.ct_rules.specs.declared.state.Waiter.{Waiter}
@@ -93,10 +93,11 @@ unfoldable pub hand_on : Place → ℕ → List ℕ → Moving → List Waiter �
 hand_on at rsn value o [] = keep at (rsn + 1) value o
 hand_on at rsn value o (w ∷ ws) =
     if is_read_kind w.kind then keep at (rsn + 1) value o
-    else next at (send w.node (msg.Pass at.db at.key w.request rsn value) (makes (rsn + 1) (keeps (record o.state {
+    else (let o' = keeps (record o.state {
       entry = Some (record { holder = w.node; least = rsn + 1; request = w.request; value = value });
       queue = ws;
-    }) o)))
+    }) o in
+    next at (send w.node (msg.Pass at.db at.key w.request rsn value) (reaches (rsn + 1) o')))
 
 -- Give (message), with the entry: only of the record that it waits for
 unfoldable pub on_give_of : Place → ℕ → ℕ → List ℕ → Moving → Option Entry → Moving
@@ -112,25 +113,33 @@ on_give at x rsn value o = on_give_of at x rsn value o o.state.entry
 -- Pass: the wish is cleared and satisfied
 unfoldable pub satisfy_wish : Rules → Moving → Option Wish → Moving
 satisfy_wish rules o None = o
-satisfy_wish rules o (Some w) = satisfy rules w.call w.op (keeps (record o.state { wish = None }) o)
+satisfy_wish rules o (Some w) =
+    let o' = keeps (record o.state { wish = None }) o in
+    satisfy rules w.call w.op o'
 
 -- Pass: the node becomes holder, and nothing is tracked
 unfoldable pub becomes : Place → ℕ → List ℕ → Moving → Moving
-becomes at rsn value o = makes rsn (keeps (record o.state { copy = Some (a_copy rsn at.me plain value); tracking = untracked }) o)
+becomes at rsn value o =
+    let o' = keeps (record o.state { copy = Some (a_copy rsn at.me plain value); tracking = untracked }) o in
+    reaches rsn o'
 
 -- Pass: the node becomes holder, its wish is satisfied, and then Drain
-unfoldable pub take : Place → Rules → ℕ → List ℕ → Moving → Moving
-take at rules rsn value o = drained at (satisfy_wish rules (becomes at (rsn + 1) value o) o.state.wish)
+unfoldable pub accept : Place → Rules → ℕ → List ℕ → Moving → Moving
+accept at rules rsn value o =
+    let o' = becomes at (rsn + 1) value o in
+    drained at (satisfy_wish rules o' o.state.wish)
 
 -- Pass: a record that nobody here wishes for any more is refused
 unfoldable pub refuse : Place → ℕ → ℕ → Moving → Moving
-refuse at request rsn o = send at.lmaster (msg.Refuse at.db at.key request rsn) (keeps (record o.state { waiting = [] }) o)
+refuse at request rsn o =
+    let o' = keeps (record o.state { waiting = [] }) o in
+    send at.lmaster (msg.Refuse at.db at.key request rsn) o'
 
 -- Pass
 unfoldable pub on_pass : Place → Rules → ℕ → ℕ → List ℕ → Moving → Moving
 on_pass at rules request rsn value o =
     if nat_lt (rsn + 1) (rank o.state.copy) then o
-    else (if is_wished at.readonly request kind.Lock o.state.wish then take at rules rsn value o else refuse at request rsn o)
+    else (if is_wished at.readonly request kind.Lock o.state.wish then accept at rules rsn value o else refuse at request rsn o)
 
 -- ---- Refuse, at the location master
 
@@ -148,15 +157,18 @@ on_refuse at n request rsn o = on_refuse_of at n request rsn o o.state.entry
 -- ---- Grant, from the holder
 
 -- Grant: the wish is cleared and answered
-unfoldable pub reads : ℕ → Moving → Option Wish → List ℕ → Moving
-reads request o None value = o
-reads request o (Some w) value = reply w.call (answer.Read value) (keeps (record o.state { wish = None }) o)
+unfoldable pub read_granted : ℕ → Moving → Option Wish → List ℕ → Moving
+read_granted request o None value = o
+read_granted request o (Some w) value =
+    let o' = keeps (record o.state { wish = None }) o in
+    reply w.call (answer.Read value) o'
 
 -- Grant: the copy is kept where it is wished for and not older than the one here
 unfoldable pub on_grant : Place → ℕ → ℕ → ℕ → List ℕ → Moving → Moving
 on_grant at h request rsn value o =
+    let o' = keeps (record o.state { copy = Some (a_copy rsn h for_reading value) }) o in
     if is_wished at.readonly request kind.Read o.state.wish && not (is_mastered at.me o.state.copy) && nat_le (rank o.state.copy) (rsn + 1)
-    then reads request (keeps (record o.state { copy = Some (a_copy rsn h for_reading value) }) o) o.state.wish value
+    then read_granted request o' o.state.wish value
     else o
 
 -- ---- Done, at the location master
@@ -180,17 +192,20 @@ called_in rsn (Some c) =
 
 -- Revoke (message): the copy is called in, and h gets a RevokeAck
 unfoldable pub acknowledge : Place → ℕ → ℕ → Moving → Moving
-acknowledge at h rsn o = send h (msg.RevokeAck at.db at.key rsn) (keeps (record o.state { copy = called_in rsn o.state.copy }) o)
+acknowledge at h rsn o =
+    let o' = keeps (record o.state { copy = called_in rsn o.state.copy }) o in
+    send h (msg.RevokeAck at.db at.key rsn) o'
+
+-- Revoke (message): a read that waits does so under another number from now on
+unfoldable pub renew : Wish → Moving → Moving
+renew w o = reaches (o.next + 1) (record o { state = record o.state { wish = Some (record w { request = o.next }) }; next = o.next + 1 })
 
 -- Revoke (message), with the wish: one of kind Read is called for again under another number
 unfoldable pub on_revoke_of : Place → ℕ → ℕ → Moving → Option Wish → Moving
 on_revoke_of at h rsn o None = acknowledge at h rsn o
 on_revoke_of at h rsn o (Some w) =
     if is_read_kind (kind_of at.readonly w.op)
-    then send at.lmaster (msg.Call at.db at.key o.next kind.Read) (acknowledge at h rsn (makes (o.next + 1) (record o {
-      state = record o.state { wish = Some (record w { request = o.next }) };
-      next = o.next + 1;
-    })))
+    then (let o' = acknowledge at h rsn (renew w o) in send at.lmaster (msg.Call at.db at.key o.next kind.Read) o')
     else acknowledge at h rsn o
 
 -- Revoke (message)
@@ -205,7 +220,9 @@ acknowledged n rsn o = keeps (record o.state { tracking = called_back n rsn o.st
 
 -- RevokeAck: the last one is followed by End of revocation
 unfoldable pub on_revokeack : Place → Rules → ℕ → ℕ → Moving → Moving
-on_revokeack at rules n rsn o = if ends n rsn o.state.tracking then end_revocation at rules (acknowledged n rsn o) else acknowledged n rsn o
+on_revokeack at rules n rsn o =
+    let o' = acknowledged n rsn o in
+    if ends n rsn o.state.tracking then end_revocation at rules o' else o'
 
 -- ---- the two phases of a vacuum
 
@@ -223,15 +240,15 @@ deleted_copy me rsn unlocked (Some c) =
 
 -- VStore
 unfoldable pub on_vstore : Place → ℕ → ℕ → Moving → Moving
-on_vstore at l rsn o = send l (msg.VStored at.db at.key rsn) (keeps (record o.state {
-  copy = stored_copy at.me l rsn (is_none o.state.locked) o.state.copy;
-}) o)
+on_vstore at l rsn o =
+    let o' = keeps (record o.state { copy = stored_copy at.me l rsn (is_none o.state.locked) o.state.copy }) o in
+    send l (msg.VStored at.db at.key rsn) o'
 
 -- VDelete
 unfoldable pub on_vdelete : Place → ℕ → ℕ → Moving → Moving
-on_vdelete at l rsn o = send l (msg.VDeleted at.db at.key rsn) (keeps (record o.state {
-  copy = deleted_copy at.me rsn (is_none o.state.locked) o.state.copy;
-}) o)
+on_vdelete at l rsn o =
+    let o' = keeps (record o.state { copy = deleted_copy at.me rsn (is_none o.state.locked) o.state.copy }) o in
+    send l (msg.VDeleted at.db at.key rsn) o'
 
 -- the greater of two numbers
 unfoldable pub greater : ℕ → ℕ → ℕ
@@ -239,10 +256,10 @@ greater a b = if nat_le a b then b else a
 
 -- Finish: nothing is left of the record, and the floor is above all that was
 unfoldable pub finish : ℕ → Moving → Moving
-finish rsn o = acts (act.Finished (greater o.floor (rsn + 2))) (makes (rsn + 2) (record o {
-  state = record o.state { copy = None; entry = None; vacuum = None };
-  floor = greater o.floor (rsn + 2);
-}))
+finish rsn o =
+    let floor = greater o.floor (rsn + 2) in
+    let o' = record o { state = record o.state { copy = None; entry = None; vacuum = None }; floor = floor } in
+    performs (act.Finished floor) (reaches (rsn + 2) o')
 
 -- VStored, with the vacuum: after the last one all others get a VDelete
 unfoldable pub on_vstored_of : Place → ℕ → ℕ → Moving → Option Vacuuming → Moving

@@ -25,7 +25,7 @@ use Rattle.ct_law_world.specs.Labels.{Told}
 use Rattle.ct_law_fact.proofs.Rule
 use Rattle.ct_law_fact.proofs.Rule.{Out}
 use Rattle.ct_deleg.specs.Tracked.{Tracked, added, revocation_begun}
-use Rattle.ct_law_like.proofs.Likeness.{copy_of, wish_of, body_of, out_of, FineAt, like_send, like_send_all, like_reply, rsn_like, value_like, with_value_like, gives_like, flags_like, own_like, free_like, wished_like}
+use Rattle.ct_law_like.proofs.SeenNode.{copy_of, wish_of, body_of, out_of, FineAt, like_send, like_send_all, like_reply, rsn_like, value_like, with_value_like, gives_like, flags_like, own_like, free_like, wished_like}
 
 pub none_is_not_some : {X : Type 0} → (x : Option X) → is_none x ≡ not (is_some x)
 none_is_not_some None = refl
@@ -119,16 +119,16 @@ module _ (at : Place) (asks : ℕ → Option ClientOp) (ne : at.me ≢ nobody) w
 
   -- what stays fine
   fine_read_here : (q : ℕ) (o : Moving) (w : Option Wish) → FineAt at asks o → FineAt at asks (Parts.read_here at q o w)
-  unfolding Parts.read_here Parts.keeps Parts.reply Parts.acts
+  unfolding Parts.read_here Parts.keeps Parts.reply Parts.performs
   fine_read_here q o None h = h
   fine_read_here q o (Some w) h = cond_both (State.is_wished at.readonly q kind.Read (Some w)) _ _ (FineAt at asks) (λ _. record { even = h.even; waits = λ v e. absurd (cc) }) (λ _. h)
 
   fine_delegate : (node q : ℕ) (o : Moving) → State.is_mastered at.me o.state.copy ≡ true → FineAt at asks o → FineAt at asks (Parts.delegate at node q o)
-  unfolding Parts.delegate Parts.keeps Parts.send Parts.acts
+  unfolding Parts.delegate Parts.keeps Parts.send Parts.performs
   fine_delegate node q o held h = record { even = ap Rule.is_odd (flags_like at.me delegated o.state.copy (λ e. absurd (cc)) held h.even) ∙ h.even; waits = h.waits }
 
   pub fine_grant : (node q : ℕ) (o : Moving) → State.is_mastered at.me o.state.copy ≡ true → FineAt at asks o → FineAt at asks (Parts.grant at node q o)
-  unfolding Parts.grant Parts.send Parts.acts
+  unfolding Parts.grant Parts.send Parts.performs
   fine_grant node q o held h = cond_both (nat_eq node at.me) (Parts.read_here at q o o.state.wish) (Parts.delegate at node q o) (FineAt at asks) (λ _. fine_read_here q o o.state.wish h) (λ _. fine_delegate node q o held h)
 
   pub like_yield : (o : Moving) → State.is_mastered at.me o.state.copy ≡ true → Rule.is_odd (copy_of at.me o.state.copy) ≡ false → out_of at asks (Parts.yield_record at o) ≡ Rule.yield_record at.me at.lmaster (out_of at asks o)

@@ -22,26 +22,26 @@ use Rattle.ct_law_world.specs.Labels.{Told, Vacuumed}
 use Rattle.ct_law_fact.proofs.Rule
 use Rattle.ct_law_fact.proofs.Rule.{Copy, Body, Out}
 use Rattle.ct_deleg.specs.Tracked.{Tracked, untracked, Revocation, awaiting, called_back_in, ends_revocation}
-use Rattle.ct_law_like.proofs.Likeness.{kind_at, copy_of, wish_of, body_of, out_of, FineAt, like_send, like_send_all, like_reply, like_finished, rsn_like, rank_like, value_like, mastered_like, with_value_like, risen_like, own_like, free_like, wished_like}
-use Rattle.ct_law_like.proofs.Alike.{none_is_not_some, if_like, like_give, like_satisfy, like_drained}
-use Rattle.ct_rules.specs.Frames
-use Rattle.ct_law_like.proofs.Likewise.{stale_like, read_like, even_own, unwished, fine_satisfy, like_end_revocation, like_next, like_keep}
+use Rattle.ct_law_like.proofs.SeenNode.{kind_at, copy_of, wish_of, body_of, out_of, FineAt, like_send, like_send_all, like_reply, like_finished, rsn_like, rank_like, value_like, mastered_like, with_value_like, risen_like, own_like, free_like, wished_like}
+use Rattle.ct_law_like.proofs.SameParts.{none_is_not_some, if_like, like_give, like_satisfy, like_drained}
+use Rattle.ct_rules.specs.Messages
+use Rattle.ct_law_like.proofs.SameRequests.{stale_like, read_like, even_own, unwished, fine_satisfy, like_end_revocation, like_next, like_keep}
 use Rattle.ct_rules.specs.Moves
 use Rattle.ct_vacuum.specs.Vacuum.{Vacuuming, ends_phase, vacuum_begun}
 use Rattle.ct_vacuum.specs.declared.vacuum.VacuumPhase.{VacuumPhase}
 use Rattle.ct_vacuum.specs.declared.vacuum.VacuumPhase.TheVariants.{Storing, Deleting}
 
-pub greater_like : (a b : ℕ) → Frames.greater a b ≡ Rule.greater a b
-unfolding Frames.greater Rule.greater
+pub greater_like : (a b : ℕ) → Messages.greater a b ≡ Rule.greater a b
+unfolding Messages.greater Rule.greater
 greater_like a b = refl
 
-stored_like : (me l rsn : ℕ) (locked : Option ℕ) (c : Option RecCopy) → l ≢ me → l ≢ nobody → Rule.is_odd (copy_of me c) ≡ false → copy_of me (Frames.stored_copy me l rsn (is_none locked) c) ≡ Rule.raise_copy rsn (is_some locked) (copy_of me c)
-unfolding copy_of kind_at Frames.stored_copy Rule.raise_copy Rule.is_odd Rule.is_kind_odd Rule.is_kind_here
+stored_like : (me l rsn : ℕ) (locked : Option ℕ) (c : Option RecCopy) → l ≢ me → l ≢ nobody → Rule.is_odd (copy_of me c) ≡ false → copy_of me (Messages.stored_copy me l rsn (is_none locked) c) ≡ Rule.raise_copy rsn (is_some locked) (copy_of me c)
+unfolding copy_of kind_at Messages.stored_copy Rule.raise_copy Rule.is_odd Rule.is_kind_odd Rule.is_kind_here
 stored_like me l rsn locked None a b e = refl
 stored_like me l rsn locked (Some c) a b e = grind (arith, ne_eqb, none_is_not_some locked)
 
-deleted_like : (me rsn : ℕ) (locked : Option ℕ) (c : Option RecCopy) → Rule.is_odd (copy_of me c) ≡ false → copy_of me (Frames.deleted_copy me rsn (is_none locked) c) ≡ Rule.drop_copy rsn (is_some locked) (copy_of me c)
-unfolding copy_of kind_at Frames.deleted_copy Rule.drop_copy Rule.is_odd Rule.is_kind_odd Rule.is_kind_here
+deleted_like : (me rsn : ℕ) (locked : Option ℕ) (c : Option RecCopy) → Rule.is_odd (copy_of me c) ≡ false → copy_of me (Messages.deleted_copy me rsn (is_none locked) c) ≡ Rule.drop_copy rsn (is_some locked) (copy_of me c)
+unfolding copy_of kind_at Messages.deleted_copy Rule.drop_copy Rule.is_odd Rule.is_kind_odd Rule.is_kind_here
 deleted_like me rsn locked None e = refl
 deleted_like me rsn locked (Some c) e = grind (arith, none_is_not_some locked)
 
@@ -57,77 +57,77 @@ wish_none readonly (Some w) = refl
 
 module _ (at : Place) (asks : ℕ → Option ClientOp) (ne : at.me ≢ nobody) where
   -- Give
-  like_hand_on : (rsn : ℕ) (value : List ℕ) (o : Moving) (ws : List Waiter) → at.me ≡ at.lmaster → out_of at asks (Frames.hand_on at rsn value o ws) ≡ Rule.give_to at.me rsn value (out_of at asks o) ws
-  unfolding Frames.hand_on Parts.makes Parts.keeps Rule.give_to Rule.with_node body_of
+  like_hand_on : (rsn : ℕ) (value : List ℕ) (o : Moving) (ws : List Waiter) → at.me ≡ at.lmaster → out_of at asks (Messages.hand_on at rsn value o ws) ≡ Rule.give_to at.me rsn value (out_of at asks o) ws
+  unfolding Messages.hand_on Parts.reaches Parts.keeps Rule.give_to Rule.with_node body_of
   like_hand_on rsn value o [] home = like_keep at asks ne (rsn + 1) value o home
   like_hand_on rsn value o (w ∷ ws) home = if_like at asks ne (is_read_kind w.kind) _ _ _ _ _ refl (λ _. like_keep at asks ne (rsn + 1) value o home)
       (λ _. like_next at asks ne _ ∙ ap (Rule.next at.me) (like_send at asks w.node (msg.Pass at.db at.key w.request rsn value) _))
 
-  pub like_on_give_of : (x rsn : ℕ) (value : List ℕ) (o : Moving) (e : Option Entry) → at.me ≡ at.lmaster → out_of at asks (Frames.on_give_of at x rsn value o e) ≡ Rule.on_give_of at.me x rsn value (out_of at asks o) e
-  unfolding Frames.on_give_of Rule.on_give_of
+  pub like_on_give_of : (x rsn : ℕ) (value : List ℕ) (o : Moving) (e : Option Entry) → at.me ≡ at.lmaster → out_of at asks (Messages.on_give_of at x rsn value o e) ≡ Rule.on_give_of at.me x rsn value (out_of at asks o) e
+  unfolding Messages.on_give_of Rule.on_give_of
   like_on_give_of x rsn value o None home = refl
   like_on_give_of x rsn value o (Some e) home = if_like at asks ne (nat_eq e.holder x && nat_le e.least rsn) _ _ o _ (out_of at asks o) refl (λ _. like_hand_on rsn value o o.state.queue home) (λ _. refl)
 
   -- Pass
-  like_satisfy_wish : (rules : Rules) (o : Moving) (w : Option Wish) → ((v : Wish) → w ≡ Some v → asks v.call ≡ Some v.op) → out_of at asks (Frames.satisfy_wish rules o w) ≡ Rule.satisfy_wish rules at.me (wish_of at.readonly w) (out_of at asks o)
-  unfolding Frames.satisfy_wish Parts.keeps Rule.satisfy_wish Rule.with_node wish_of
+  like_satisfy_wish : (rules : Rules) (o : Moving) (w : Option Wish) → ((v : Wish) → w ≡ Some v → asks v.call ≡ Some v.op) → out_of at asks (Messages.satisfy_wish rules o w) ≡ Rule.satisfy_wish rules at.me (wish_of at.readonly w) (out_of at asks o)
+  unfolding Messages.satisfy_wish Parts.keeps Rule.satisfy_wish Rule.with_node wish_of
   like_satisfy_wish rules o None waits = refl
   like_satisfy_wish rules o (Some w) waits = like_satisfy at asks ne rules w.call w.op (Parts.keeps (record o.state { wish = None }) o) (waits w refl)
 
-  fine_satisfy_wish : (rules : Rules) (o : Moving) (w : Option Wish) → FineAt at asks o → FineAt at asks (Frames.satisfy_wish rules o w)
-  unfolding Frames.satisfy_wish
+  fine_satisfy_wish : (rules : Rules) (o : Moving) (w : Option Wish) → FineAt at asks o → FineAt at asks (Messages.satisfy_wish rules o w)
+  unfolding Messages.satisfy_wish
   fine_satisfy_wish rules o None h = h
   fine_satisfy_wish rules o (Some w) h = fine_satisfy at asks ne rules w.call w.op _ (unwished at asks ne o h)
 
-  like_becomes : (rsn : ℕ) (value : List ℕ) (o : Moving) → out_of at asks (Frames.becomes at rsn value o) ≡ Rule.becomes rsn value (out_of at asks o)
-  unfolding Frames.becomes Parts.makes Parts.keeps Rule.becomes Rule.with_node
+  like_becomes : (rsn : ℕ) (value : List ℕ) (o : Moving) → out_of at asks (Messages.becomes at rsn value o) ≡ Rule.becomes rsn value (out_of at asks o)
+  unfolding Messages.becomes Parts.reaches Parts.keeps Rule.becomes Rule.with_node
   like_becomes rsn value o = λ i. record (out_of at asks o) { node = record (out_of at asks o).node { copy = own_like at.me at.me rsn value refl i; tracked = []; revoking = None } }
 
-  fine_becomes : (rsn : ℕ) (value : List ℕ) (o : Moving) → FineAt at asks o → FineAt at asks (Frames.becomes at rsn value o)
-  unfolding Frames.becomes Parts.makes Parts.keeps
+  fine_becomes : (rsn : ℕ) (value : List ℕ) (o : Moving) → FineAt at asks o → FineAt at asks (Messages.becomes at rsn value o)
+  unfolding Messages.becomes Parts.reaches Parts.keeps
   fine_becomes rsn value o h = record { even = even_own at.me at.me rsn value refl; waits = h.waits }
 
-  like_take : (rules : Rules) (rsn : ℕ) (value : List ℕ) (o : Moving) → FineAt at asks o → out_of at asks (Frames.take at rules rsn value o) ≡ Rule.take rules at.me at.lmaster rsn value (out_of at asks o)
-  unfolding Frames.take Rule.take
-  like_take rules rsn value o fine =
+  like_accept : (rules : Rules) (rsn : ℕ) (value : List ℕ) (o : Moving) → FineAt at asks o → out_of at asks (Messages.accept at rules rsn value o) ≡ Rule.accept rules at.me at.lmaster rsn value (out_of at asks o)
+  unfolding Messages.accept Rule.accept
+  like_accept rules rsn value o fine =
       let f = fine_becomes (rsn + 1) value o fine in
-      like_drained at asks ne (Frames.satisfy_wish rules (Frames.becomes at (rsn + 1) value o) o.state.wish) (fine_satisfy_wish rules (Frames.becomes at (rsn + 1) value o) o.state.wish f)
-      ∙ ap (λ (x : Out). Rule.drain at.me at.lmaster x.node.recalls x) (like_satisfy_wish rules (Frames.becomes at (rsn + 1) value o) o.state.wish fine.waits ∙ ap (Rule.satisfy_wish rules at.me (wish_of at.readonly o.state.wish)) (like_becomes (rsn + 1) value o))
+      like_drained at asks ne (Messages.satisfy_wish rules (Messages.becomes at (rsn + 1) value o) o.state.wish) (fine_satisfy_wish rules (Messages.becomes at (rsn + 1) value o) o.state.wish f)
+      ∙ ap (λ (x : Out). Rule.drain at.me at.lmaster x.node.recalls x) (like_satisfy_wish rules (Messages.becomes at (rsn + 1) value o) o.state.wish fine.waits ∙ ap (Rule.satisfy_wish rules at.me (wish_of at.readonly o.state.wish)) (like_becomes (rsn + 1) value o))
 
-  pub like_on_pass : (rules : Rules) (q rsn : ℕ) (value : List ℕ) (o : Moving) → FineAt at asks o → out_of at asks (Frames.on_pass at rules q rsn value o) ≡ Rule.on_pass rules at.me at.lmaster q rsn value (out_of at asks o)
-  unfolding Frames.on_pass Frames.refuse Parts.keeps Rule.on_pass Rule.refuse Rule.with_node body_of is_read_kind
+  pub like_on_pass : (rules : Rules) (q rsn : ℕ) (value : List ℕ) (o : Moving) → FineAt at asks o → out_of at asks (Messages.on_pass at rules q rsn value o) ≡ Rule.on_pass rules at.me at.lmaster q rsn value (out_of at asks o)
+  unfolding Messages.on_pass Messages.refuse Parts.keeps Rule.on_pass Rule.refuse Rule.with_node body_of is_read_kind
   like_on_pass rules q rsn value o fine = if_like at asks ne (nat_lt (rsn + 1) (State.rank o.state.copy)) _ o _ (out_of at asks o) _ (ap (nat_lt (rsn + 1)) (rank_like at.me o.state.copy)) (λ _. refl)
-      (λ _. if_like at asks ne (State.is_wished at.readonly q kind.Lock o.state.wish) _ _ _ _ _ (wished_like at.readonly q kind.Lock o.state.wish) (λ _. like_take rules rsn value o fine) (λ _. like_send at asks at.lmaster (msg.Refuse at.db at.key q rsn) _))
+      (λ _. if_like at asks ne (State.is_wished at.readonly q kind.Lock o.state.wish) _ _ _ _ _ (wished_like at.readonly q kind.Lock o.state.wish) (λ _. like_accept rules rsn value o fine) (λ _. like_send at asks at.lmaster (msg.Refuse at.db at.key q rsn) _))
 
   -- Refuse
-  pub like_on_refuse_of : (n q rsn : ℕ) (o : Moving) (e : Option Entry) → at.me ≡ at.lmaster → out_of at asks (Frames.on_refuse_of at n q rsn o e) ≡ Rule.on_refuse_of at.me n q rsn (out_of at asks o) e
-  unfolding Frames.on_refuse_of Rule.on_refuse_of
+  pub like_on_refuse_of : (n q rsn : ℕ) (o : Moving) (e : Option Entry) → at.me ≡ at.lmaster → out_of at asks (Messages.on_refuse_of at n q rsn o e) ≡ Rule.on_refuse_of at.me n q rsn (out_of at asks o) e
+  unfolding Messages.on_refuse_of Rule.on_refuse_of
   like_on_refuse_of n q rsn o None home = refl
   like_on_refuse_of n q rsn o (Some e) home = if_like at asks ne (nat_eq e.holder n && nat_eq e.least (rsn + 1) && nat_eq e.request q && not (q == 0)) _ _ o _ (out_of at asks o) refl (λ _. like_keep at asks ne (rsn + 2) e.value o home) (λ _. refl)
 
   -- Grant
-  like_reads : (q : ℕ) (o : Moving) (w : Option Wish) (value : List ℕ) → ((v : Wish) → w ≡ Some v → asks v.call ≡ Some v.op) → out_of at asks (Frames.reads q o w value) ≡ Rule.reads at.me (out_of at asks o) (wish_of at.readonly w) value
-  unfolding Frames.reads Parts.keeps Rule.reads Rule.with_node wish_of
-  like_reads q o None value waits = refl
-  like_reads q o (Some w) value waits = like_reply at asks w.call w.op (answer.Read value) _ (waits w refl)
+  like_read_granted : (q : ℕ) (o : Moving) (w : Option Wish) (value : List ℕ) → ((v : Wish) → w ≡ Some v → asks v.call ≡ Some v.op) → out_of at asks (Messages.read_granted q o w value) ≡ Rule.read_granted at.me (out_of at asks o) (wish_of at.readonly w) value
+  unfolding Messages.read_granted Parts.keeps Rule.read_granted Rule.with_node wish_of
+  like_read_granted q o None value waits = refl
+  like_read_granted q o (Some w) value waits = like_reply at asks w.call w.op (answer.Read value) _ (waits w refl)
 
-  pub like_on_grant : (h q rsn : ℕ) (value : List ℕ) (o : Moving) → h ≢ at.me → h ≢ nobody → FineAt at asks o → out_of at asks (Frames.on_grant at h q rsn value o) ≡ Rule.on_grant at.me q rsn value (out_of at asks o)
-  unfolding Frames.on_grant Parts.keeps Rule.on_grant Rule.with_node is_read_kind
+  pub like_on_grant : (h q rsn : ℕ) (value : List ℕ) (o : Moving) → h ≢ at.me → h ≢ nobody → FineAt at asks o → out_of at asks (Messages.on_grant at h q rsn value o) ≡ Rule.on_grant at.me q rsn value (out_of at asks o)
+  unfolding Messages.on_grant Parts.keeps Rule.on_grant Rule.with_node is_read_kind
   like_on_grant h q rsn value o a b fine = if_like at asks ne (State.is_wished at.readonly q kind.Read o.state.wish && not (State.is_mastered at.me o.state.copy) && nat_le (State.rank o.state.copy) (rsn + 1)) _ _ o _ (out_of at asks o)
       (λ i. wished_like at.readonly q kind.Read o.state.wish i && not (mastered_like at.me o.state.copy fine.even i) && nat_le (rank_like at.me o.state.copy i) (rsn + 1))
-      (λ _. like_reads q (Parts.keeps (record o.state { copy = Some (a_copy rsn h for_reading value) }) o) o.state.wish value fine.waits
-      ∙ ap (λ (c : Option Copy). Rule.reads at.me (Rule.with_node (record (out_of at asks o).node { copy = c }) (out_of at asks o)) (wish_of at.readonly o.state.wish) value) (read_like at.me h rsn value a b))
+      (λ _. like_read_granted q (Parts.keeps (record o.state { copy = Some (a_copy rsn h for_reading value) }) o) o.state.wish value fine.waits
+      ∙ ap (λ (c : Option Copy). Rule.read_granted at.me (Rule.with_node (record (out_of at asks o).node { copy = c }) (out_of at asks o)) (wish_of at.readonly o.state.wish) value) (read_like at.me h rsn value a b))
       (λ _. refl)
 
   -- Done
-  pub like_on_done_of : (n q : ℕ) (o : Moving) (ws : List Waiter) → out_of at asks (Frames.on_done_of at n q o ws) ≡ Rule.on_done at.me n q (out_of at asks o) ws
-  unfolding Frames.on_done_of Parts.keeps Rule.on_done Rule.with_node
+  pub like_on_done_of : (n q : ℕ) (o : Moving) (ws : List Waiter) → out_of at asks (Messages.on_done_of at n q o ws) ≡ Rule.on_done at.me n q (out_of at asks o) ws
+  unfolding Messages.on_done_of Parts.keeps Rule.on_done Rule.with_node
   like_on_done_of n q o [] = refl
-  like_on_done_of n q o (w ∷ ws) = if_like at asks ne (Frames.is_request n q w) _ _ o _ (out_of at asks o) refl (λ _. like_next at asks ne _) (λ _. refl)
+  like_on_done_of n q o (w ∷ ws) = if_like at asks ne (Messages.is_request n q w) _ _ o _ (out_of at asks o) refl (λ _. like_next at asks ne _) (λ _. refl)
 
   -- Revoke
-  pub like_on_revoke_of : (h rsn : ℕ) (o : Moving) (w : Option Wish) → Rule.is_odd (copy_of at.me o.state.copy) ≡ false → out_of at asks (Frames.on_revoke_of at h rsn o w) ≡ Rule.on_revoke at.me at.lmaster h rsn (out_of at asks o) (wish_of at.readonly w)
-  unfolding Frames.on_revoke_of Frames.acknowledge Parts.makes Parts.keeps Rule.on_revoke Rule.reads_op Rule.with_node wish_of body_of
+  pub like_on_revoke_of : (h rsn : ℕ) (o : Moving) (w : Option Wish) → Rule.is_odd (copy_of at.me o.state.copy) ≡ false → out_of at asks (Messages.on_revoke_of at h rsn o w) ≡ Rule.on_revoke at.me at.lmaster h rsn (out_of at asks o) (wish_of at.readonly w)
+  unfolding Messages.renew Messages.on_revoke_of Messages.acknowledge Parts.reaches Parts.keeps Rule.on_revoke Rule.reads_op Rule.with_node wish_of body_of
   like_on_revoke_of h rsn o None even = like_send at asks h (msg.RevokeAck at.db at.key rsn) _ ∙ ap (λ (c : Option Copy). Rule.send at.me h (Rule.RevokeAck rsn) (Rule.with_node (record (out_of at asks o).node { copy = c }) (out_of at asks o))) (stale_like at.me rsn o.state.copy even)
   like_on_revoke_of h rsn o (Some w) even = if_like at asks ne (is_read_kind (kind_of at.readonly w.op)) _ _ _ _ _ refl
       (λ _. like_send at asks at.lmaster (msg.Call at.db at.key o.next kind.Read) _
@@ -155,35 +155,35 @@ module _ (at : Place) (asks : ℕ → Option ClientOp) (ne : at.me ≢ nobody) w
   like_ack_of rules n rsn o (Some v) held fine = ack_cases rules n rsn o v (nat_eq v.rsn rsn) (others n v.missing) refl (held v refl) fine
 
   pub like_on_revokeack : (rules : Rules) (n rsn : ℕ) (o : Moving) → ((v : Revocation) → o.state.tracking.revoking ≡ Some v → State.is_mastered at.me o.state.copy ≡ true) → FineAt at asks o →
-      out_of at asks (Frames.on_revokeack at rules n rsn o) ≡ Rule.on_ack rules at.me at.lmaster n rsn (out_of at asks o) o.state.tracking.revoking
-  unfolding Frames.on_revokeack Frames.acknowledged
+      out_of at asks (Messages.on_revokeack at rules n rsn o) ≡ Rule.on_ack rules at.me at.lmaster n rsn (out_of at asks o) o.state.tracking.revoking
+  unfolding Messages.on_revokeack Messages.acknowledged
   like_on_revokeack rules n rsn o held fine = like_ack_of rules n rsn o o.state.tracking.revoking held fine
 
   -- the vacuum
-  pub like_on_vstore : (l rsn : ℕ) (o : Moving) → l ≢ at.me → l ≢ nobody → Rule.is_odd (copy_of at.me o.state.copy) ≡ false → out_of at asks (Frames.on_vstore at l rsn o) ≡ Rule.on_vstore at.me l rsn (out_of at asks o)
-  unfolding Frames.on_vstore Parts.keeps Rule.on_vstore Rule.with_node body_of
+  pub like_on_vstore : (l rsn : ℕ) (o : Moving) → l ≢ at.me → l ≢ nobody → Rule.is_odd (copy_of at.me o.state.copy) ≡ false → out_of at asks (Messages.on_vstore at l rsn o) ≡ Rule.on_vstore at.me l rsn (out_of at asks o)
+  unfolding Messages.on_vstore Parts.keeps Rule.on_vstore Rule.with_node body_of
   like_on_vstore l rsn o a b even = like_send at asks l (msg.VStored at.db at.key rsn) _ ∙ ap (λ (c : Option Copy). Rule.send at.me l (Rule.VStored rsn) (Rule.with_node (record (out_of at asks o).node { copy = c }) (out_of at asks o))) (stored_like at.me l rsn o.state.locked o.state.copy a b even)
 
-  pub like_on_vdelete : (l rsn : ℕ) (o : Moving) → Rule.is_odd (copy_of at.me o.state.copy) ≡ false → out_of at asks (Frames.on_vdelete at l rsn o) ≡ Rule.on_vdelete at.me l rsn (out_of at asks o)
-  unfolding Frames.on_vdelete Parts.keeps Rule.on_vdelete Rule.with_node body_of
+  pub like_on_vdelete : (l rsn : ℕ) (o : Moving) → Rule.is_odd (copy_of at.me o.state.copy) ≡ false → out_of at asks (Messages.on_vdelete at l rsn o) ≡ Rule.on_vdelete at.me l rsn (out_of at asks o)
+  unfolding Messages.on_vdelete Parts.keeps Rule.on_vdelete Rule.with_node body_of
   like_on_vdelete l rsn o even = like_send at asks l (msg.VDeleted at.db at.key rsn) _ ∙ ap (λ (c : Option Copy). Rule.send at.me l (Rule.VDeleted rsn) (Rule.with_node (record (out_of at asks o).node { copy = c }) (out_of at asks o))) (deleted_like at.me rsn o.state.locked o.state.copy even)
 
-  like_finish : (rsn : ℕ) (o : Moving) → out_of at asks (Frames.finish rsn o) ≡ Rule.finish at.me rsn (out_of at asks o)
-  unfolding Frames.finish Parts.makes Rule.finish Rule.with_node copy_of
-  like_finish rsn o = like_finished at asks (Frames.greater o.floor (rsn + 2)) _ ∙ ap (λ (f : ℕ). Rule.tell (Vacuumed at.me) (Rule.with_node (record (out_of at asks o).node { copy = None; entry = None; vacuum = None; floor = f }) (out_of at asks o))) (greater_like o.floor (rsn + 2))
+  like_finish : (rsn : ℕ) (o : Moving) → out_of at asks (Messages.finish rsn o) ≡ Rule.finish at.me rsn (out_of at asks o)
+  unfolding Messages.finish Parts.reaches Rule.finish Rule.with_node copy_of
+  like_finish rsn o = like_finished at asks (Messages.greater o.floor (rsn + 2)) _ ∙ ap (λ (f : ℕ). Rule.tell (Vacuumed at.me) (Rule.with_node (record (out_of at asks o).node { copy = None; entry = None; vacuum = None; floor = f }) (out_of at asks o))) (greater_like o.floor (rsn + 2))
 
-  pub like_on_vstored_of : (n rsn : ℕ) (o : Moving) (v : Option Vacuuming) → out_of at asks (Frames.on_vstored_of at n rsn o v) ≡ Rule.on_vstored at.me n rsn (out_of at asks o) v
-  unfolding Frames.on_vstored_of Parts.keeps Rule.on_vstored Rule.set_vacuum Rule.with_node body_of
+  pub like_on_vstored_of : (n rsn : ℕ) (o : Moving) (v : Option Vacuuming) → out_of at asks (Messages.on_vstored_of at n rsn o v) ≡ Rule.on_vstored at.me n rsn (out_of at asks o) v
+  unfolding Messages.on_vstored_of Parts.keeps Rule.on_vstored Rule.set_vacuum Rule.with_node body_of
   like_on_vstored_of n rsn o None = refl
   like_on_vstored_of n rsn o (Some v) = if_like at asks ne (ends_phase Storing n rsn v) _ _ _ _ _ refl (λ _. like_send_all at asks v.others (msg.VDelete at.db at.key rsn) _) (λ _. refl)
 
-  pub like_on_vdeleted_of : (n rsn : ℕ) (o : Moving) (v : Option Vacuuming) → out_of at asks (Frames.on_vdeleted_of n rsn o v) ≡ Rule.on_vdeleted at.me n rsn (out_of at asks o) v
-  unfolding Frames.on_vdeleted_of Parts.keeps Rule.on_vdeleted Rule.set_vacuum Rule.with_node
+  pub like_on_vdeleted_of : (n rsn : ℕ) (o : Moving) (v : Option Vacuuming) → out_of at asks (Messages.on_vdeleted_of n rsn o v) ≡ Rule.on_vdeleted at.me n rsn (out_of at asks o) v
+  unfolding Messages.on_vdeleted_of Parts.keeps Rule.on_vdeleted Rule.set_vacuum Rule.with_node
   like_on_vdeleted_of n rsn o None = refl
   like_on_vdeleted_of n rsn o (Some v) = if_like at asks ne (ends_phase Deleting n rsn v) _ _ _ _ _ refl (λ _. like_finish rsn o) (λ _. refl)
 
   like_begin : (o : Moving) (ns : List ℕ) → out_of at asks (Moves.begin_vacuum at o ns) ≡ Rule.begin_vacuum at.me (out_of at asks o) ns
-  unfolding Moves.begin_vacuum Parts.makes Parts.keeps Rule.begin_vacuum Rule.with_node body_of
+  unfolding Moves.begin_vacuum Parts.reaches Parts.keeps Rule.begin_vacuum Rule.with_node body_of
   like_begin o [] = like_finish (State.rsn_of o.state.copy) o ∙ ap (λ (r : ℕ). Rule.finish at.me r (out_of at asks o)) (rsn_like at.me o.state.copy)
   like_begin o (n ∷ ns) = like_send_all at asks (n ∷ ns) (msg.VStore at.db at.key (State.rsn_of o.state.copy)) _
       ∙ (λ i. Rule.send_all at.me (n ∷ ns) (Rule.VStore (rsn_like at.me o.state.copy i)) (Rule.with_node (record (out_of at asks o).node { copy = risen_like at.me o.state.copy i; vacuum = Some (vacuum_begun (rsn_like at.me o.state.copy i) (n ∷ ns)) }) (out_of at asks o)))
@@ -206,7 +206,7 @@ module _ (at : Place) (asks : ℕ → Option ClientOp) (ne : at.me ≢ nobody) w
   like_store call v o is = like_reply at asks call (op.Store at.db at.key v) answer.Stored _ is ∙ ap (λ (c : Option Copy). Rule.tell (Told at.me (op.Store at.db at.key v) answer.Stored) (Rule.with_node (record (out_of at asks o).node { copy = c }) (out_of at asks o))) (with_value_like at.me v o.state.copy)
 
   fine_release : (call : ℕ) (o : Moving) → FineAt at asks o → FineAt at asks (Moves.release call o)
-  unfolding Moves.release Parts.keeps Parts.reply Parts.acts
+  unfolding Moves.release Parts.keeps Parts.reply Parts.performs
   fine_release call o h = record { even = h.even; waits = h.waits }
 
   pub like_release : (call : ℕ) (o : Moving) → asks call ≡ Some (op.Unlock at.db at.key) → out_of at asks (Moves.release call o) ≡ Rule.release at.me at.db at.key (out_of at asks o)
