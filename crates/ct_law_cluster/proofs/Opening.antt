@@ -27,7 +27,7 @@ use Rattle.ct_law_cluster.proofs.Clusters.{ClusterStays}
 use Rattle.ct_law_node.proofs.Following.{asks_by_law, IsEra}
 use Rattle.ct_frame.specs.Fields.{is_node, ascends, ascends_after}
 use Rattle.ct_promise.specs.Born.{has_pushed}
-use Rattle.ct_law_shown.proofs.Wishing.{Wishful}
+use Rattle.ct_law_wish.proofs.Wishing.{Wishful}
 
 -- ---- its members
 
