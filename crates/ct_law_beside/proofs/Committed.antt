@@ -44,7 +44,7 @@ use Rattle.ct_law_world.specs.World.{View, Mail, World}
 use Rattle.ct_law_shown.specs.Shown.{Era, scene, view, mail_of, mails, labels_of, amid, project, Schedules}
 use Rattle.ct_law_shown.proofs.Hearing.{frames_more, mails_more, labels_more}
 use Rattle.ct_law_node.proofs.Plain.{IsPlain, AllPlain, plain_more}
-use Rattle.ct_law_shown.proofs.Wishing.{Wishful}
+use Rattle.ct_law_wish.proofs.Wishing.{Wishful}
 use Rattle.ct_law_node.proofs.Pending.{Callers, Fits, KnownAt, CommitFits, DatabaseKnown, NodeKnown}
 use Rattle.ct_law_node.proofs.Forming.{Is_formed}
 use Rattle.ct_law_node.proofs.Staying.{NodeStays, Of_records, of_era}

@@ -18,7 +18,7 @@ use Rattle.ct_rules_node.proofs.Numbered.{unnumbered}
 use Rattle.ct_cluster.specs.Cluster.{Cluster, node_at, or_absent, absent, wished, wished_in, committing, pending_in, pending_from, pending}
 use Rattle.ct_cluster.specs.declared.step.PendingCall.{PendingCall}
 use Rattle.ct_promise.specs.Born.{Rows, IsBornWith, WishIsSound}
-use Rattle.ct_law_shown.proofs.Wishing.{Wishful}
+use Rattle.ct_law_wish.proofs.Wishing.{Wishful}
 use Rattle.ct_law_node.proofs.Pending.{Callers, Fits, Known, CommitFits, KnownAt, NodeKnown, none_known}
 use Rattle.ct_law_birth.proofs.BornWorlds.{by_test}
 

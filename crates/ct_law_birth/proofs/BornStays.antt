@@ -15,7 +15,7 @@ use Rattle.ct_law_birth.proofs.BornWorlds.{by_test, state_none}
 use Rattle.ct_law_birth.proofs.BornCalls.{callers_in, born_known}
 use Rattle.ct_law_birth.proofs.BornForms.{member_formed}
 use Rattle.ct_law_birth.proofs.BornNodes.{born_up, born_left, born_sent}
-use Rattle.ct_law_shown.proofs.Wishing.{Wishful, all_wishful}
+use Rattle.ct_law_wish.proofs.Wishing.{Wishful, all_wishful}
 use Rattle.ct_rules_node.specs.Node.{state_at, is_among, has_records, kind_at}
 use Rattle.ct_rules.specs.declared.state.RecState.{RecState}
 

@@ -17,7 +17,7 @@ use Rattle.ct_rules_node.specs.Refusals.{refused_if}
 use Rattle.ct_rules_node.specs.Clients as clients
 use Rattle.ct_rules_node.specs.Clients.{refusal, no_such_db, wrong_kind, is_commit, is_read}
 use Rattle.ct_rules_node.proofs.Refusals.{first_none, not_refused}
-use Rattle.ct_law_shown.proofs.Wishing.{Wishful}
+use Rattle.ct_law_wish.proofs.Wishing.{Wishful}
 use Rattle.ct_law_node.proofs.Pending.{Callers, Known}
 use Rattle.ct_law_callers.proofs.Waiting.{EachWish, OfCommit, EachCall}
 use Rattle.ct_law_callers.proofs.Whole.{IsNew}

@@ -18,7 +18,7 @@ use Rattle.ct_cluster.specs.Cluster.{Cluster, node_at, or_absent, absent, wished
 use Rattle.ct_cluster.specs.Labels.{Answered}
 use Rattle.ct_law_shown.specs.Waiting.{answered}
 use Rattle.ct_cluster.specs.declared.step.PendingCall.{PendingCall}
-use Rattle.ct_law_shown.proofs.Wishing.{Wishful}
+use Rattle.ct_law_wish.proofs.Wishing.{Wishful}
 use Rattle.ct_law_node.proofs.Pending.{Callers, Fits, is_call, answered_as, Known}
 use Rattle.ct_law_callers.proofs.Waiting.{EachWish, OfCommit, EachCall, calls_at}
 

@@ -20,7 +20,7 @@ use Rattle.ct_rules_node.specs.Node.{Database, Committing, untouched, or_untouch
 use Rattle.ct_rules_node.specs.Turn.{Turn}
 use Rattle.ct_rules_node.specs.Records.{kept, view, put_back, acted, at_record}
 use Rattle.ct_rules_node.specs.Rounds.{frozen_state, frozen_db, changed, bared, installed_state, install_row, install_rows, installed_db, installed_dbs}
-use Rattle.ct_law_shown.proofs.Wishing.{Wishful}
+use Rattle.ct_law_wish.proofs.Wishing.{Wishful}
 
 -- P is what a call that waits for a record has, by database and key; and Q what one has whose commit waits, by database
 module _ (P : ℕ → List ℕ → ℕ → ClientOp → Type 0) (Q : ℕ → ℕ → List Pair → Type 0) where

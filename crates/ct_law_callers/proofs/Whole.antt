@@ -30,7 +30,7 @@ use Rattle.ct_rules_node.specs.Rounds.{Called, want_again_of, want_again, want_a
 use Rattle.ct_rules_node.specs.Retries.{call_all, revoke_all, revoke_in, retry_records, retry}
 use Rattle.ct_rules_node.specs.Steps.{on_record_of, if_persistent, if_sound, if_taken_over, arrives, vacuum_all, vacuums, happens}
 use Rattle.ct_rules_node.specs.Admission.{record_in}
-use Rattle.ct_law_shown.proofs.Wishing.{Wishful, send_all_same, want_wish, store_wish, release_wish, unlock_wish, vacuum_wish, arrive_wish}
+use Rattle.ct_law_wish.proofs.Wishing.{Wishful, send_all_same, want_wish, store_wish, release_wish, unlock_wish, vacuum_wish, arrive_wish}
 use Rattle.ct_law_plain.proofs.Asides.{Alike, alike_same, begin_round_alike, on_freezeack_alike, on_pull_alike, on_pullreply_alike, on_pushack_alike, begin_takeover_alike, on_release_alike, on_releaseack_alike, on_take_alike, update_in_alike, retry_lead_alike, releases_alike}
 use Rattle.ct_law_callers.proofs.Waiting.{OfCommit, EachCall, KeepsWish, kept_wish, look_wish, calls_set, calls_at, at_record_calls, frozen_calls, installed_calls, restarted_calls, untouched_calls}
 

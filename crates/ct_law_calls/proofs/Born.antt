@@ -18,7 +18,7 @@ use Rattle.ct_cluster.specs.Cluster.{Cluster, node_at, or_absent, wished, wished
 use Rattle.ct_cluster.specs.declared.step.PendingCall.{PendingCall}
 use Rattle.ct_promise.specs.Born.{Rows, WishIsSound, IsBornWith, log_of}
 use Rattle.ct_law_shown.proofs.Weave.{true_or_false}
-use Rattle.ct_law_shown.proofs.Wishing.{Wishful}
+use Rattle.ct_law_wish.proofs.Wishing.{Wishful}
 use Rattle.ct_law_node.proofs.Pending.{Callers, Known, KnownAt, CommitFits, is_call, pending_has}
 use Rattle.ct_law_birth.proofs.BornCalls.{caller_in, callers_in, born_known}
 use Rattle.ct_cluster.specs.Traces.{asked_in}

@@ -25,9 +25,9 @@ use Rattle.ct_rules_node.specs.Records.{at_record, place_of, view}
 use Rattle.ct_rules_node.specs.Clients.{db_of, key_of, is_commit, refusal, no_such_db, call_pending, pending_of, commit_pending, wants_record, wants_change, is_read, is_unlock, is_committing, unlocks, reads, serves, serves_or, client}
 use Rattle.ct_rules_node.specs.Databases.{updates, with_commit, awaits_others, commits_at, commit, read_pair}
 use Rattle.ct_rules_node.proofs.Refusals.{first_none, not_refused}
-use Rattle.ct_law_shown.proofs.Wishing.{Wishful, want_wish, store_wish, release_wish, unlock_wish}
-use Rattle.ct_law_calls.proofs.Even.{answers_in, want_even, store_even, release_even, unlock_even}
-use Rattle.ct_law_calls.proofs.Opened.{Opened, number_of, answered_by, AllOpen, without_all}
+use Rattle.ct_law_wish.proofs.Wishing.{Wishful, want_wish, store_wish, release_wish, unlock_wish}
+use Rattle.ct_law_wish.proofs.Even.{answers_in, want_even, store_even, release_even, unlock_even, number_of}
+use Rattle.ct_law_calls.proofs.Opened.{Opened, answered_by, AllOpen, without_all}
 use Rattle.ct_law_calls.proofs.Accounts.{Wished, Stands, Account, with_call, own_call, answers_kept, commit_waits, with_committing}
 use Rattle.ct_law_calls.proofs.Records.{call_kept, even_start, wish_more, number_none}
 use Rattle.ct_law_calls.proofs.Turns.{updates_stands, updates_commit, posts_all_kept, frozen_kept}

@@ -22,42 +22,13 @@ use Rattle.ct_rules_node.specs.Rounds.{Called, pending_calls, want_again_of, wan
 use Rattle.ct_rules_node.specs.Retries.{call_all, revoke_all, revoke_in, retry_records, retry}
 use Rattle.ct_rules_node.specs.Steps.{on_record_of, if_persistent, if_sound, if_taken_over, arrives, vacuum_all, vacuums, happens}
 use Rattle.ct_rules_node.specs.Admission.{record_in}
-use Rattle.ct_law_shown.proofs.Wishing.{Wishful, want_wish, arrive_wish, vacuum_wish, send_all_same}
-use Rattle.ct_law_calls.proofs.Even.{arrive_even, vacuum_even, want_again_even, call_again_even, revoke_again_even}
+use Rattle.ct_law_wish.proofs.Wishing.{Wishful, arrive_wish, vacuum_wish, want_again_wish, call_again_wish, revoke_again_wish}
+use Rattle.ct_law_wish.proofs.Even.{arrive_even, vacuum_even, want_again_even, call_again_even, revoke_again_even}
 use Rattle.ct_law_calls.proofs.Opened.{Opened, answered_by, AllOpen, without_all}
 use Rattle.ct_law_calls.proofs.Accounts.{Stands, Account, with_call}
 use Rattle.ct_law_calls.proofs.Records.{at_record_kept}
 use Rattle.ct_law_calls.proofs.Clients.{client_kept}
 use Rattle.ct_law_calls.proofs.Turns.{either, with_phase_kept, notes_kept, on_pupdate_kept, on_pack_kept, begin_round_kept, on_freeze_kept, on_freezeack_kept, on_pull_kept, on_pullreply_kept, on_push_kept, on_pushack_kept, begin_takeover_kept, on_release_kept, on_releaseack_kept, on_take_kept, update_in_kept, retry_lead_kept}
-
--- ---- at one record, what asks again
-
-again_wish : (P : ℕ → ClientOp → Type 0) (rules : Rules) (at : Place) (o : Moving) (w : Option Wish) → o.state.wish ≡ w → Wishful P w → Wishful P o.state.wish → Wishful P (want_again_of at rules o w).state.wish
-unfolding want_again_of keeps Wishful
-again_wish P rules at o None is h k = k
-again_wish P rules at o (Some w) is h k = want_wish P at rules w.call w.op (record o { state = record o.state { wish = None } }) h tt
-
-pub want_again_wish : (P : ℕ → ClientOp → Type 0) (rules : Rules) (at : Place) (o : Moving) → Wishful P o.state.wish → Wishful P (want_again rules at o).state.wish
-unfolding want_again
-want_again_wish P rules at o h = again_wish P rules at o o.state.wish refl h h
-
-call_wish : (P : ℕ → ClientOp → Type 0) (at : Place) (o : Moving) (w : Option Wish) → Wishful P o.state.wish → Wishful P (call_again_of at o w).state.wish
-unfolding call_again_of send performs
-call_wish P at o None h = h
-call_wish P at o (Some w) h = grind (arith, h)
-
-pub call_again_wish : (P : ℕ → ClientOp → Type 0) (at : Place) (o : Moving) → Wishful P o.state.wish → Wishful P (call_again at o).state.wish
-unfolding call_again
-call_again_wish P at o h = call_wish P at o o.state.wish h
-
-revoke_wish : (P : ℕ → ClientOp → Type 0) (at : Place) (o : Moving) (r : Option Revocation) → Wishful P o.state.wish → Wishful P (revoke_again_of at o r).state.wish
-unfolding revoke_again_of
-revoke_wish P at o None h = h
-revoke_wish P at o (Some r) h = rw (send_all_same r.missing (msg.Revoke at.db at.key r.rsn) o) h
-
-pub revoke_again_wish : (P : ℕ → ClientOp → Type 0) (at : Place) (o : Moving) → Wishful P o.state.wish → Wishful P (revoke_again at o).state.wish
-unfolding revoke_again
-revoke_again_wish P at o h = revoke_wish P at o o.state.tracking.revoking h
 
 -- ---- thaws
 

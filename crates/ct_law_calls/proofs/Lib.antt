@@ -1,4 +1,3 @@
-pub mod Even
 pub mod Opened
 pub mod Accounts
 pub mod Records

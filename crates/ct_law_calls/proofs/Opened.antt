@@ -10,7 +10,7 @@ use Rattle.ct_rules.specs.declared.event.Act.{Act}
 use Rattle.ct_rules.specs.declared.event.Act.TheVariants as act
 use Rattle.ct_rules.specs.declared.state.Wish.{Wish}
 use Rattle.ct_rules_node.specs.Records.{out_of}
-use Rattle.ct_law_calls.proofs.Even.{answers_in, Even}
+use Rattle.ct_law_wish.proofs.Even.{answers_in, number_of}
 
 -- of each number the node and the operation of its call, where that is open
 abbrev pub Opened : Type 0
@@ -117,19 +117,6 @@ is_later (x ∷ xs) ys who k v is e =
     is_later xs ys (without x who) k v (or_other (nat_eq k x) (is_one k (xs ++ ys)) is (case_open (nat_eq k x) (who k) (Some v) (was_open xs (without x who) k v e) (some_none v)).0) e
 
 -- ---- the call that waits
-
-unfoldable pub number_of : Option Wish → List ℕ
-number_of None = []
-number_of (Some w) = w.call ∷ []
-
-nil_more : (xs : List ℕ) → xs ++ [] ≡ xs
-nil_more [] = refl
-nil_more (x ∷ xs) = ap (λ (l : List ℕ). x ∷ l) (nil_more xs)
-
-pub even_is : (xs : List ℕ) (as' : List Act) (w : Option Wish) → Even xs as' w → answers_in as' ++ number_of w ≡ xs
-unfolding Even number_of
-even_is xs as' None h = nil_more (answers_in as') ∙ h
-even_is xs as' (Some w) h = h.0
 
 pub only_one : (k : ℕ) (w : Option Wish) → is_one k (number_of w) ≡ true → (x : Wish) × (w ≡ Some x) × (x.call ≡ k)
 unfolding number_of

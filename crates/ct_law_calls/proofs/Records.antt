@@ -21,10 +21,10 @@ use Rattle.ct_rules_node.proofs.AtRecord.{moves_at, at_set, at_other, set_past}
 use Rattle.ct_law_node.proofs.Forming.{or_second}
 use Rattle.ct_law_shown.specs.Shown.{is_it}
 use Rattle.ct_law_shown.proofs.Weave.{true_or_false, it_is, it_is_itself}
-use Rattle.ct_law_shown.proofs.Wishing.{Wishful}
+use Rattle.ct_law_wish.proofs.Wishing.{Wishful}
 use Rattle.ct_law_shown.proofs.Amid.{other_state}
-use Rattle.ct_law_calls.proofs.Even.{answers_in, Even}
-use Rattle.ct_law_calls.proofs.Opened.{Opened, without, without_all, answered_by, AllOpen, is_one, answered_more, without_more, open_more, open_first, open_rest, outs_answer, was_open, stays_open, is_later, number_of, even_is, only_one}
+use Rattle.ct_law_wish.proofs.Even.{answers_in, Even, number_of, even_is}
+use Rattle.ct_law_calls.proofs.Opened.{Opened, without, without_all, answered_by, AllOpen, is_one, answered_more, without_more, open_more, open_first, open_rest, outs_answer, was_open, stays_open, is_later, only_one}
 use Rattle.ct_law_calls.proofs.Accounts.{Wished, Committed, wish_call, commit_call, Stands, Account, wish_like, commit_like, same_asked, place_commit, place_wish, with_call, own_call, other_call, none_other}
 
 -- ---- the state of the record after it

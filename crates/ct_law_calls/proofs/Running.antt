@@ -18,7 +18,7 @@ use Rattle.ct_cluster.specs.Labels.{Label}
 use Rattle.ct_cluster.specs.declared.step.Step.{Step}
 use Rattle.ct_cluster.specs.declared.step.StepFault.{StepFault}
 use Rattle.ct_law_shown.proofs.Weave.{true_or_false}
-use Rattle.ct_law_shown.proofs.Wishing.{Wishful}
+use Rattle.ct_law_wish.proofs.Wishing.{Wishful}
 use Rattle.ct_promise.specs.Promises.{CallsStand}
 use Rattle.ct_law_shown.specs.Waiting.{Outcome, unchanged, came_of, outcome, outcome_of}
 use Rattle.ct_law_calls.specs.Law.{NoneUnasked, CallsRun, LawOfCalls, PromiseOfCalls}

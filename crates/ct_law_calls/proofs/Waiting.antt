@@ -18,7 +18,7 @@ use Rattle.ct_rules_node.proofs.Installed.{own_key}
 use Rattle.ct_cluster.specs.Cluster.{wished, wished_in, committing, pending_in}
 use Rattle.ct_cluster.specs.declared.step.PendingCall.{PendingCall}
 use Rattle.ct_law_shown.proofs.Weave.{true_or_false}
-use Rattle.ct_law_shown.proofs.Wishing.{Wishful}
+use Rattle.ct_law_wish.proofs.Wishing.{Wishful}
 use Rattle.ct_law_node.proofs.Pending.{is_call}
 use Rattle.ct_lcp2.proofs.Choices.{all_append}
 use Rattle.ct_law_calls.proofs.Opened.{Opened}

@@ -14,7 +14,7 @@ use Rattle.ct_cluster.specs.Steps.{frames_of, put}
 use Rattle.ct_cluster.specs.declared.step.PendingCall.{PendingCall}
 use Rattle.ct_law_world.specs.World as law
 use Rattle.ct_law_shown.specs.Shown.{Era, project, amid, labels_of, Schedules}
-use Rattle.ct_law_shown.proofs.Wishing.{Wishful}
+use Rattle.ct_law_wish.proofs.Wishing.{Wishful}
 use Rattle.ct_law_node.proofs.Pending.{Callers, Known, KnownAt, CommitFits, NodeKnown}
 use Rattle.ct_law_node.proofs.Staying.{NodeStays}
 use Rattle.ct_law_node.proofs.Following.{Goes_on}

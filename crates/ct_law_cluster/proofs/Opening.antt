@@ -16,7 +16,7 @@ use Rattle.ct_cluster.specs.Cluster as cluster
 use Rattle.ct_cluster.specs.Cluster.{everyone, node_at, or_absent, numbers}
 use Rattle.ct_law_world.specs.World as law
 use Rattle.ct_law_world.specs.World.{View}
-use Rattle.ct_law_record.proofs.Law.{proved}
+use Rattle.ct_law_record.proofs.Law.{opening_leads}
 use Rattle.ct_register.proofs.Opened.{untouched_one}
 use Rattle.ct_register.specs.Register.{newborn}
 use Rattle.ct_law_shown.specs.Shown.{Era, scene, view, mails, project}
@@ -27,7 +27,7 @@ use Rattle.ct_law_cluster.proofs.Clusters.{ClusterStays}
 use Rattle.ct_law_node.proofs.Following.{asks_by_law, IsEra}
 use Rattle.ct_frame.specs.Fields.{is_node, ascends, ascends_after}
 use Rattle.ct_promise.specs.Born.{has_pushed}
-use Rattle.ct_law_shown.proofs.Wishing.{Wishful}
+use Rattle.ct_law_wish.proofs.Wishing.{Wishful}
 
 -- ---- its members
 
@@ -76,7 +76,7 @@ first_era c = record { number = 1; members = everyone c; thawed = true; start = 
 
 pub first_is_era : (c : Config) → list_all is_node (everyone c) ≡ true → IsEra c (first_era c)
 unfolding everyone
-first_is_era c real = record { real = real; ascend = numbers_ascend 0 c.nodes; positive = omega arith; asks = λ rules db key. asks_by_law (scene c (first_era c) rules db key) law.opening (newborn []) (λ es. proved (scene c (first_era c) rules db key) es real) }
+first_is_era c real = record { real = real; ascend = numbers_ascend 0 c.nodes; positive = omega arith; asks = λ rules db key. asks_by_law (scene c (first_era c) rules db key) law.opening (newborn []) (λ es. opening_leads (scene c (first_era c) rules db key) es real) }
 
 -- one of many that are alike, or what stands for one that is not there
 one_of_all : (P : Node → Type 0) (x : Node) → P cluster.absent → P x → (k n : ℕ) → P (or_absent (slice_get (replicate k x) n))

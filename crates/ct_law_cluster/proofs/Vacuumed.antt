@@ -41,7 +41,7 @@ use Rattle.ct_law_world.specs.World.{Scene, View, World, Vacuums, happens, put, 
 use Rattle.ct_law_world.specs.World as law
 use Rattle.ct_law_shown.specs.Shown.{Era, scene, view, heard, told_by_all, labels_of, project, amid, Finds, Follows, Schedules}
 use Rattle.ct_law_shown.proofs.Weave.{true_or_false}
-use Rattle.ct_law_shown.proofs.Wishing.{Wishful, vacuum_wish}
+use Rattle.ct_law_wish.proofs.Wishing.{Wishful, vacuum_wish}
 use Rattle.ct_law_shown.proofs.Hearing.{heard_more, list_more}
 use Rattle.ct_law_node.proofs.Pending.{Callers, Known, KnownAt}
 use Rattle.ct_law_node.proofs.Staying.{NodeStays, Of_records, AllWishes, wishes_at}

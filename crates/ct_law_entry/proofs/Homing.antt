@@ -14,7 +14,7 @@ use Rattle.ct_rules.specs.declared.state.RecState.{RecState}
 use Rattle.ct_rules.specs.declared.state.Wish.{Wish}
 use Rattle.ct_rules.specs.Moves.{is_vacuumed, store, release, unlock, vacuum_at_home, vacuum, call_again_of, call_again, revoke_again_of, revoke_again, at_home, from_home, arrive}
 use Rattle.ct_rules_node.specs.Rounds.{want_again_of, want_again}
-use Rattle.ct_law_shown.proofs.Wishing.{send_all_same}
+use Rattle.ct_law_wish.proofs.Wishing.{send_all_same}
 
 -- ---- a rule that does not look at the entry
 

@@ -30,7 +30,7 @@ use Rattle.ct_promise.specs.Marked.{is_removed}
 use Rattle.ct_law_world.specs.World.{World, View}
 use Rattle.ct_law_record.proofs.MarkedRun.{marks_of}
 use Rattle.ct_law_shown.specs.Shown.{scene, view, mails, labels_of}
-use Rattle.ct_law_shown.proofs.Wishing.{Wishful}
+use Rattle.ct_law_wish.proofs.Wishing.{Wishful}
 use Rattle.ct_law_shown.proofs.Hearing.{mails_more}
 use Rattle.ct_law_shown.proofs.Weave.{true_or_false}
 use Rattle.ct_law_node.proofs.Pending.{Callers, Known, KnownAt, CommitFits, NodeKnown}

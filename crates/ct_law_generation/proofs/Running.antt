@@ -34,6 +34,7 @@ use Rattle.ct_law_world.specs.World.{Scene, World, LeadsTo}
 use Rattle.ct_law_fact.proofs.Invariant.{Ghost}
 use Rattle.ct_law_record.proofs.Worlds.{WorldInv}
 use Rattle.ct_law_record.proofs.Law.{leads}
+use Rattle.ct_law_record.proofs.MarkLists.{marks_stay}
 use Rattle.ct_law_record.proofs.MarkedRun.{marks_of}
 use Rattle.ct_law_shown.specs.Shown.{Era, scene, project, AllInstalled, heard, told_by_all, Schedules}
 use Rattle.ct_law_shown.proofs.Weave.{true_or_false}
@@ -238,16 +239,6 @@ goes_after c era rules w r ghosts s is one other h =
     }
 
 -- ---- the recovery lock is given back
-
--- marks may stay as they are
-go_on_same : (low : ℕ) (ms : List Mark) → GoOn low ms ms
-unfolding GoOn AreFrom
-go_on_same low [] = tt
-go_on_same low (m ∷ []) = (refl, omega arith, tt)
-go_on_same low (m ∷ k ∷ ms) = (refl, go_on_same low (k ∷ ms))
-
-marks_stay : (m : Marks) → MarksStep false m m
-marks_stay m = (go_on_same m.low m.marks, omega arith)
 
 idle_after : (c : Config) (era : Era) (rules : Rules) (w : Cluster) (r : Lines) (ghosts : Ghosts) → Lives c era rules w r ghosts → After c era rules r ghosts (unchanged w)
 unfolding unchanged

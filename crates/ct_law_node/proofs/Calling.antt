@@ -25,7 +25,7 @@ use Rattle.ct_cluster.specs.declared.step.PendingCall.{PendingCall}
 use Rattle.ct_register.specs.Legal.{db_of, key_of}
 use Rattle.ct_law_world.specs.World.{World, Event, Wants, Stores, Unlocks, happens, put, place, own_call, may_want}
 use Rattle.ct_law_shown.specs.Shown.{Era, scene, view, project, amid, Finds}
-use Rattle.ct_law_shown.proofs.Wishing.{Wishful, want_wish, store_wish, unlock_wish}
+use Rattle.ct_law_wish.proofs.Wishing.{Wishful, want_wish, store_wish, unlock_wish}
 use Rattle.ct_law_node.proofs.Pending.{Callers, Known, KnownAt}
 use Rattle.ct_law_node.proofs.Forming.{may_want_comes}
 use Rattle.ct_law_node.proofs.Staying.{NodeStays, Of_records}

@@ -24,7 +24,7 @@ use Rattle.ct_cluster.specs.Steps.{frames_of}
 use Rattle.ct_law_world.specs.World.{View, Mail, Comes, waiting_call, World, Event}
 use Rattle.ct_law_shown.specs.Shown.{Era, scene, view, mail_of, mails, project, amid}
 use Rattle.ct_law_shown.proofs.Weave.{it_is_itself}
-use Rattle.ct_law_shown.proofs.Wishing.{arrive_wish}
+use Rattle.ct_law_wish.proofs.Wishing.{arrive_wish}
 use Rattle.ct_law_node.proofs.Pending.{Callers, Known, KnownAt, NodeKnown}
 use Rattle.ct_law_node.proofs.Forming.{mail_comes}
 use Rattle.ct_law_node.proofs.Staying.{NodeStays, number_of, of_era, Of_records}

@@ -32,7 +32,7 @@ use Rattle.ct_law_shown.specs.Shown.{Era, scene, view, project, AllAsked, Finds,
 use Rattle.ct_law_node.proofs.Plain.{AllPlain, plain_more, plain_sends}
 use Rattle.ct_law_shown.proofs.Hearing.{frames_more, accepts_asked, asked_left, asked_right, list_more}
 use Rattle.ct_law_shown.proofs.Speaking.{Told, move_told}
-use Rattle.ct_law_shown.proofs.Wishing.{Wishful}
+use Rattle.ct_law_wish.proofs.Wishing.{Wishful}
 use Rattle.ct_law_node.proofs.Pending.{Callers, is_call, Known, KnownAt, NodeKnown, answered_as, pending_fits, pending_has}
 use Rattle.ct_law_node.proofs.Forming.{Is_formed, Is_sound_mail, formed_moves, formed_blank, sound_moves}
 use Rattle.ct_law_shown.proofs.Amid.{Fair, here, put_world, place_is}

@@ -22,7 +22,7 @@ use Rattle.ct_cluster.specs.Labels.{Label, Answered}
 use Rattle.ct_law_shown.specs.Waiting.{answered}
 use Rattle.ct_cluster.specs.declared.step.PendingCall.{PendingCall}
 use Rattle.ct_register.specs.Legal.{db_of, key_of}
-use Rattle.ct_law_shown.proofs.Wishing.{Wishful}
+use Rattle.ct_law_wish.proofs.Wishing.{Wishful}
 use Rattle.ct_lcp2.proofs.Choices.{all_append}
 
 -- who made each call, and what it asked

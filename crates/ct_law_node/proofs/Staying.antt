@@ -23,7 +23,7 @@ use Rattle.ct_promise.specs.Born.{has_pushed}
 use Rattle.ct_law_world.specs.World.{View, view_of}
 use Rattle.ct_law_shown.specs.Shown.{Era, scene, view, is_it}
 use Rattle.ct_law_shown.proofs.Weave.{it_is, true_or_false}
-use Rattle.ct_law_shown.proofs.Wishing.{Wishful}
+use Rattle.ct_law_wish.proofs.Wishing.{Wishful}
 use Rattle.ct_law_node.proofs.Pending.{Callers, Known, KnownAt, DatabaseKnown, NodeKnown}
 use Rattle.ct_law_node.proofs.Forming.{Is_formed, formed_rises, formed_blank}
 use Rattle.ct_law_shown.proofs.Amid.{seen_same, other_state, floor_own, next_grows}

@@ -9,10 +9,13 @@ use Rattle.ct_law_fact.proofs.Invariant.{Past, Marking, Sent, Ghost, Asked, Wait
 use Rattle.std.specs.List.{list_all}
 use Rattle.ct_frame.specs.Fields.{is_node}
 use Rattle.ct_register.specs.Register.{reading, newborn}
-use Rattle.ct_law_world.specs.World.{Scene, AreDrawn, born_state, born, SeesAtMost, IsBornAsOneRegister}
+use Rattle.ct_law_world.specs.World.{Scene, AreDrawn, waiting_call, opening, bare, born_state, born, SeesAtMost}
+use Rattle.ct_law_world.specs.Calls.{log_of, AreWanting, OpensAsOneRegister, BeginsAsOneRegister, IsBornAsOneRegister}
+use Rattle.ct_law_record.proofs.Logged.{AllWant}
+use Rattle.ct_law_record.proofs.LoggedRun.{leads_on}
 use Rattle.ct_law_fact.proofs.Nodes.{past_top, past_none}
 use Rattle.ct_law_record.proofs.Worlds.{WorldInv, member_real}
-use Rattle.ct_law_record.proofs.Law.{leads, drawn_low}
+use Rattle.ct_law_record.proofs.Law.{drawn_low, bare_ghost, bare_holds}
 use Rattle.ct_rules_node.specs.Rounds.{installed_state, copy_from, row_master, or_nobody, entry_from}
 use Rattle.ct_rules_node.specs.Node.{is_among}
 use Rattle.ct_frame.specs.declared.frame.TableRow.{TableRow}
@@ -203,8 +206,24 @@ born_holds s row joined versions seen number wish real lmaster member is sees dr
         (λ f. subst (λ (b : Bool). NodeInv g n (record (node_of n s.readonly (beside n) (number n) 0) { fresh = b && not (joined n) })) (sym f) (facts_born false (joined n) row (row_master row) versions seen n (number n) _ _ is (drawn.some n) (λ v e. drawn_low s.readonly number wish n drawn v e)
         (born_outside row.rsn (row_master row) n versions (seen n) (λ e. (let z : is_among n s.members ≡ true = subst (λ x. is_among x s.members ≡ true) (sym e) member in cc)) (subst (λ (b : Bool). seen n ≤ cond b (length versions) 0) f (sees n)))))
 
+-- the calls that wait in the beginning want the record
+pub born_want : (s : Scene) (row : TableRow) (joined : ℕ → Bool) (number : ℕ → ℕ) (wish : ℕ → Option Wish) → AreWanting wish → AllWant (born s row joined number wish)
+unfolding born_state installed_state
+born_want s row joined number wish wanting n x e = wanting n x (sym (kept_wish n) ∙ e)
+  where
+    kept_wish : (n : ℕ) → (born_state s row n (wish n)).wish ≡ wish n
+    kept_wish n = cond_both (is_among n s.members) _ _ (λ (r : RecState). r.wish ≡ wish n) (λ _. refl) (λ _. refl)
+
 pub proved_born : IsBornAsOneRegister
 unfolding row_master or_nobody
-proved_born s row master versions seen joined number wish events real lmaster named member is sees drawn =
+proved_born s row master versions seen joined number wish events real lmaster named member is sees drawn wanting =
     let e : row_master row ≡ master = ap or_nobody named in
-    leads s (born s row joined number wish) _ (born_ghost row (row_master row) versions seen) events real (born_holds s row joined versions seen number wish real lmaster (subst (λ x. is_among x s.members ≡ true) (sym e) member) is sees drawn)
+    let w = born s row joined number wish in
+    leads_on s w (log_of w) _ (born_ghost row (row_master row) versions seen) events real (born_holds s row joined versions seen number wish real lmaster (subst (λ x. is_among x s.members ≡ true) (sym e) member) is sees drawn) (λ n call. refl) (born_want s row joined number wish wanting)
+
+pub proved_bare : BeginsAsOneRegister
+proved_bare s joined number wish events real drawn wanting = (let w = bare joined number wish in leads_on s w (log_of w) (newborn []) (bare_ghost s.lmaster) events real (bare_holds s joined number wish drawn) (λ n call. refl) wanting)
+
+pub proved : OpensAsOneRegister
+unfolding waiting_call
+proved s events real = leads_on s opening (λ n call. None) (newborn []) (bare_ghost s.lmaster) events real (bare_holds s (λ _. true) (λ _. 1) (λ _. None) (record { some = λ n. omega arith; above = λ n w e. absurd (cc) })) (λ n call. refl) (λ n x e. absurd (cc))

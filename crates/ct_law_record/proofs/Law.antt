@@ -8,7 +8,7 @@ use Rattle.ct_law_fact.proofs.Rule
 use Rattle.ct_law_like.proofs.SeenNode.{copy_of, wish_of, mastered_like, for_reading_like, frames_of}
 use Rattle.ct_register.specs.Register.{Register, reading, newborn}
 use Rattle.ct_law_fact.proofs.Invariant.{Sent, Ghost, GlobalInv, default_entry, Asked, Waits, Emptied, readers_of, is_revoking}
-use Rattle.ct_law_world.specs.World.{Scene, World, Event, peers, last, HasCopy, Stands, StandsFor, NothingIsLost, Parent, LeadsTo, OpensAsOneRegister, bare, AreDrawn, BeginsAsOneRegister}
+use Rattle.ct_law_world.specs.World.{Scene, World, Event, peers, last, HasCopy, Stands, StandsFor, NothingIsLost, Parent, LeadsTo, opening, bare, AreDrawn}
 use Rattle.std.specs.List.{list_all}
 use Rattle.ct_frame.specs.Fields.{is_node}
 use Rattle.ct_law_change.proofs.Parts.{nobody_has}
@@ -140,8 +140,6 @@ bare_holds s joined number wish drawn = record {
   senders = λ f h. elim h [ ];
 }
 
-pub proved_bare : BeginsAsOneRegister
-proved_bare s joined number wish events real drawn = leads s (bare joined number wish) (newborn []) (bare_ghost s.lmaster) events real (bare_holds s joined number wish drawn)
-
-pub proved : OpensAsOneRegister
-proved s events real = proved_bare s (λ _. true) (λ _. 1) (λ _. None) events real (record { some = λ n. omega arith; above = λ n w e. absurd (cc) })
+-- what every schedule from the opening leads to
+pub opening_leads : (s : Scene) (events : List Event) → list_all is_node s.members ≡ true → LeadsTo s opening (newborn []) events
+opening_leads s events real = leads s opening (newborn []) (bare_ghost s.lmaster) events real (bare_holds s (λ _. true) (λ _. 1) (λ _. None) (record { some = λ n. omega arith; above = λ n w e. absurd (cc) }))

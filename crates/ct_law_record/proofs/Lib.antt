@@ -6,3 +6,5 @@ pub mod MarkLists
 pub mod MarkedRun
 pub mod MarkedLaw
 pub mod Runs
+pub mod Logged
+pub mod LoggedRun

@@ -105,3 +105,13 @@ marks_go false a c le h = marks_grow a c le h
 
 pub marks_from : (low : ℕ) (a : Span) → low ≤ a.base → AreFrom low (marks_in a).marks
 marks_from low a le = dense_from a.mark low a.base (a.top - a.base) le
+
+-- marks may stay as they are
+go_on_same : (low : ℕ) (ms : List Mark) → GoOn low ms ms
+unfolding GoOn AreFrom
+go_on_same low [] = tt
+go_on_same low (m ∷ []) = (refl, omega arith, tt)
+go_on_same low (m ∷ k ∷ ms) = (refl, go_on_same low (k ∷ ms))
+
+pub marks_stay : (m : Marks) → MarksStep false m m
+marks_stay m = (go_on_same m.low m.marks, omega arith)

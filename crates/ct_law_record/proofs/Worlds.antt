@@ -49,7 +49,7 @@ pub record WorldInv (s : Scene) (w : World) (r : Register) (g : Ghost) : Type 0 
   pub outside : (n : ℕ) → is_among n s.members ≡ false → (w.nodes n).state.copy ≡ None
   pub senders : (f : Frame) → Sent f (frames_of w.mail) → is_among f.from s.members ≡ true
 
-accepts_append : (rules : Rules) (r s t : Register) (ls ks : List Label) → AcceptsAll rules r ls s → AcceptsAll rules s ks t → AcceptsAll rules r (ls ++ ks) t
+pub accepts_append : (rules : Rules) (r s t : Register) (ls ks : List Label) → AcceptsAll rules r ls s → AcceptsAll rules s ks t → AcceptsAll rules r (ls ++ ks) t
 accepts_append rules r s t [] ks h k = subst (λ x. AcceptsAll rules x ks t) h k
 accepts_append rules r s t (l ∷ ls) ks h k = (h.0, h.1, accepts_append rules h.0 s t ls ks h.2 k)
 

@@ -32,7 +32,7 @@ use Rattle.ct_law_world.specs.World.{view_of}
 use Rattle.ct_law_shown.specs.Shown.{Era, scene, view, is_it, mails, told_by_all, heard, AllAsked, labels_of, Finds}
 use Rattle.ct_law_shown.proofs.Weave.{it_is, true_or_false}
 use Rattle.ct_law_shown.proofs.Speaking.{Told}
-use Rattle.ct_law_shown.proofs.Wishing.{Wishful}
+use Rattle.ct_law_wish.proofs.Wishing.{Wishful}
 use Rattle.ct_law_node.proofs.Pending.{Callers, Known, KnownAt}
 use Rattle.ct_law_node.proofs.Forming.{Is_formed, Is_sound_mail, formed_blank}
 use Rattle.ct_law_node.proofs.Plain.{AllPlain, plain_more, plain_sends}

@@ -32,7 +32,7 @@ use Rattle.ct_law_shown.specs.Shown.{Era, scene, view, mails, told_by, told_by_a
 use Rattle.ct_law_shown.proofs.Speaking.{Told, want_told}
 use Rattle.ct_law_node.proofs.Plain.{AllPlain}
 use Rattle.ct_law_shown.proofs.Hearing.{frames_more, labels_more, told_by_more}
-use Rattle.ct_law_shown.proofs.Wishing.{Wishful, want_wish}
+use Rattle.ct_law_wish.proofs.Wishing.{Wishful, want_wish}
 use Rattle.ct_law_node.proofs.Pending.{Callers, Known, KnownAt}
 use Rattle.ct_law_node.proofs.Forming.{Is_formed, Is_sound_mail, formed_moves, formed_blank, sound_moves}
 use Rattle.ct_law_shown.proofs.Amid.{here, self, put_world, place_is, Fair}

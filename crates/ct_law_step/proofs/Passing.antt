@@ -45,7 +45,7 @@ use Rattle.ct_law_node.proofs.Delivering.{begun}
 use Rattle.ct_rules_node.specs.Laws.{AllAscend}
 use Rattle.ct_rules_node.specs.Takeovers.{begin_takeover}
 use Rattle.ct_law_world.specs.World.{View}
-use Rattle.ct_law_shown.proofs.Wishing.{Wishful}
+use Rattle.ct_law_wish.proofs.Wishing.{Wishful}
 use Rattle.ct_law_node.proofs.Forming.{Is_formed}
 
 -- ---- a step beside the records

@@ -20,6 +20,7 @@ use Rattle.ct_register.specs.Marks.{Mark, Marks, AreFrom, GoOn, MarksStep}
 use Rattle.ct_promise.specs.Generation.{record_labels}
 use Rattle.ct_promise.specs.Marked.{is_removed}
 use Rattle.ct_law_world.specs.World.{Mail}
+use Rattle.ct_law_record.proofs.MarkLists.{marks_stay}
 use Rattle.ct_law_record.proofs.MarkedRun.{marks_of}
 use Rattle.ct_law_shown.specs.Shown.{mail_of, mails}
 use Rattle.ct_law_shown.proofs.Weave.{true_or_false}
@@ -62,16 +63,6 @@ pub same_mails : (g db : ℕ) (key : List ℕ) (ss ts : List Sent) → frames ts
 same_mails g db key ss ts e = by_frames g db key ts ∙ ap (mails_in g db key) e ∙ sym (by_frames g db key ss)
 
 -- ---- marks
-
--- marks may stay as they are
-go_on_same : (low : ℕ) (ms : List Mark) → GoOn low ms ms
-unfolding GoOn AreFrom
-go_on_same low [] = tt
-go_on_same low (m ∷ []) = (refl, omega arith, tt)
-go_on_same low (m ∷ k ∷ ms) = (refl, go_on_same low (k ∷ ms))
-
-pub marks_stay : (m : Marks) → MarksStep false m m
-marks_stay m = (go_on_same m.low m.marks, omega arith)
 
 -- ---- the cluster
 

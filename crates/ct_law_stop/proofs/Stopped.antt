@@ -40,7 +40,7 @@ use Rattle.ct_law_world.specs.World.{View, World, unlocked}
 use Rattle.ct_law_fact.proofs.Invariant.{Ghost}
 use Rattle.ct_law_record.proofs.MarkedRun.{marks_of}
 use Rattle.ct_law_shown.specs.Shown.{mails}
-use Rattle.ct_law_shown.proofs.Wishing.{Wishful}
+use Rattle.ct_law_wish.proofs.Wishing.{Wishful}
 use Rattle.ct_law_node.proofs.Pending.{CommitFits, DatabaseKnown, none_known}
 use Rattle.ct_law_node.proofs.Putting.{own_node, other_node}
 use Rattle.ct_law_node.proofs.Staying.{Of_records}
@@ -51,7 +51,8 @@ use Rattle.ct_law_line.proofs.Framing.{mail_later}
 use Rattle.ct_law_line.proofs.Apart.{none_fresh, each_then, empty_formed, state_none, replies_away, node_away}
 use Rattle.ct_law_line.proofs.Stopping.{with_left, ages_left, each, leaves_live, idle_leaves}
 use Rattle.ct_law_line.proofs.Faces.{After}
-use Rattle.ct_law_stop.proofs.Quiet.{marks_stay, after_taken}
+use Rattle.ct_law_record.proofs.MarkLists.{marks_stay}
+use Rattle.ct_law_stop.proofs.Quiet.{after_taken}
 
 -- ---- small words
 

@@ -27,7 +27,7 @@ use Rattle.ct_law_line.proofs.Later.{Later, Away}
 use Rattle.ct_law_line.proofs.Apart.{none_fresh, node_away}
 use Rattle.ct_law_line.proofs.Begetting.{same_lives}
 use Rattle.ct_law_line.proofs.Faces.{Turned}
-use Rattle.ct_law_stop.proofs.Quiet.{marks_stay}
+use Rattle.ct_law_record.proofs.MarkLists.{marks_stay}
 use Rattle.ct_law_stop.proofs.Turning.{all_append, sent_more}
 
 -- ---- what is told

@@ -1,3 +1,4 @@
 pub mod Labels
 pub mod World
+pub mod Calls
 pub mod Marked

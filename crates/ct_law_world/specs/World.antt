@@ -1,10 +1,9 @@
--- All nodes of one record in one generation, and every message about it that was ever sent.
+-- All nodes of one record in one generation, and every message about it that was ever sent. What a schedule tells is said here
+-- by the call that waits at a node; `Calls` says it by the log of open calls, and ct_law_record shows that both are the same.
 use Rattle.std.specs.Prelude.{◌≡◌, ◌↔◌, ℕ, ◌≤◌, ◌<◌, nat_eq, Bool, true, not, ◌&&◌, ◌||◌, if◌then◌else◌, Option, Some, None, is_none, is_some, List, [], ◌∷◌, ◌++◌, slice_get, take, length}
-use Rattle.std.specs.List.{list_all}
 use Rattle.ct_bytes.specs.Words.{others}
 use Rattle.ct_msg.specs.declared.client.ClientOp.{ClientOp}
 use Rattle.ct_msg.specs.declared.client.ClientOp.TheVariants as op
-use Rattle.ct_frame.specs.Fields.{is_node}
 use Rattle.ct_frame.specs.declared.frame.Msg.{Msg}
 use Rattle.ct_frame.specs.declared.header.RecCopy.{RecCopy}
 use Rattle.ct_call.specs.Rules.{Rules}
@@ -23,7 +22,7 @@ use Rattle.ct_rules.specs.declared.state.Wish.{Wish}
 use Rattle.ct_frame.specs.declared.frame.TableRow.{TableRow}
 use Rattle.ct_rules_node.specs.Rounds.{want_again, installed_state}
 use Rattle.ct_rules_node.specs.Node.{is_among}
-use Rattle.ct_register.specs.Register.{Register, reading, newborn}
+use Rattle.ct_register.specs.Register.{Register, reading}
 use Rattle.ct_law_world.specs.Labels.{Label, Told, Unasked, Vacuumed, Ended, Left, Joined, AcceptsAll}
 
 -- a record in a generation: its database and key, its location master, whether its database hands out copies for reading,
@@ -264,21 +263,3 @@ born s row joined number wish = record { nodes = λ n. record { state = born_sta
 -- no node has seen more than what a member begins with
 abbrev pub SeesAtMost : Scene → (ℕ → ℕ) → ℕ → Type 0
 SeesAtMost s seen count = (n : ℕ) → seen n ≤ (if is_among n s.members then count else 0)
-
--- every schedule from the opening is one register's
-abbrev pub OpensAsOneRegister : Type 0
-OpensAsOneRegister = (s : Scene) (events : List Event) → list_all is_node s.members ≡ true → LeadsTo s opening (newborn []) events
-
--- so is every schedule of a generation in which the record has no row, with any calls that wait, and whoever has joined it
-abbrev pub BeginsAsOneRegister : Type 0
-BeginsAsOneRegister = (s : Scene) (joined : ℕ → Bool) (number : ℕ → ℕ) (wish : ℕ → Option Wish) (events : List Event) → list_all is_node s.members ≡ true → AreDrawn number wish →
-    LeadsTo s (bare joined number wish) (newborn []) events
-
--- and every schedule of a generation that begins with a row, whose data master is a member as the location master is, with
--- any calls that wait; the register begins with any versions whose reading is the row's value, and with what its nodes have
--- seen of them
-abbrev pub IsBornAsOneRegister : Type 0
-IsBornAsOneRegister = (s : Scene) (row : TableRow) (master : ℕ) (versions : List (List ℕ)) (seen : ℕ → ℕ) (joined : ℕ → Bool) (number : ℕ → ℕ) (wish : ℕ → Option Wish) (events : List Event) →
-    list_all is_node s.members ≡ true → is_among s.lmaster s.members ≡ true → row.master ≡ Some master → is_among master s.members ≡ true → row.value ≡ reading versions →
-    SeesAtMost s seen (length versions) → AreDrawn number wish →
-    LeadsTo s (born s row joined number wish) (record (newborn versions) { seen = seen }) events

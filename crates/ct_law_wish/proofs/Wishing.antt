@@ -13,7 +13,9 @@ use Rattle.ct_rules.specs.declared.state.RecallNote.{RecallNote}
 use Rattle.ct_rules.specs.declared.state.Entry.{Entry}
 use Rattle.ct_rules.specs.declared.state.Waiter.{Waiter}
 use Rattle.ct_rules.specs.declared.state.Wish.{Wish}
-use Rattle.ct_rules.specs.Moves.{store, release, unlock, begin_vacuum, vacuum_at_home, vacuum, at_home, from_home, arrive}
+use Rattle.ct_rules.specs.Moves.{store, release, unlock, begin_vacuum, vacuum_at_home, vacuum, at_home, from_home, arrive, call_again_of, call_again, revoke_again_of, revoke_again}
+use Rattle.ct_deleg.specs.Tracked.{Revocation}
+use Rattle.ct_rules_node.specs.Rounds.{want_again_of, want_again}
 
 -- the call that waits, if there is one, keeps this
 unfoldable pub Wishful : (ℕ → ClientOp → Type 0) → Option Wish → Type 0
@@ -246,3 +248,32 @@ arrive_wish P at rules n (msg.VStored db key rsn) o h = home_wish P at o _ h (on
 arrive_wish P at rules n (msg.VDelete db key rsn) o h = from_wish P at n o _ h (on_vdelete_wish P at n rsn o h)
 arrive_wish P at rules n (msg.VDeleted db key rsn) o h = home_wish P at o _ h (on_vdeleted_wish P n rsn o h)
 arrive_wish P at rules n _ o h = h
+
+-- ---- what asks again
+
+again_wish : (P : ℕ → ClientOp → Type 0) (rules : Rules) (at : Place) (o : Moving) (w : Option Wish) → o.state.wish ≡ w → Wishful P w → Wishful P o.state.wish → Wishful P (want_again_of at rules o w).state.wish
+unfolding want_again_of keeps Wishful
+again_wish P rules at o None is h k = k
+again_wish P rules at o (Some w) is h k = want_wish P at rules w.call w.op (record o { state = record o.state { wish = None } }) h tt
+
+pub want_again_wish : (P : ℕ → ClientOp → Type 0) (rules : Rules) (at : Place) (o : Moving) → Wishful P o.state.wish → Wishful P (want_again rules at o).state.wish
+unfolding want_again
+want_again_wish P rules at o h = again_wish P rules at o o.state.wish refl h h
+
+again_called_wish : (P : ℕ → ClientOp → Type 0) (at : Place) (o : Moving) (w : Option Wish) → Wishful P o.state.wish → Wishful P (call_again_of at o w).state.wish
+unfolding call_again_of send acts
+again_called_wish P at o None h = h
+again_called_wish P at o (Some w) h = grind (arith, h)
+
+pub call_again_wish : (P : ℕ → ClientOp → Type 0) (at : Place) (o : Moving) → Wishful P o.state.wish → Wishful P (call_again at o).state.wish
+unfolding call_again
+call_again_wish P at o h = again_called_wish P at o o.state.wish h
+
+again_revoked_wish : (P : ℕ → ClientOp → Type 0) (at : Place) (o : Moving) (r : Option Revocation) → Wishful P o.state.wish → Wishful P (revoke_again_of at o r).state.wish
+unfolding revoke_again_of
+again_revoked_wish P at o None h = h
+again_revoked_wish P at o (Some r) h = rw (send_all_same r.missing (msg.Revoke at.db at.key r.rsn) o) h
+
+pub revoke_again_wish : (P : ℕ → ClientOp → Type 0) (at : Place) (o : Moving) → Wishful P o.state.wish → Wishful P (revoke_again at o).state.wish
+unfolding revoke_again
+revoke_again_wish P at o h = again_revoked_wish P at o o.state.tracking.revoking h

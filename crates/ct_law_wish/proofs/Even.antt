@@ -47,6 +47,20 @@ unfoldable pub Even : List ℕ → List Act → Option Wish → Type 0
 Even xs as' None = answers_in as' ≡ xs
 Even xs as' (Some w) = (answers_in as' ++ w.call ∷ [] ≡ xs) × (is_wanting w.op ≡ true)
 
+-- the number of the call that waits, if there is one
+unfoldable pub number_of : Option Wish → List ℕ
+number_of None = []
+number_of (Some w) = w.call ∷ []
+
+nil_more : (xs : List ℕ) → xs ++ [] ≡ xs
+nil_more [] = refl
+nil_more (x ∷ xs) = ap (λ (l : List ℕ). x ∷ l) (nil_more xs)
+
+pub even_is : (xs : List ℕ) (as' : List Act) (w : Option Wish) → Even xs as' w → answers_in as' ++ number_of w ≡ xs
+unfolding Even number_of
+even_is xs as' None h = nil_more (answers_in as') ∙ h
+even_is xs as' (Some w) h = h.0
+
 sent_more : (as' : List Act) (n : ℕ) (m : Msg) → answers_in (as' ++ act.Send n m ∷ []) ≡ answers_in as'
 unfolding answers_in
 sent_more [] n m = refl

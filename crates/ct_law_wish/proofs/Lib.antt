@@ -1,0 +1,3 @@
+pub mod Wishing
+pub mod Even
+pub mod Calls
