@@ -1,9 +1,9 @@
 -- Two schedules, computed: the definitions are not empty words. Node 0 is the location master, node 1 the other member.
 use Rattle.std.proofs.Common.{◌≡◌, ℕ, Bool, true, false, List, [], ◌∷◌, refl}
+use Rattle.ct_msg.specs.Client.{is_read, wants_record}
 use Rattle.ct_msg.specs.declared.client.Answer.TheVariants as answer
 use Rattle.ct_msg.specs.declared.client.ClientOp.{ClientOp}
 use Rattle.ct_msg.specs.declared.client.ClientOp.TheVariants as op
-use Rattle.ct_rules.specs.Form.{is_wanting}
 use Rattle.ct_rules.specs.State
 use Rattle.ct_rules.specs.Parts
 use Rattle.ct_rules.specs.Frames
@@ -33,7 +33,7 @@ moves_and_goes = Wants 0 1 (write 5) ∷ Wants 1 2 lock ∷ Comes 0 ∷ Comes 1 
 
 one_moves : trace (scene false) opening moves_and_goes ≡
     Told 0 (write 5) answer.Written ∷ Told 1 lock (answer.Locked (5 ∷ [])) ∷ Told 1 (op.Store 1 (97 ∷ []) []) answer.Stored ∷ Told 1 (op.Unlock 1 (97 ∷ [])) answer.Unlocked ∷ Vacuumed 0 ∷ Told 0 read (answer.Read []) ∷ []
-unfolding State.rank State.rsn_of State.value_of State.is_mastered State.is_given State.is_for_reading State.with_value State.with_flags State.risen State.raised State.given State.is_quiet State.is_free State.is_read_op State.is_read_kind State.same_kind State.kind_of State.is_wished Parts.acts Parts.send Parts.send_all Parts.reply Parts.keeps Parts.makes Parts.open_of Parts.opened Parts.end_vacuum Parts.applies Parts.satisfy Parts.revoke Parts.give Parts.read_here Parts.delegate Parts.grant Parts.yield_record Parts.drain Parts.drained Parts.satisfy_own Parts.raise Parts.end_revocation Parts.next_of Parts.next Parts.keep Parts.call_for Parts.wait_for_copies Parts.want_of Parts.opened_at_home Parts.want Frames.is_misplaced Frames.pass_again Frames.is_request Frames.enqueue Frames.on_call_of Frames.called Frames.on_call Frames.same_recall Frames.wait Frames.handle Frames.recalled Frames.on_recall Frames.hand_on Frames.on_give_of Frames.on_give Frames.satisfy_wish Frames.becomes Frames.take Frames.refuse Frames.on_pass Frames.on_refuse_of Frames.on_refuse Frames.reads Frames.on_grant Frames.on_done_of Frames.on_done Frames.called_in Frames.acknowledge Frames.on_revoke_of Frames.on_revoke Frames.acknowledged Frames.on_revokeack Frames.stored_copy Frames.deleted_copy Frames.on_vstore Frames.on_vdelete Frames.greater Frames.finish Frames.on_vstored_of Frames.on_vstored Frames.on_vdeleted_of Frames.on_vdeleted Moves.store Moves.release Moves.unlock Moves.is_vacuumed Moves.phase_message Moves.begin_vacuum Moves.vacuum_at_home Moves.vacuum Moves.call_again_of Moves.call_again Moves.revoke_again_of Moves.revoke_again Moves.at_home Moves.from_home Moves.arrive World.may_want World.own_call World.waiting_call World.answers World.call_of World.told World.sends World.sent is_wanting is_among
+unfolding State.rank State.rsn_of State.value_of State.is_mastered State.is_given State.is_for_reading State.with_value State.with_flags State.risen State.raised State.given State.is_quiet State.is_free is_read State.is_read_kind State.same_kind State.kind_of State.is_wished Parts.acts Parts.send Parts.send_all Parts.reply Parts.keeps Parts.makes Parts.open_of Parts.opened Parts.end_vacuum Parts.applies Parts.satisfy Parts.revoke Parts.give Parts.read_here Parts.delegate Parts.grant Parts.yield_record Parts.drain Parts.drained Parts.satisfy_own Parts.raise Parts.end_revocation Parts.next_of Parts.next Parts.keep Parts.call_for Parts.wait_for_copies Parts.want_of Parts.opened_at_home Parts.want Frames.is_misplaced Frames.pass_again Frames.is_request Frames.enqueue Frames.on_call_of Frames.called Frames.on_call Frames.same_recall Frames.wait Frames.handle Frames.recalled Frames.on_recall Frames.hand_on Frames.on_give_of Frames.on_give Frames.satisfy_wish Frames.becomes Frames.take Frames.refuse Frames.on_pass Frames.on_refuse_of Frames.on_refuse Frames.reads Frames.on_grant Frames.on_done_of Frames.on_done Frames.called_in Frames.acknowledge Frames.on_revoke_of Frames.on_revoke Frames.acknowledged Frames.on_revokeack Frames.stored_copy Frames.deleted_copy Frames.on_vstore Frames.on_vdelete Frames.greater Frames.finish Frames.on_vstored_of Frames.on_vstored Frames.on_vdeleted_of Frames.on_vdeleted Moves.store Moves.release Moves.unlock Moves.is_vacuumed Moves.phase_message Moves.begin_vacuum Moves.vacuum_at_home Moves.vacuum Moves.call_again_of Moves.call_again Moves.revoke_again_of Moves.revoke_again Moves.at_home Moves.from_home Moves.arrive World.may_want World.own_call World.waiting_call World.answers World.call_of World.told World.sends World.sent wants_record is_among
 one_moves = refl
 
 -- node 0 writes; node 1 reads, and has a copy for reading; node 0 writes again, which waits for the copy; node 1 reads again
@@ -42,5 +42,5 @@ reads_and_waits = Wants 0 1 (write 5) ∷ Wants 1 2 read ∷ Comes 0 ∷ Comes 1
 
 one_reads : trace (scene true) opening reads_and_waits ≡
     Told 0 (write 5) answer.Written ∷ Told 1 read (answer.Read (5 ∷ [])) ∷ Told 1 read (answer.Read (5 ∷ [])) ∷ Told 0 (write 6) answer.Written ∷ Told 1 read (answer.Read (6 ∷ [])) ∷ []
-unfolding State.rank State.rsn_of State.value_of State.is_mastered State.is_given State.is_for_reading State.with_value State.with_flags State.risen State.raised State.given State.is_quiet State.is_free State.is_read_op State.is_read_kind State.same_kind State.kind_of State.is_wished Parts.acts Parts.send Parts.send_all Parts.reply Parts.keeps Parts.makes Parts.open_of Parts.opened Parts.end_vacuum Parts.applies Parts.satisfy Parts.revoke Parts.give Parts.read_here Parts.delegate Parts.grant Parts.yield_record Parts.drain Parts.drained Parts.satisfy_own Parts.raise Parts.end_revocation Parts.next_of Parts.next Parts.keep Parts.call_for Parts.wait_for_copies Parts.want_of Parts.opened_at_home Parts.want Frames.is_misplaced Frames.pass_again Frames.is_request Frames.enqueue Frames.on_call_of Frames.called Frames.on_call Frames.same_recall Frames.wait Frames.handle Frames.recalled Frames.on_recall Frames.hand_on Frames.on_give_of Frames.on_give Frames.satisfy_wish Frames.becomes Frames.take Frames.refuse Frames.on_pass Frames.on_refuse_of Frames.on_refuse Frames.reads Frames.on_grant Frames.on_done_of Frames.on_done Frames.called_in Frames.acknowledge Frames.on_revoke_of Frames.on_revoke Frames.acknowledged Frames.on_revokeack Frames.stored_copy Frames.deleted_copy Frames.on_vstore Frames.on_vdelete Frames.greater Frames.finish Frames.on_vstored_of Frames.on_vstored Frames.on_vdeleted_of Frames.on_vdeleted Moves.store Moves.release Moves.unlock Moves.is_vacuumed Moves.phase_message Moves.begin_vacuum Moves.vacuum_at_home Moves.vacuum Moves.call_again_of Moves.call_again Moves.revoke_again_of Moves.revoke_again Moves.at_home Moves.from_home Moves.arrive World.may_want World.own_call World.waiting_call World.answers World.call_of World.told World.sends World.sent is_wanting is_among
+unfolding State.rank State.rsn_of State.value_of State.is_mastered State.is_given State.is_for_reading State.with_value State.with_flags State.risen State.raised State.given State.is_quiet State.is_free is_read State.is_read_kind State.same_kind State.kind_of State.is_wished Parts.acts Parts.send Parts.send_all Parts.reply Parts.keeps Parts.makes Parts.open_of Parts.opened Parts.end_vacuum Parts.applies Parts.satisfy Parts.revoke Parts.give Parts.read_here Parts.delegate Parts.grant Parts.yield_record Parts.drain Parts.drained Parts.satisfy_own Parts.raise Parts.end_revocation Parts.next_of Parts.next Parts.keep Parts.call_for Parts.wait_for_copies Parts.want_of Parts.opened_at_home Parts.want Frames.is_misplaced Frames.pass_again Frames.is_request Frames.enqueue Frames.on_call_of Frames.called Frames.on_call Frames.same_recall Frames.wait Frames.handle Frames.recalled Frames.on_recall Frames.hand_on Frames.on_give_of Frames.on_give Frames.satisfy_wish Frames.becomes Frames.take Frames.refuse Frames.on_pass Frames.on_refuse_of Frames.on_refuse Frames.reads Frames.on_grant Frames.on_done_of Frames.on_done Frames.called_in Frames.acknowledge Frames.on_revoke_of Frames.on_revoke Frames.acknowledged Frames.on_revokeack Frames.stored_copy Frames.deleted_copy Frames.on_vstore Frames.on_vdelete Frames.greater Frames.finish Frames.on_vstored_of Frames.on_vstored Frames.on_vdeleted_of Frames.on_vdeleted Moves.store Moves.release Moves.unlock Moves.is_vacuumed Moves.phase_message Moves.begin_vacuum Moves.vacuum_at_home Moves.vacuum Moves.call_again_of Moves.call_again Moves.revoke_again_of Moves.revoke_again Moves.at_home Moves.from_home Moves.arrive World.may_want World.own_call World.waiting_call World.answers World.call_of World.told World.sends World.sent wants_record is_among
 one_reads = refl
