@@ -1,11 +1,11 @@
 //! The key of a record.
 ghost use Rattle.std.specs.Prelude.{◌≡◌, ◌≤◌, ◌<◌, ◌⊎◌, ℕ, length, IfOk, OnOk, IsErrOf, Some, nat_eq, SomeIff};
-ghost use Rattle.std.specs.Cmp.Lexicographic.{slice_cmp, pointwise, texts_po, texts_ties, nat_list_cmp_total, nat_list_eq_equiv};
+ghost use Rattle.std.specs.Cmp.Lexicographic.{pointwise, texts_po, texts_ties, nat_list_cmp_total, nat_list_eq_equiv};
 ghost use Rattle.std.specs.Cmp.{partial_equiv_from_equiv};
 ghost use Rattle.std.specs.Cmp.Rules.{hashing};
-ghost use Rattle.std.specs.Ordering.{nat_cmp};
 ghost use Rattle.std.specs.Hash as fed;
 ghost use Rattle.std.proofs.Common.{refl, rules};
+ghost use Rattle.ct_bytes.specs.Key.{key_cmp};
 
 use crate::copies::Duplicate;
 use crate::memory::{BytesFault, NoMemory};
@@ -45,7 +45,7 @@ impl Eq for Key {
 }
 
 impl PartialOrd for Key {
-    ghost partial_cmp = { λ x y. Some (slice_cmp nat_cmp x y) };
+    ghost partial_cmp = { λ x y. Some (key_cmp x y) };
 
     ghost laws = { texts_po };
 
@@ -55,7 +55,7 @@ impl PartialOrd for Key {
 }
 
 impl Ord for Key {
-    ghost cmp = { slice_cmp nat_cmp };
+    ghost cmp = { key_cmp };
 
     ghost total = { nat_list_cmp_total };
 

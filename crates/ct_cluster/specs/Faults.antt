@@ -1,5 +1,6 @@
 -- Why a step is refused, apart from a number that would reach its limit.
 use Rattle.std.specs.Prelude.{ℕ, nat_eq, nat_lt, Bool, true, false, not, if◌then◌else◌, List, [], ◌∷◌, Option, None, Some, is_none}
+use Rattle.ct_bytes.specs.Words.{is_this_node}
 use Rattle.ct_msg.specs.declared.config.Config.{Config}
 use Rattle.ct_frame.specs.Fields.{ascends}
 use Rattle.ct_rules_node.specs.Coming.{is_allowed_op}
@@ -58,14 +59,9 @@ unfoldable pub lock_held : ℕ → Option ℕ → Option StepFault
 lock_held n None = None
 lock_held n (Some h) = refused_if (not (nat_eq h n)) (fault.LockHeld h)
 
--- does this node hold the recovery lock?
-unfoldable pub is_holder : ℕ → Option ℕ → Bool
-is_holder n None = false
-is_holder n (Some h) = nat_eq h n
-
 -- Refusals of a step: the node does not hold the recovery lock
 unfoldable pub not_holder : Cluster → ℕ → Option StepFault
-not_holder w n = refused_if (not (is_holder n w.holder)) (fault.NotHolder w.holder)
+not_holder w n = refused_if (not (is_this_node n w.holder)) (fault.NotHolder w.holder)
 
 -- Refusals of a step: no message of this number waits
 unfoldable pub not_waiting : Cluster → ℕ → Option StepFault

@@ -1,5 +1,6 @@
 -- What a step does to the cluster, and what it prints.
 use Rattle.std.specs.Prelude.{ℕ, zero, suc, ◌+◌, ◌^◌, nat_lt, Bool, true, false, ◌&&◌, if◌then◌else◌, List, [], ◌∷◌, ◌++◌, length, Option, None, Some, Result, Ok, Err, slice_set}
+use Rattle.ct_bytes.specs.Words.{is_this_node}
 use Rattle.ct_msg.specs.declared.config.Config.{Config}
 use Rattle.ct_call.specs.Rules.{Rules}
 use Rattle.ct_frame.specs.declared.event.Event.{Event}
@@ -10,7 +11,7 @@ use Rattle.ct_rules_node.specs.Node.{Node, restarted}
 use Rattle.ct_rules_node.specs.Turn.{Turn}
 use Rattle.ct_rules_node.specs.Steps.{stepped}
 use Rattle.ct_cluster.specs.Cluster.{Cluster, Sent, Fate, Waiting, Delivered, Dropped, is_up, node_at, sent_at, able_from, pending_at}
-use Rattle.ct_cluster.specs.Faults.{fault_of, is_holder}
+use Rattle.ct_cluster.specs.Faults.{fault_of}
 use Rattle.ct_cluster.specs.declared.step.Line.{Line}
 use Rattle.ct_cluster.specs.declared.step.Line.TheVariants as line
 use Rattle.ct_cluster.specs.declared.step.PendingCall.{PendingCall}
@@ -102,7 +103,7 @@ repeat c rules k w (Some s) =
 
 -- the recovery lock is free where this node held it
 unfoldable pub without_holder : ℕ → Option ℕ → Option ℕ
-without_holder n h = if is_holder n h then None else h
+without_holder n h = if is_this_node n h then None else h
 
 -- Lines: one for each call that ended with its node
 unfoldable pub gone : List PendingCall → List Line

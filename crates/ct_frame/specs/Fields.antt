@@ -3,7 +3,8 @@ use Rattle.std.specs.Prelude.{ℕ, ◌^◌, Bool, true, false, ◌&&◌, ◌||�
 use Rattle.std.specs.List.{list_all, list_any}
 use Rattle.std.specs.Ordering.{nat_cmp, is_lt}
 use Rattle.std.specs.Cmp.Lexicographic.{slice_cmp}
-use Rattle.ct_bytes.specs.Address.{address_cmp}
+use Rattle.ct_bytes.specs.Key.{key_before}
+use Rattle.ct_bytes.specs.Address.{address_cmp, address_before}
 use Rattle.ct_bytes.specs.declared.address.Address.{Address}
 use Rattle.ct_msg.specs.declared.client.Pair.{Pair}
 use Rattle.ct_frame.specs.declared.frame.Assigned.{Assigned}
@@ -42,14 +43,6 @@ ascends_after before x (y ∷ ys) = before x y && ascends_after before y ys
 abbrev pub ascends : {X : Type 0} → (X → X → Bool) → List X → Bool
 ascends before [] = true
 ascends before (x ∷ xs) = ascends_after before x xs
-
--- keys are in the order of their bytes
-abbrev pub key_before : List ℕ → List ℕ → Bool
-key_before a b = is_lt (slice_cmp nat_cmp a b)
-
--- every IPv4 address before every IPv6 address, and then by number
-abbrev pub address_before : Address → Address → Bool
-address_before a b = is_lt (address_cmp a b)
 
 -- rows by database, and then by key
 abbrev pub row_before : TableRow → TableRow → Bool

@@ -8,7 +8,8 @@
 //! member tells the leader of has this member as data master or none, and a row that the leader hands out one of the
 //! members.
 ghost use Rattle.std.specs.Prelude.{◌≡◌, Bool, nat_lt, nat_eq};
-ghost use Rattle.ct_frame.specs.Fields.{is_below_limit, is_from_one, is_node, is_db, is_one_to_sixteen, ascends, address_before, row_before, pair_before, ptable_before, assigned_before, are_nodes, are_addresses, is_own_or_none, is_member, is_row, are_rows, is_kept, is_ptable, are_ptables, is_assigned, are_assigned, is_message, well_formed};
+ghost use Rattle.ct_bytes.specs.Address.{address_before};
+ghost use Rattle.ct_frame.specs.Fields.{is_below_limit, is_from_one, is_node, is_db, is_one_to_sixteen, ascends, row_before, pair_before, ptable_before, assigned_before, are_nodes, are_addresses, is_own_or_none, is_member, is_row, are_rows, is_kept, is_ptable, are_ptables, is_assigned, are_assigned, is_message, well_formed};
 ghost use Rattle.std.specs.List.{list_all, list_any};
 
 use crate::frame::{Assigned, Frame, Msg, PTable, TableRow};

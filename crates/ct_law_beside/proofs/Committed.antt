@@ -5,6 +5,7 @@ use Rattle.std.specs.List.{AllByRecursion}
 use Rattle.std.proofs.lemmas.Bool.{cond_both, cases_eq, eqb-true, eq-eqb, ltb-true, ltb-false}
 use Rattle.std.proofs.lemmas.List.{length-set}
 use Rattle.ct_bytes.specs.Words.{others}
+use Rattle.ct_msg.specs.Client.{db_of}
 use Rattle.ct_msg.specs.declared.client.Answer.{Answer}
 use Rattle.ct_msg.specs.declared.client.Answer.TheVariants as answer
 use Rattle.ct_msg.specs.declared.client.ClientOp.{ClientOp}
@@ -37,7 +38,6 @@ use Rattle.ct_cluster.specs.Steps.{frames_of, put}
 use Rattle.ct_cluster.specs.Traces.{sent_label}
 use Rattle.ct_law_shown.specs.Waiting.{answered}
 use Rattle.ct_cluster.specs.declared.step.PendingCall.{PendingCall}
-use Rattle.ct_register.specs.Legal.{db_of}
 use Rattle.ct_promise.specs.Generation.{speaks_of_records, record_labels}
 use Rattle.ct_law_world.specs.World as law
 use Rattle.ct_law_world.specs.World.{View, Mail, World}
@@ -321,7 +321,7 @@ call_beside c era rules who w n asked u labels es h sched up g =
 
 -- a commit that is not refused is of a persistent database
 pub commit_kind : (c : Config) (n : Node) (db : ℕ) (writes : List Pair) → Admits c n (op.Commit db writes) → node.is_persistent (node.kind_at c db) ≡ true
-unfolding wrong_kind refused_if is_commit clients.db_of
+unfolding wrong_kind refused_if is_commit
 commit_kind c n db writes h = (let a = h.kind in grind arith)
 
 -- a commit of a persistent database that is not refused: the cluster goes on

@@ -2,10 +2,11 @@
 use Rattle.std.proofs.Common.{◌≡◌, ℕ, true, [], ◌∷◌, Option, None, Some, refl, ap, ◌∙◌}
 use Rattle.std.proofs.lemmas.Bool.{eqb-true}
 use Rattle.std.specs.Prelude.{nat_lt}
+use Rattle.ct_bytes.specs.Words.{is_this_node}
 use Rattle.ct_msg.specs.declared.config.Config.{Config}
 use Rattle.ct_call.specs.Rules.{Rules}
 use Rattle.ct_cluster.specs.Cluster.{Cluster, is_up}
-use Rattle.ct_cluster.specs.Faults.{no_such_node, node_down, is_holder, not_holder, fault_of, is_allowed}
+use Rattle.ct_cluster.specs.Faults.{no_such_node, node_down, not_holder, fault_of, is_allowed}
 use Rattle.ct_cluster.specs.Labels.{Yielded}
 use Rattle.ct_cluster.specs.Steps.{done, steps, steps_or, applied}
 use Rattle.ct_cluster.specs.Traces.{own_labels}
@@ -23,8 +24,8 @@ yielded w = record w { holder = None }
 
 -- ---- why it is not refused
 
-holds_it : (n : ℕ) (h : Option ℕ) → is_holder n h ≡ true → h ≡ Some n
-unfolding is_holder
+holds_it : (n : ℕ) (h : Option ℕ) → is_this_node n h ≡ true → h ≡ Some n
+unfolding is_this_node
 holds_it n None e = absurd (cc)
 holds_it n (Some h) e = ap (λ (k : ℕ). Some k) (eqb-true h n e)
 
@@ -39,7 +40,7 @@ unfolding fault_of no_such_node node_down not_holder
 yields c w n e = (let there = first_none _ _ e in let up = first_none _ _ there.1 in let held = first_none _ _ up.1 in record {
   there = required (nat_lt n c.nodes) _ there.0;
   up = required (is_up n w) _ up.0;
-  held = holds_it n w.holder (required (is_holder n w.holder) _ held.0);
+  held = holds_it n w.holder (required (is_this_node n w.holder) _ held.0);
 })
 
 -- ---- what it becomes

@@ -6,7 +6,7 @@ use Rattle.ct_msg.specs.declared.config.Config.{Config}
 use Rattle.ct_frame.specs.declared.frame.TableRow.{TableRow}
 use Rattle.ct_frame.specs.declared.header.RecCopy.{RecCopy}
 use Rattle.ct_call.specs.Rules.{Rules}
-use Rattle.ct_rules.specs.Form.{HasCounters, IsInForm, least_of, sent_for, wished_as, wants_record, revoked_rsn, vacuumed_rsn}
+use Rattle.ct_rules.specs.Form.{HasCounters, IsInForm, least_of, sent_for, wished_as, wishes_record, revoked_rsn, vacuumed_rsn}
 use Rattle.ct_rules.specs.State.{nothing_kept, rsn_of, is_quiet}
 use Rattle.ct_rules.specs.declared.event.Place.{Place}
 use Rattle.ct_rules.specs.declared.state.Entry.{Entry}
@@ -23,8 +23,8 @@ use Rattle.ct_law_birth.proofs.BornWorlds.{numbers_in, wishes_in, by_test, seen_
 
 -- ---- a state that an installation made
 
-wish_wanting : (db : ℕ) (key : List ℕ) (next : ℕ) (o : Option Wish) → WishIsSound db key next o → wants_record o ≡ true
-unfolding WishIsSound wants_record
+wish_wanting : (db : ℕ) (key : List ℕ) (next : ℕ) (o : Option Wish) → WishIsSound db key next o → wishes_record o ≡ true
+unfolding WishIsSound wishes_record
 wish_wanting db key next None h = refl
 wish_wanting db key next (Some x) h = h.wanting
 
@@ -37,7 +37,7 @@ wish_low db key next (Some x) h low = (let l = h.drawn in omega arith)
 abbrev kept_with : Option RecCopy → Option Entry → Option Wish → RecState
 kept_with copy entry wish = record nothing_kept { copy = copy; entry = entry; wish = wish }
 
-with_form : (at : Place) (next : ℕ) (copy : Option RecCopy) (entry : Option Entry) (wish : Option Wish) → sent_for entry ≡ 0 → wants_record wish ≡ true → rsn_of copy < 2 ^ 62 → least_of entry < 2 ^ 62 → wished_as wish < 2 ^ 62 → HasCounters next at.floor →
+with_form : (at : Place) (next : ℕ) (copy : Option RecCopy) (entry : Option Entry) (wish : Option Wish) → sent_for entry ≡ 0 → wishes_record wish ≡ true → rsn_of copy < 2 ^ 62 → least_of entry < 2 ^ 62 → wished_as wish < 2 ^ 62 → HasCounters next at.floor →
     IsInForm at next (kept_with copy entry wish)
 unfolding is_quiet revoked_rsn vacuumed_rsn
 with_form at next copy entry wish unsent wants rsn least low counters = record {
@@ -69,7 +69,7 @@ with_form at next copy entry wish unsent wants rsn least low counters = record {
   counters = counters;
 }
 
-with_formed : (s : Scene) (n next : ℕ) (copy : Option RecCopy) (entry : Option Entry) (wish : Option Wish) → 1 ≤ next → next < 2 ^ 62 → sent_for entry ≡ 0 → wants_record wish ≡ true → rsn_of copy < 2 ^ 62 → least_of entry < 2 ^ 62 → wished_as wish < 2 ^ 62 →
+with_formed : (s : Scene) (n next : ℕ) (copy : Option RecCopy) (entry : Option Entry) (wish : Option Wish) → 1 ≤ next → next < 2 ^ 62 → sent_for entry ≡ 0 → wishes_record wish ≡ true → rsn_of copy < 2 ^ 62 → least_of entry < 2 ^ 62 → wished_as wish < 2 ^ 62 →
     Is_formed s n (record { state = kept_with copy entry wish; next = next; floor = 0 })
 with_formed s n next copy entry wish some few unsent wants rsn least low = record {
   form = with_form (place s n (record { state = kept_with copy entry wish; next = next; floor = 0 })) next copy entry wish unsent wants rsn least low (record { from_one = some; next_limit = few; floor_limit = omega arith });
@@ -89,13 +89,13 @@ none_low : 0 < 2 ^ 62
 none_low = omega arith
 
 -- no copy and no entry, and perhaps a call
-bare_formed : (s : Scene) (n next : ℕ) (wish : Option Wish) → 1 ≤ next → next < 2 ^ 62 → wants_record wish ≡ true → wished_as wish < 2 ^ 62 → Is_formed s n (record { state = kept_with None None wish; next = next; floor = 0 })
+bare_formed : (s : Scene) (n next : ℕ) (wish : Option Wish) → 1 ≤ next → next < 2 ^ 62 → wishes_record wish ≡ true → wished_as wish < 2 ^ 62 → Is_formed s n (record { state = kept_with None None wish; next = next; floor = 0 })
 unfolding sent_for rsn_of least_of
 bare_formed s n next wish some few wants low = with_formed s n next None None wish some few refl wants none_low none_low low
 
 -- nothing
 empty_formed : (s : Scene) (n next : ℕ) → 1 ≤ next → next < 2 ^ 62 → Is_formed s n (record { state = nothing_kept; next = next; floor = 0 })
-unfolding wants_record wished_as
+unfolding wishes_record wished_as
 empty_formed s n next some few = bare_formed s n next None some few refl none_low
 
 -- what an installation makes of a row, or of none, where a call may wait

@@ -2,6 +2,7 @@
 use Rattle.std.proofs.Common.{◌≡◌, ℕ, ◌+◌, ◌≤◌, Bool, true, false, cond, List, [], ◌∷◌, Option, Some, None, refl, ap, ◌∙◌, arith}
 use Rattle.std.specs.Prelude.{nat_eq, is_none}
 use Rattle.std.proofs.lemmas.Bool.{ne_eqb, eq-eqb}
+use Rattle.ct_msg.specs.Client.{db_of, is_read, key_of}
 use Rattle.ct_msg.specs.declared.client.ClientOp.{ClientOp}
 use Rattle.ct_msg.specs.declared.client.ClientOp.TheVariants as op
 use Rattle.ct_msg.specs.declared.client.Why.TheVariants as why
@@ -15,7 +16,7 @@ use Rattle.ct_rules.specs.declared.state.Wish.{Wish}
 use Rattle.ct_rules_node.specs.Node.{Node, Database, Committing, is_persistent, has_records, kind_at}
 use Rattle.ct_rules_node.specs.Refusals.{refused_if}
 use Rattle.ct_rules_node.specs.Clients as clients
-use Rattle.ct_rules_node.specs.Clients.{refusal, no_such_db, wrong_kind, is_commit, is_read}
+use Rattle.ct_rules_node.specs.Clients.{refusal, no_such_db, wrong_kind, is_commit}
 use Rattle.ct_rules_node.proofs.Refusals.{first_none, not_refused}
 use Rattle.ct_law_wish.proofs.Wishing.{Wishful}
 use Rattle.ct_law_node.proofs.Pending.{Callers, Known}
@@ -69,18 +70,18 @@ has_kind (Some ReadOnly) e f = refl
 has_kind (Some Persistent) e f = absurd (cc)
 
 -- the database of a call that is not refused has records, where it is not persistent
-there : (c : Config) (rules : Rules) (n : Node) (o : ClientOp) → refusal c rules n o ≡ None → is_persistent (kind_at c (clients.db_of o)) ≡ false → has_records (kind_at c (clients.db_of o)) ≡ true
+there : (c : Config) (rules : Rules) (n : Node) (o : ClientOp) → refusal c rules n o ≡ None → is_persistent (kind_at c (db_of o)) ≡ false → has_records (kind_at c (db_of o)) ≡ true
 unfolding refusal no_such_db
-there c rules n o e f = has_kind (kind_at c (clients.db_of o)) (not_refused (is_none (kind_at c (clients.db_of o))) why.NoSuchDb (first_none _ _ e).0) f
+there c rules n o e f = has_kind (kind_at c (db_of o)) (not_refused (is_none (kind_at c (db_of o))) why.NoSuchDb (first_none _ _ e).0) f
 
 -- only a commit or a read that is not refused is of a persistent database
-kind_of_call : (c : Config) (rules : Rules) (n : Node) (o : ClientOp) → refusal c rules n o ≡ None → is_commit o ≡ false → is_read o ≡ false → is_persistent (kind_at c (clients.db_of o)) ≡ false
+kind_of_call : (c : Config) (rules : Rules) (n : Node) (o : ClientOp) → refusal c rules n o ≡ None → is_commit o ≡ false → is_read o ≡ false → is_persistent (kind_at c (db_of o)) ≡ false
 unfolding refusal wrong_kind refused_if
 kind_of_call c rules n o e f g = (let a = (first_none _ _ (first_none _ _ e).1).0 in grind arith)
 
 -- the next call, of node n, is known
 pub new_known : (c : Config) (rules : Rules) (who : Callers) (calls n : ℕ) (asked : ClientOp) (node : Node) → IsNew (Waits c (called (calls + 1) (n, asked) who) (calls + 1) n) (Commits (called (calls + 1) (n, asked) who) (calls + 1) n) c rules node (calls + 1) asked
-unfolding IsNew Waits Known Commits clients.db_of clients.key_of is_commit is_read
+unfolding IsNew Waits Known Commits is_commit is_read
 new_known c rules who calls n (op.Commit db writes) node = λ e. (own_call (calls + 1) (n, op.Commit db writes) who, omega arith)
 new_known c rules who calls n (op.Read db key) node = λ e f. ((own_call (calls + 1) (n, op.Read db key) who, omega arith, refl, refl), there c rules node (op.Read db key) e f)
 new_known c rules who calls n (op.Lock db key) node = λ e. ((own_call (calls + 1) (n, op.Lock db key) who, omega arith, refl, refl), there c rules node (op.Lock db key) e (kind_of_call c rules node (op.Lock db key) e refl refl))

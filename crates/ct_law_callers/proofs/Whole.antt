@@ -1,6 +1,7 @@
 -- Whatever comes to a node: every call that waits after it waited before, or is the call of the event.
 use Rattle.std.proofs.Common.{◌≡◌, ℕ, ◌+◌, Bool, true, false, cond, List, [], ◌∷◌, Option, Some, None, refl, sym, subst, arith}
 use Rattle.ct_bytes.specs.Words.{others}
+use Rattle.ct_msg.specs.Client.{db_of, key_of}
 use Rattle.ct_msg.specs.declared.client.ClientOp.{ClientOp}
 use Rattle.ct_msg.specs.declared.client.ClientOp.TheVariants as op
 use Rattle.ct_msg.specs.declared.client.Pair.{Pair}
@@ -25,7 +26,7 @@ use Rattle.ct_rules_node.specs.Node.{Node, Phase, Installed, Freezing, Frozen, D
 use Rattle.ct_rules_node.specs.Turn.{Turn, does, with_node, with_phase, makes, answers, notes, posts, posts_all}
 use Rattle.ct_rules_node.specs.Records.{with_state, at_record}
 use Rattle.ct_rules_node.specs.Databases.{updates, with_commit, awaits_others, commits_at, commit, acknowledges, on_pupdate, on_pack_of, on_pack, read_pair}
-use Rattle.ct_rules_node.specs.Clients.{db_of, key_of, refusal, frozen_if_unlocked, any_locked, unlocks, reads, serves, serves_or, client}
+use Rattle.ct_rules_node.specs.Clients.{refusal, frozen_if_unlocked, any_locked, unlocks, reads, serves, serves_or, client}
 use Rattle.ct_rules_node.specs.Rounds.{Called, want_again_of, want_again, want_all, thaws, pending_calls, freezes, ends_lock, ends_commit, ends_commits, on_freeze, installed_node, makes_rows, installs, on_push, on_thaw}
 use Rattle.ct_rules_node.specs.Retries.{call_all, revoke_all, revoke_in, retry_records, retry}
 use Rattle.ct_rules_node.specs.Steps.{on_record_of, if_persistent, if_sound, if_taken_over, arrives, vacuum_all, vacuums, happens}
@@ -214,7 +215,7 @@ module _ (P : ℕ → List ℕ → ℕ → ClientOp → Type 0) (Q : ℕ → ℕ
       by false e = wants_calls c rules me call db key (op.Read db key) t (own e) h
 
   serves_calls : (c : Config) (rules : Rules) (me call : ℕ) (t : Turn) (asked : ClientOp) → refusal c rules t.node asked ≡ None → IsNew c rules t.node call asked → CallsAre t.node → CallsAre (serves c rules me call t asked).node
-  unfolding serves IsNew db_of key_of
+  unfolding serves IsNew
   serves_calls c rules me call t (op.Read db key) e own h = reads_calls c rules me call db key t (own e) h
   serves_calls c rules me call t (op.Store db key v) e own h = at_record_calls P Q c me db key _ t (λ at o k. store_wish (P db key) call v o k) h
   serves_calls c rules me call t (op.Unlock db key) e own h = unlocks_calls c me call db key t t.node.phase h

@@ -2,17 +2,17 @@
 use Rattle.std.proofs.Common.{◌≡◌, ◌≢◌, ℕ, zero, suc, ◌<◌, ◌≤◌, Bool, true, false, cond, List, [], ◌∷◌, ◌++◌, length, set, Option, Some, None, refl, sym, ap, ◌∙◌, subst, arith, ⊎_elim}
 use Rattle.std.specs.Prelude.{nat_eq, nat_lt, slice_get}
 use Rattle.std.proofs.lemmas.Bool.{cond_both, cases_eq, eq-eqb, ne_eqb, ltb-true, ltb-false}
+use Rattle.ct_msg.specs.Client.{db_of, key_of, wants_record}
 use Rattle.ct_msg.specs.declared.client.Answer.{Answer}
 use Rattle.ct_msg.specs.declared.client.ClientOp.{ClientOp}
 use Rattle.ct_msg.specs.declared.client.ClientOp.TheVariants as op
 use Rattle.ct_msg.specs.declared.client.Pair.{Pair}
 use Rattle.ct_store.specs.Map.{look}
-use Rattle.ct_rules.specs.Form.{is_wanting}
 use Rattle.ct_rules.specs.declared.state.RecState.{RecState}
 use Rattle.ct_rules.specs.declared.state.Wish.{Wish}
 use Rattle.ct_rules_node.specs.Node.{Node, Database, Committing, state_at, db_at, with_db, or_nothing, or_untouched, untouched}
 use Rattle.ct_rules_node.specs.Turn.{Turn, does, answers}
-use Rattle.ct_rules_node.specs.Clients.{db_of, key_of, is_commit}
+use Rattle.ct_rules_node.specs.Clients.{is_commit}
 use Rattle.ct_rules_node.specs.Laws.{AllAscend, NodeAscends}
 use Rattle.ct_rules_node.proofs.AtRecord.{at_set, at_other, set_past, all_set, at_ascends}
 use Rattle.ct_frame.specs.declared.event.Out.{Out}
@@ -25,7 +25,7 @@ use Rattle.ct_law_calls.proofs.Opened.{Opened, without, without_all, answered_by
 
 -- the call that waits for the record was made at the node, and asked for the record
 unfoldable pub Wished : ℕ → Opened → ℕ → List ℕ → ℕ → ClientOp → Type 0
-Wished n who db key call asked = (who call ≡ Some (n, asked)) × (db_of asked ≡ db) × (key_of asked ≡ key) × (is_wanting asked ≡ true)
+Wished n who db key call asked = (who call ≡ Some (n, asked)) × (db_of asked ≡ db) × (key_of asked ≡ key) × (wants_record asked ≡ true)
 
 unfoldable pub Committed : ℕ → Opened → ℕ → Option Committing → Type 0
 Committed n who db None = Unit {0}
@@ -80,7 +80,7 @@ same_kept {who} {here} {t} u outs order wish commit s = record {
 
 -- ---- the same calls are open
 
-pub wish_like : (n : ℕ) (who now : Opened) (db : ℕ) (key : List ℕ) (w : Option Wish) → ((call : ℕ) (o : ClientOp) → wish_call w ≡ Some call → who call ≡ Some (n, o) → is_wanting o ≡ true → db_of o ≡ db → key_of o ≡ key → now call ≡ Some (n, o)) → Wishful (Wished n who db key) w → Wishful (Wished n now db key) w
+pub wish_like : (n : ℕ) (who now : Opened) (db : ℕ) (key : List ℕ) (w : Option Wish) → ((call : ℕ) (o : ClientOp) → wish_call w ≡ Some call → who call ≡ Some (n, o) → wants_record o ≡ true → db_of o ≡ db → key_of o ≡ key → now call ≡ Some (n, o)) → Wishful (Wished n who db key) w → Wishful (Wished n now db key) w
 unfolding Wishful Wished wish_call
 wish_like n who now db key None f h = tt
 wish_like n who now db key (Some w) f h = (f w.call w.op refl h.0 h.3 h.1 h.2, h.1, h.2, h.3)
@@ -145,9 +145,9 @@ has_db db x y e = cond_both (nat_lt db (length x.dbs)) true false (λ (_ : Bool)
 
 -- ---- a commit ends
 
-pub wants_no_commit : (o : ClientOp) (db : ℕ) (ws : List _) → is_wanting o ≡ true → o ≢ op.Commit db ws
-unfolding is_wanting
-wants_no_commit o db ws e is = absurd (let k : is_wanting (op.Commit db ws) ≡ true = subst (λ (x : ClientOp). is_wanting x ≡ true) is e in cc)
+pub wants_no_commit : (o : ClientOp) (db : ℕ) (ws : List _) → wants_record o ≡ true → o ≢ op.Commit db ws
+unfolding wants_record
+wants_no_commit o db ws e is = absurd (let k : wants_record (op.Commit db ws) ≡ true = subst (λ (x : ClientOp). wants_record x ≡ true) is e in cc)
 
 asked_of : Option (ℕ × ClientOp) → ClientOp
 asked_of None = op.Unlock 0 []
@@ -186,7 +186,7 @@ ends_place o db k x y is ne e = ⊎_elim
     not_own same = absurd (let t = sym (eq-eqb k y.call same) ∙ ne in cc)
 
 pub commit_ends : (n db : ℕ) (who : Opened) (x : Node) (y : Committing) → (db_at db x).commit ≡ Some y → Stands n who x → Stands n (without y.call who) (with_committing db None x)
-unfolding Committed db_of without
+unfolding Committed without
 commit_ends n db who x y is s =
     let v = with_committing db None x in
     let mine : who y.call ≡ Some (n, op.Commit db y.writes) = subst (λ (c : Option Committing). Committed n who db c) is (s.commits db) in
@@ -250,7 +250,7 @@ waits_place o db k x y none e = ⊎_elim
 
 -- a commit that waits
 pub commit_waits : (n db call : ℕ) (who : Opened) (x : Node) (y : Committing) → db < length x.dbs → (db_at db x).commit ≡ None → y.call ≡ call → who call ≡ None → Stands n who x → Stands n (with_call call (n, op.Commit db y.writes) who) (with_committing db (Some y) x)
-unfolding Committed is_commit db_of
+unfolding Committed is_commit
 commit_waits n db call who x y has none mine fresh s =
     let o = op.Commit db y.writes in
     let v = with_committing db (Some y) x in

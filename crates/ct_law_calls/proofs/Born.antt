@@ -4,11 +4,11 @@ use Rattle.std.specs.Prelude.{slice_get, nat_eq, nat_lt, not}
 use Rattle.std.specs.List.{AllByRecursion, list_any, list_all}
 use Rattle.std.specs.List.Sorted.{IsStrictlySortedBy}
 use Rattle.std.proofs.lemmas.Bool.{eqb-true, eq-eqb, ltb-true, ltb-false, and_parts}
+use Rattle.ct_msg.specs.Client.{db_of, key_of, wants_record}
 use Rattle.ct_msg.specs.declared.client.ClientOp.{ClientOp}
 use Rattle.ct_msg.specs.declared.client.ClientOp.TheVariants as op
 use Rattle.ct_msg.specs.declared.config.Config.{Config}
 use Rattle.ct_store.specs.Map.{Pairs, Ascends, look}
-use Rattle.ct_rules.specs.Form.{is_wanting}
 use Rattle.ct_rules.specs.declared.state.RecState.{RecState}
 use Rattle.ct_rules.specs.declared.state.Wish.{Wish}
 use Rattle.ct_rules_node.specs.Clients as clients
@@ -45,30 +45,10 @@ found_in (x ∷ xs) k e = ⊎_elim
     (λ (f : nat_eq x.call k ≡ false). rw f (rw (swap_eq x.call k false f) (found_in xs k (sym (ap (λ (b : Bool). b || list_any (is_call k) xs) f) ∙ e))))
     (true_or_false (nat_eq x.call k))
 
-same_db : (o : ClientOp) → clients.db_of o ≡ legal.db_of o
-unfolding clients.db_of
-same_db (op.Lock db key) = refl
-same_db (op.Read db key) = refl
-same_db (op.Write db key v) = refl
-same_db (op.Apply db key f arg) = refl
-same_db (op.Store db key v) = refl
-same_db (op.Unlock db key) = refl
-same_db (op.Commit db ws) = refl
-
-same_key : (o : ClientOp) → clients.key_of o ≡ legal.key_of o
-unfolding clients.key_of
-same_key (op.Lock db key) = refl
-same_key (op.Read db key) = refl
-same_key (op.Write db key v) = refl
-same_key (op.Apply db key f arg) = refl
-same_key (op.Store db key v) = refl
-same_key (op.Unlock db key) = refl
-same_key (op.Commit db ws) = refl
-
-wanting_of : (db : ℕ) (key : List ℕ) (next : ℕ) (w : Option Wish) (x : Wish) → w ≡ Some x → WishIsSound db key next w → is_wanting x.op ≡ true
+wanting_of : (db : ℕ) (key : List ℕ) (next : ℕ) (w : Option Wish) (x : Wish) → w ≡ Some x → WishIsSound db key next w → wants_record x.op ≡ true
 unfolding WishIsSound
 wanting_of db key next None x e h = absurd (cc)
-wanting_of db key next (Some y) x e h = (let same : y ≡ x = cc in subst (λ (z : Wish). is_wanting z.op ≡ true) same h.wanting)
+wanting_of db key next (Some y) x e h = (let same : y ≡ x = cc in subst (λ (z : Wish). wants_record z.op ≡ true) same h.wanting)
 
 none_kept : (m : Pairs RecState) (key : List ℕ) (x : Wish) → m ≡ [] → (or_nothing (look key m)).wish ≢ Some x
 unfolding or_nothing
@@ -76,7 +56,7 @@ none_kept [] key x e is = absurd (cc)
 none_kept (y ∷ m) key x e is = absurd (cc)
 
 -- each call that waits for a record wants one
-pub all_wanting : (config : Config) (g : ℕ) (members : List ℕ) (row : Rows) (w : Cluster) → IsBornWith config g members row w → (n db : ℕ) (key : List ℕ) (x : Wish) → (state_at db key (node_at n w)).wish ≡ Some x → is_wanting x.op ≡ true
+pub all_wanting : (config : Config) (g : ℕ) (members : List ℕ) (row : Rows) (w : Cluster) → IsBornWith config g members row w → (n db : ℕ) (key : List ℕ) (x : Wish) → (state_at db key (node_at n w)).wish ≡ Some x → wants_record x.op ≡ true
 unfolding state_at
 all_wanting config g members row w h n db key x e = ⊎_elim
     (λ (t : is_among n members ≡ true). ⊎_elim
@@ -86,10 +66,10 @@ all_wanting config g members row w h n db key x e = ⊎_elim
     (λ (f : is_among n members ≡ false). absurd (none_kept (db_at db (node_at n w)).records key x ((h.left n f).records db) e))
     (true_or_false (is_among n members))
 
-wished_born : (w : Cluster) (n db : ℕ) (key : List ℕ) (o : Option Wish) → (state_at db key (node_at n w)).wish ≡ o → ((x : Wish) → o ≡ Some x → is_wanting x.op ≡ true) → Wishful (Known (callers_in w) w.calls n db key) o → Wishful (Wished n (by_log (log_of (pending w))) db key) o
+wished_born : (w : Cluster) (n db : ℕ) (key : List ℕ) (o : Option Wish) → (state_at db key (node_at n w)).wish ≡ o → ((x : Wish) → o ≡ Some x → wants_record x.op ≡ true) → Wishful (Known (callers_in w) w.calls n db key) o → Wishful (Wished n (by_log (log_of (pending w))) db key) o
 unfolding Wishful Known Wished
 wished_born w n db key None is wants h = tt
-wished_born w n db key (Some x) is wants h = (found_in (pending w) x.call (pending_has w n db key x is) ∙ ap (λ v. Some v) h.0, same_db x.op ∙ h.2, same_key x.op ∙ h.3, wants x refl)
+wished_born w n db key (Some x) is wants h = (found_in (pending w) x.call (pending_has w n db key x is) ∙ ap (λ v. Some v) h.0, h.2, h.3, wants x refl)
 
 committed_born : (w : Cluster) (n db : ℕ) (o : Option Committing) → ((y : Committing) → o ≡ Some y → list_any (is_call y.call) (pending w) ≡ true) → CommitFits (callers_in w) w.calls n db o → Committed n (by_log (log_of (pending w))) db o
 unfolding CommitFits Committed
@@ -168,18 +148,18 @@ entry P (x ∷ xs) k v h e = ⊎_elim
     (λ (f : nat_eq k x.call ≡ false). entry P xs k v h.1 (sym (ap (λ (b : Bool). cond b (Some (x.node, x.op)) (asked_in k (log_of xs))) f) ∙ e))
     (true_or_false (nat_eq k x.call))
 
-wish_place : (who : Callers) (calls n db : ℕ) (key : List ℕ) (x : Node) (o : Option Wish) (w : Wish) → o ≡ Some w → (state_at db key x).wish ≡ o → is_wanting w.op ≡ true → Wishful (Known who calls n db key) o → place_call w.op x ≡ Some w.call
+wish_place : (who : Callers) (calls n db : ℕ) (key : List ℕ) (x : Node) (o : Option Wish) (w : Wish) → o ≡ Some w → (state_at db key x).wish ≡ o → wants_record w.op ≡ true → Wishful (Known who calls n db key) o → place_call w.op x ≡ Some w.call
 unfolding Wishful Known wish_call
 wish_place who calls n db key x None w e is wants h = absurd (cc)
 wish_place who calls n db key x (Some y) w e is wants h = (let same : y ≡ w = cc in
-    place_wish w.op x (wants_place w.op wants) ∙ ap (λ (i : ℕ). wish_call (state_at i (clients.key_of w.op) x).wish) (ap clients.db_of (sym same_op) ∙ same_db y.op ∙ h.2)
-    ∙ ap (λ (l : List ℕ). wish_call (state_at db l x).wish) (ap clients.key_of (sym same_op) ∙ same_key y.op ∙ h.3) ∙ ap wish_call (is ∙ e))
+    place_wish w.op x (wants_place w.op wants) ∙ ap (λ (i : ℕ). wish_call (state_at i (key_of w.op) x).wish) (ap db_of (sym same_op) ∙ h.2)
+    ∙ ap (λ (l : List ℕ). wish_call (state_at db l x).wish) (ap key_of (sym same_op) ∙ h.3) ∙ ap wish_call (is ∙ e))
   where
     same_op : y.op ≡ w.op
     same_op = (let same : y ≡ w = cc in ap (λ (z : Wish). z.op) same)
 
 commit_place : (db : ℕ) (x : Node) (y : Committing) → (db_at db x).commit ≡ Some y → place_call (op.Commit db y.writes) x ≡ Some y.call
-unfolding clients.is_commit clients.db_of commit_call
+unfolding clients.is_commit commit_call
 commit_place db x y e = place_commit (op.Commit db y.writes) x refl ∙ ap commit_call e
 
 zero_more : (k : ℕ) → k ≡ 0 + k

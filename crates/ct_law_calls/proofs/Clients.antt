@@ -4,6 +4,7 @@ use Rattle.std.specs.Prelude.{is_none, is_some, slice_get}
 use Rattle.std.proofs.lemmas.Bool.{cond_both}
 use Rattle.std.proofs.lemmas.List.{length-set}
 use Rattle.ct_bytes.specs.Words.{others}
+use Rattle.ct_msg.specs.Client.{db_of, is_read, key_of, wants_record}
 use Rattle.ct_msg.specs.declared.client.Answer.{Answer}
 use Rattle.ct_msg.specs.declared.client.ClientOp.{ClientOp}
 use Rattle.ct_msg.specs.declared.client.ClientOp.TheVariants as op
@@ -14,7 +15,6 @@ use Rattle.ct_msg.specs.declared.config.DbDecl.{DbDecl}
 use Rattle.ct_frame.specs.declared.event.Out.{Out}
 use Rattle.ct_call.specs.Rules.{Rules}
 use Rattle.ct_persist.specs.Commits.{commit_begun}
-use Rattle.ct_rules.specs.Form.{is_wanting}
 use Rattle.ct_rules.specs.Parts.{want}
 use Rattle.ct_rules.specs.Moves.{store, release, unlock}
 use Rattle.ct_rules.specs.declared.state.Wish.{Wish}
@@ -22,7 +22,7 @@ use Rattle.ct_rules_node.specs.Node as node
 use Rattle.ct_rules_node.specs.Node.{Node, Committing, Phase, Idle, Serving, Installed, Freezing, Frozen, state_at, db_at, kind_at, kind_in, is_persistent}
 use Rattle.ct_rules_node.specs.Turn.{Turn, makes, answers, with_node}
 use Rattle.ct_rules_node.specs.Records.{at_record, place_of, view}
-use Rattle.ct_rules_node.specs.Clients.{db_of, key_of, is_commit, refusal, no_such_db, call_pending, pending_of, commit_pending, wants_record, wants_change, is_read, is_unlock, is_committing, unlocks, reads, serves, serves_or, client}
+use Rattle.ct_rules_node.specs.Clients.{is_commit, refusal, no_such_db, call_pending, pending_of, commit_pending, wants_change, is_unlock, is_committing, unlocks, reads, serves, serves_or, client}
 use Rattle.ct_rules_node.specs.Databases.{updates, with_commit, awaits_others, commits_at, commit, read_pair}
 use Rattle.ct_rules_node.proofs.Refusals.{first_none, not_refused}
 use Rattle.ct_law_wish.proofs.Wishing.{Wishful, want_wish, store_wish, release_wish, unlock_wish}
@@ -65,7 +65,7 @@ none_some None e = refl
 none_some (Some x) e = absurd (cc)
 
 none_commits : (c : Config) (n : Node) (db : ℕ) (ws : List Pair) → commit_pending c n (op.Commit db ws) ≡ None → (db_at db n).commit ≡ None
-unfolding commit_pending is_commit is_committing is_unlock db_of
+unfolding commit_pending is_commit is_committing is_unlock
 none_commits c n db ws e = none_some (db_at db n).commit (first_false (is_some (db_at db n).commit) _ (not_refused _ _ e))
   where
     first_false : (a b : Bool) → (a || b) ≡ false → a ≡ false
@@ -74,7 +74,7 @@ none_commits c n db ws e = none_some (db_at db n).commit (first_false (is_some (
 
 -- ---- each call
 
-want_kept : (who : Opened) (c : Config) (rules : Rules) (n call : ℕ) (o : ClientOp) (t : Turn) → Comes who c n call t → is_wanting o ≡ true → is_commit o ≡ false → db_of o < length c.dbs → (state_at (db_of o) (key_of o) t.node).wish ≡ None →
+want_kept : (who : Opened) (c : Config) (rules : Rules) (n call : ℕ) (o : ClientOp) (t : Turn) → Comes who c n call t → wants_record o ≡ true → is_commit o ≡ false → db_of o < length c.dbs → (state_at (db_of o) (key_of o) t.node).wish ≡ None →
     Account (with_call call (n, o) who) n (at_record c n (db_of o) (key_of o) (λ at m. want at rules call o m) t)
 unfolding view place_of Wished answers_in Wishful
 want_kept who c rules n call o t h wants no_commit has none =
@@ -85,7 +85,7 @@ want_kept who c rules n call o t h wants no_commit has none =
     (wish_more n call o who (db_of o) (key_of o) w h.fresh (h.stands.wishes (db_of o) (key_of o))))
 
 store_kept : (who : Opened) (c : Config) (n call db : ℕ) (key v : List ℕ) (t : Turn) → Comes who c n call t → db < length c.dbs → Account (with_call call (n, op.Store db key v) who) n (at_record c n db key (λ at m. store call v m) t)
-unfolding view is_commit db_of key_of
+unfolding view is_commit
 store_kept who c n call db key v t h has =
     let w = (state_at db key t.node).wish in
     call_kept who n c db key (λ at m. store call v m) t call (op.Store db key v) h.nothing h.fresh refl refl refl (subst (λ (l : ℕ). db < l) (sym h.size) has) h.stands
@@ -93,7 +93,7 @@ store_kept who c n call db key v t h has =
     (store_wish (Wished n (with_call call (n, op.Store db key v) who) db key) call v (view db key t.node) (wish_more n call (op.Store db key v) who db key w h.fresh (h.stands.wishes db key)))
 
 release_kept : (who : Opened) (c : Config) (n call db : ℕ) (key : List ℕ) (t : Turn) → Comes who c n call t → db < length c.dbs → Account (with_call call (n, op.Unlock db key) who) n (at_record c n db key (λ at m. release call m) t)
-unfolding view is_commit db_of key_of
+unfolding view is_commit
 release_kept who c n call db key t h has =
     let w = (state_at db key t.node).wish in
     call_kept who n c db key (λ at m. release call m) t call (op.Unlock db key) h.nothing h.fresh refl refl refl (subst (λ (l : ℕ). db < l) (sym h.size) has) h.stands
@@ -101,7 +101,7 @@ release_kept who c n call db key t h has =
     (release_wish (Wished n (with_call call (n, op.Unlock db key) who) db key) call (view db key t.node) (wish_more n call (op.Unlock db key) who db key w h.fresh (h.stands.wishes db key)))
 
 unlock_kept : (who : Opened) (c : Config) (n call db : ℕ) (key : List ℕ) (t : Turn) → Comes who c n call t → db < length c.dbs → Account (with_call call (n, op.Unlock db key) who) n (at_record c n db key (λ at m. unlock at call m) t)
-unfolding view place_of is_commit db_of key_of
+unfolding view place_of is_commit
 unlock_kept who c n call db key t h has =
     let w = (state_at db key t.node).wish in
     call_kept who n c db key (λ at m. unlock at call m) t call (op.Unlock db key) h.nothing h.fresh refl refl refl (subst (λ (l : ℕ). db < l) (sym h.size) has) h.stands
@@ -137,20 +137,16 @@ commit_kept : (who : Opened) (c : Config) (n call db : ℕ) (ws : List Pair) (t 
 unfolding commit commits_at
 commit_kept who c n call db ws t h has none = awaits_kept who c n call db _ ws (others n t.node.members) _ (updates_come who c n call db _ ws t h) has (updates_commit db _ ws t ∙ none)
 
-wanted : (o : ClientOp) → is_wanting o ≡ true → wants_record o ≡ true
-unfolding is_wanting wants_record wants_change is_read
-wanted o e = grind arith
-
 serves_kept : (who : Opened) (c : Config) (rules : Rules) (n call : ℕ) (t : Turn) (o : ClientOp) → Comes who c n call t → db_of o < length c.dbs → call_pending t.node o ≡ None → commit_pending c t.node o ≡ None → Account (with_call call (n, o) who) n (serves c rules n call t o)
-unfolding serves reads read_pair is_wanting is_commit db_of key_of
+unfolding serves reads read_pair wants_record is_commit
 serves_kept who c rules n call t (op.Read db key) h has free commits = cond_both (is_persistent (kind_at c db)) (read_pair call db key t) (at_record c n db key (λ at o. want at rules call (op.Read db key) o) t) (λ (u : Turn). Account (with_call call (n, op.Read db key) who) n u)
-    (λ _. answer_kept who c n call (op.Read db key) _ t h) (λ _. want_kept who c rules n call (op.Read db key) t h refl refl has (none_waits t.node (op.Read db key) (wanted (op.Read db key) refl) free))
+    (λ _. answer_kept who c n call (op.Read db key) _ t h) (λ _. want_kept who c rules n call (op.Read db key) t h refl refl has (none_waits t.node (op.Read db key) refl free))
 serves_kept who c rules n call t (op.Store db key v) h has free commits = store_kept who c n call db key v t h has
 serves_kept who c rules n call t (op.Unlock db key) h has free commits = unlocks_kept who c n call db key t t.node.phase h has
 serves_kept who c rules n call t (op.Commit db ws) h has free commits = commit_kept who c n call db ws t h has (none_commits c t.node db ws commits)
-serves_kept who c rules n call t (op.Lock db key) h has free commits = want_kept who c rules n call (op.Lock db key) t h refl refl has (none_waits t.node (op.Lock db key) (wanted (op.Lock db key) refl) free)
-serves_kept who c rules n call t (op.Write db key v) h has free commits = want_kept who c rules n call (op.Write db key v) t h refl refl has (none_waits t.node (op.Write db key v) (wanted (op.Write db key v) refl) free)
-serves_kept who c rules n call t (op.Apply db key f arg) h has free commits = want_kept who c rules n call (op.Apply db key f arg) t h refl refl has (none_waits t.node (op.Apply db key f arg) (wanted (op.Apply db key f arg) refl) free)
+serves_kept who c rules n call t (op.Lock db key) h has free commits = want_kept who c rules n call (op.Lock db key) t h refl refl has (none_waits t.node (op.Lock db key) refl free)
+serves_kept who c rules n call t (op.Write db key v) h has free commits = want_kept who c rules n call (op.Write db key v) t h refl refl has (none_waits t.node (op.Write db key v) refl free)
+serves_kept who c rules n call t (op.Apply db key f arg) h has free commits = want_kept who c rules n call (op.Apply db key f arg) t h refl refl has (none_waits t.node (op.Apply db key f arg) refl free)
 
 -- the refusals that matter to calls
 free_of : (c : Config) (rules : Rules) (n : Node) (o : ClientOp) → refusal c rules n o ≡ None → (no_such_db c o ≡ None) × (call_pending n o ≡ None) × (commit_pending c n o ≡ None)

@@ -2,11 +2,11 @@
 use Rattle.std.proofs.Common.{◌≡◌, ◌≢◌, ℕ, zero, suc, ◌<◌, ◌≤◌, Bool, true, false, cond, ◌||◌, List, [], ◌∷◌, ◌++◌, length, Option, Some, None, refl, sym, ap, ◌∙◌, subst, arith, ⊎_elim}
 use Rattle.std.specs.Prelude.{nat_eq, nat_lt, slice_get}
 use Rattle.std.proofs.lemmas.Bool.{cond_both, cases_eq, eq-eqb, eqb-true, ne_eqb, ltb-true, ltb-false, or_right}
+use Rattle.ct_msg.specs.Client.{db_of, key_of, wants_record}
 use Rattle.ct_msg.specs.declared.client.ClientOp.{ClientOp}
 use Rattle.ct_msg.specs.declared.client.ClientOp.TheVariants as op
 use Rattle.ct_msg.specs.declared.config.Config.{Config}
 use Rattle.ct_store.specs.Map.{look}
-use Rattle.ct_rules.specs.Form.{is_wanting}
 use Rattle.ct_rules.specs.Parts.{Moving}
 use Rattle.ct_rules.specs.declared.event.Place.{Place}
 use Rattle.ct_rules.specs.declared.event.Act.{Act}
@@ -15,7 +15,7 @@ use Rattle.ct_rules.specs.declared.state.Wish.{Wish}
 use Rattle.ct_rules_node.specs.Node.{Node, Database, Committing, state_at, db_at, with_db, or_nothing, or_untouched, untouched}
 use Rattle.ct_rules_node.specs.Turn.{Turn}
 use Rattle.ct_rules_node.specs.Records.{at_record, acted, put_back, place_of, view}
-use Rattle.ct_rules_node.specs.Clients.{db_of, key_of, is_commit}
+use Rattle.ct_rules_node.specs.Clients.{is_commit}
 use Rattle.ct_rules_node.specs.Laws.{NodeAscends, left_by, unless_blank}
 use Rattle.ct_rules_node.proofs.AtRecord.{moves_at, at_set, at_other, set_past}
 use Rattle.ct_law_node.proofs.Forming.{or_second}
@@ -73,8 +73,8 @@ pub record AtPlace (n : ℕ) (old now : Opened) (db : ℕ) (key : List ℕ) (xs 
   -- and each that was open with this place is one of these
   pub all : (k : ℕ) (o : ClientOp) → old k ≡ Some (n, o) → is_commit o ≡ false → db_of o ≡ db → key_of o ≡ key → is_one k xs ≡ true
 
-pub wants_place : (o : ClientOp) → is_wanting o ≡ true → is_commit o ≡ false
-unfolding is_wanting is_commit
+pub wants_place : (o : ClientOp) → wants_record o ≡ true → is_commit o ≡ false
+unfolding wants_record is_commit
 wants_place (op.Lock db key) e = refl
 wants_place (op.Read db key) e = refl
 wants_place (op.Write db key v) e = refl
@@ -118,7 +118,7 @@ not_it d k db key unlike e f = absurd (let t = sym (it_is_itself d k) ∙ ap (λ
 pub record_stands : (c : Config) (n db : ℕ) (key : List ℕ) (part : Place → Moving → Moving) (t : Turn) (old now : Opened) (xs : List ℕ) → Stands n old t.node → AtPlace n old now db key xs →
     (length t.node.dbs ≤ db → (left_by c n db key part t).state.wish ≡ None) → Even xs (left_by c n db key part t).acts (left_by c n db key part t).state.wish → Wishful (Wished n now db key) (left_by c n db key part t).state.wish →
     Stands n (without_all (answers_in (left_by c n db key part t).acts) now) (at_record c n db key part t).node
-unfolding Committed db_of is_commit
+unfolding Committed is_commit
 record_stands c n db key part t old now xs s p past even wished =
     let o = left_by c n db key part t in
     let u = (at_record c n db key part t).node in

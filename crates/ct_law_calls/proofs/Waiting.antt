@@ -5,12 +5,14 @@ use Rattle.std.specs.Ordering.{is_eq}
 use Rattle.std.specs.List.{AllByRecursion, list_any}
 use Rattle.std.specs.List.Sorted.{IsStrictlySortedBy}
 use Rattle.std.proofs.lemmas.Bool.{eq-eqb}
+use Rattle.ct_bytes.specs.Key.{key_cmp}
+use Rattle.ct_msg.specs.Client.{db_of, key_of}
 use Rattle.ct_msg.specs.declared.client.ClientOp.{ClientOp}
-use Rattle.ct_store.specs.Map.{Pairs, Ascends, key_cmp, look}
+use Rattle.ct_store.specs.Map.{Pairs, Ascends, look}
 use Rattle.ct_store.proofs.Maps.{one_key, equal}
 use Rattle.ct_rules.specs.declared.state.RecState.{RecState}
 use Rattle.ct_rules.specs.declared.state.Wish.{Wish}
-use Rattle.ct_rules_node.specs.Clients.{db_of, key_of, is_commit}
+use Rattle.ct_rules_node.specs.Clients.{is_commit}
 use Rattle.ct_rules_node.specs.Node.{Node, Database, Committing, untouched, or_untouched, or_nothing, db_at, state_at}
 use Rattle.ct_rules_node.specs.Laws.{AllAscend}
 use Rattle.ct_rules_node.proofs.Keys.{below_unseen}

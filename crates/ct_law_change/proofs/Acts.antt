@@ -1,13 +1,16 @@
 -- Each part of the rule keeps the invariant: what is sent, told, given, revoked, granted, drained.
 use Rattle.std.proofs.Common.{◌≡◌, ◌≢◌, ◌⊎◌, ℕ, ◌<◌, ◌≤◌, Bool, true, false, Option, Some, None, List, [], ◌∷◌, ◌++◌, length, length-append, refl, sym, ap, ◌∙◌, inl, inr, ⊎_elim, arith, append_assoc, subst, not, ◌&&◌, ◌||◌, ◌==◌, le_of_eq}
 use Rattle.std.proofs.lemmas.Bool.{and_parts, not-true, cond_both, cases_eq, eqb-false, lt-leb, le-leb, ne_eqb, eq-eqb}
+use Rattle.ct_bytes.proofs.Words.{nil_is}
+use Rattle.ct_bytes.specs.Words.{is_nil}
+use Rattle.ct_msg.specs.Client.{is_read}
 use Rattle.ct_deleg.specs.Awaited.{including}
 use Rattle.ct_law_fact.proofs.Invariant.{span_of, Goes, Start, Waits, readers_of, is_revoking, Ghost, RevokeAt, Says, BodyAt, Recalled, NodeInv, MasterFacts, MasterInv, GlobalInv, Good, Holds, Kept}
 use Rattle.ct_law_fact.proofs.Nodes.{and_frame, NodeInv-frame, given, NodeInv-given, rank_of, NodeInv-nowish, NodeInv-recalls, seeing, NodeInv-seeing}
 use Rattle.ct_law_change.proofs.Markings.{grows_none, goes_on, goes_told}
 use Rattle.ct_law_world.specs.Marked.{is_removal, is_removed}
 use Rattle.ct_law_change.proofs.Holder.{Change, Shift, Own, NodeInv-shift, NodeInv-own}
-use Rattle.ct_law_change.proofs.Parts.{accepts_one_more, idle_none, nil_none, has-track, has-track_new, rank-with_value, here-with_value, value-with_value, reading-append, nobody_has, readers_idle, quiet, NodeInv-quiet, tracks, change_tracks, global_tracks, shift_to, granted_to, granted_end, shift_register, registers, grown, grown_below, change_grown, global_grown}
+use Rattle.ct_law_change.proofs.Parts.{accepts_one_more, idle_none, has-track, has-track_new, rank-with_value, here-with_value, value-with_value, reading-append, nobody_has, readers_idle, quiet, NodeInv-quiet, tracks, change_tracks, global_tracks, shift_to, granted_to, granted_end, shift_register, registers, grown, grown_below, change_grown, global_grown}
 use Rattle.std.specs.Prelude.{Result, Ok, Err, List}
 use Rattle.ct_msg.specs.declared.client.Answer.TheVariants as answer
 use Rattle.ct_msg.specs.declared.client.ClientOp.{ClientOp}
@@ -19,7 +22,7 @@ use Rattle.ct_call.specs.declared.fault.CallFault.TheVariants as fault
 use Rattle.ct_msg.specs.declared.client.Why.TheVariants as why
 use Rattle.ct_deleg.specs.Tracked.{Revocation}
 use Rattle.ct_vacuum.specs.Vacuum.{Vacuuming}
-use Rattle.ct_rules.specs.State.{is_nil, is_read_op, is_read_kind}
+use Rattle.ct_rules.specs.State.{is_read_kind}
 use Rattle.ct_rules.specs.declared.state.Entry.{Entry}
 use Rattle.ct_rules.specs.declared.state.RecallNote.{RecallNote}
 use Rattle.ct_register.specs.Register.{Register, reading}
@@ -222,7 +225,7 @@ module _ (rules : Rules) (ps : List ℕ) (m me : ℕ) (nodes : ℕ → Node) (fr
   owner_none g node h here unlocked (Some n) e = absurd (let is = owner_me g node h here n e in let k : node.locked ≡ true = h.mine.owner (e ∙ ap Some is) in cc)
 
   -- a node reads: it has seen all versions
-  pub see_holds : (g : Ghost) (o : Out) → rank o.node.copy ≡ g.top → ((n : ℕ) → g.register.owner ≡ Some n → n ≡ me) → (asked : ClientOp) → is_read_op asked ≡ true → (value : List ℕ) → value ≡ reading g.register.versions →
+  pub see_holds : (g : Ghost) (o : Out) → rank o.node.copy ≡ g.top → ((n : ℕ) → g.register.owner ≡ Some n → n ≡ me) → (asked : ClientOp) → is_read asked ≡ true → (value : List ℕ) → value ≡ reading g.register.versions →
       Holds rules ps m me nodes frames r g o → Holds rules ps m me nodes frames r (seeing (changed me (length g.register.versions) g.register.seen) g) (tell (Told me asked (answer.Read value)) o)
   unfolding tell changed is_removal
   see_holds g o top owner asked is value new h =
@@ -333,7 +336,7 @@ module _ (rules : Rules) (ps : List ℕ) (m me : ℕ) (nodes : ℕ → Node) (fr
       (_, grow_holds v (Told me (op.Apply db key f arg) (answer.Applied v)) g.register.owner g o here untracked idle calm refl (none, is, refl) (λ a. absurd (cc)) (λ a. absurd (cc)) (λ n ne e. absurd (cc)) h)
 
   pub satisfy_holds : (asked : ClientOp) (g : Ghost) (o : Out) → o.node.wish ≡ None → is_here o.node.copy ≡ true → o.node.locked ≡ false → o.node.tracked ≡ [] → o.node.revoking ≡ None → g.vacuum ≡ None → Holds rules ps m me nodes frames r g o → Kept rules ps m me nodes frames r (satisfy rules me asked o)
-  unfolding satisfy is_read_op is_removal
+  unfolding satisfy is_read is_removal
   satisfy_holds (op.Lock db key) g o free here unlocked untracked idle calm h =
       let none = owner_none g o.node h.good here unlocked g.register.owner refl in
       let at = h.good.mine.here here in
@@ -441,7 +444,7 @@ module _ (rules : Rules) (ps : List ℕ) (m me : ℕ) (nodes : ℕ → Node) (fr
   pub yield_holds : (g : Ghost) (o : Out) → is_here o.node.copy ≡ true → o.node.locked ≡ false → o.node.revoking ≡ None → g.vacuum ≡ None → Holds rules ps m me nodes frames r g o → Kept rules ps m me nodes frames r (yield_record me m o)
   unfolding yield_record with_node
   yield_holds g o here unlocked idle calm h = cond_both (is_nil o.node.tracked) _ _ (Kept rules ps m me nodes frames r)
-      (λ t. give_holds g o here unlocked (nil_none _ t) idle calm h)
+      (λ t. give_holds g o here unlocked (nil_is _ t) idle calm h)
       (λ t. revoke_holds o.node.wish g o t here unlocked idle calm (λ w e. inl e) h)
 
   pub recalls_holds : (l : List RecallNote) (g : Ghost) (o : Out) → ((s : RecallNote) → Waits s l → Recalled s g.frames) → Holds rules ps m me nodes frames r g o → Holds rules ps m me nodes frames r g (with_node (record o.node { recalls = l }) o)

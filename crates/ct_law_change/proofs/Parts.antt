@@ -2,6 +2,7 @@
 use Rattle.std.proofs.Common.{◌≡◌, ◌≢◌, ◌⊎◌, ℕ, ◌+◌, ◌<◌, ◌≤◌, Bool, true, false, Option, Some, None, List, [], ◌∷◌, ◌++◌, length, take, refl, sym, ap, ◌∙◌, inl, inr, ⊎_elim, arith, subst, ◌||◌, cond, leb, length-append}
 use Rattle.std.proofs.lemmas.Bool.{lt-leb, le-leb}
 use Rattle.std.proofs.lemmas.List.{take-append-le}
+use Rattle.ct_bytes.specs.Words.{is_nil}
 use Rattle.ct_deleg.specs.Awaited.{including}
 use Rattle.ct_law_fact.proofs.Invariant.{readers_of, is_revoking, Ghost, Ungranted, Emptied, Joined, Says, NodeInv, GlobalInv}
 use Rattle.ct_law_change.proofs.Holder.{Change, Shift, Granted}
@@ -9,7 +10,6 @@ use Rattle.ct_law_change.proofs.Markings.{grows_top, grows_grown, marking_top, m
 use Rattle.std.specs.Prelude.{List}
 use Rattle.ct_call.specs.Rules.{Rules}
 use Rattle.ct_deleg.specs.Tracked.{Revocation}
-use Rattle.ct_rules.specs.State.{is_nil}
 use Rattle.ct_register.specs.Register.{Register, reading}
 use Rattle.ct_register.specs.Words.{at as changed}
 use Rattle.ct_law_world.specs.Labels.{Label, AcceptsLabel, AcceptsAll}
@@ -23,10 +23,6 @@ pub idle_none : (v : Option Revocation) → is_idle v ≡ true → v ≡ None
 unfolding is_idle
 idle_none None h = refl
 idle_none (Some v) h = absurd (cc)
-
-pub nil_none : (l : List ℕ) → is_nil l ≡ true → l ≡ []
-nil_none [] h = refl
-nil_none (x ∷ xs) h = absurd (cc)
 
 -- who tracks, still tracks
 pub has-track : (k n : ℕ) (ns : List ℕ) → has_node k ns ≡ true → has_node k (including n ns) ≡ true

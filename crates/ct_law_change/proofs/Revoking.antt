@@ -1,18 +1,18 @@
 -- Revocations and copies for reading.
 use Rattle.std.proofs.Common.{◌≡◌, ◌≢◌, ◌⊎◌, ℕ, ◌+◌, ◌<◌, Bool, true, false, Option, Some, None, List, [], ◌∷◌, refl, sym, ap, ◌∙◌, inl, inr, ⊎_elim, arith, subst, not, ◌&&◌, ◌||◌, ◌==◌, nat_le, eqb-true, eq-eqb}
 use Rattle.std.proofs.lemmas.Bool.{and_parts, not-true, cond_both, cases_eq, false_from_ne_true}
-use Rattle.ct_bytes.specs.Words.{others}
+use Rattle.ct_bytes.proofs.Words.{nil_is}
+use Rattle.ct_bytes.specs.Words.{others, is_nil}
 use Rattle.ct_law_fact.proofs.Invariant.{Start, Sent, readers_of, is_revoking, Ghost, Ungranted, RevokeAt, AckAt, Says, BodyAt, NodeInv, Holds, Kept}
 use Rattle.ct_law_fact.proofs.Nodes.{and_frame, NodeInv-called, called, rank_of, ungranted_new, NodeInv-stale, reading-stale, rank-stale}
 use Rattle.ct_law_fact.proofs.Copies.{NodeInv-granted, granted}
-use Rattle.ct_law_change.proofs.Parts.{nil_none, tracks, change_tracks, global_tracks, Done_with, granted_to, granted_end, shift_to, shift_end, nobody_has}
+use Rattle.ct_law_change.proofs.Parts.{tracks, change_tracks, global_tracks, Done_with, granted_to, granted_end, shift_to, shift_end, nobody_has}
 use Rattle.ct_law_change.proofs.Acts.{send_holds, node_holds, own_holds, Others, master_copy, see_holds, satisfy_holds, drain_holds}
 use Rattle.ct_law_change.proofs.Small.{reads_is_read}
 use Rattle.std.specs.Prelude.{List}
 use Rattle.ct_frame.specs.declared.frame.CallKind.TheVariants as kind
 use Rattle.ct_call.specs.Rules.{Rules}
 use Rattle.ct_deleg.specs.Tracked.{Revocation}
-use Rattle.ct_rules.specs.State.{is_nil}
 use Rattle.ct_rules.specs.declared.state.Entry.{Entry}
 use Rattle.ct_law_fact.proofs.Rule.{risen, read_granted, is_kind_here, Body, Call, Copy, For_reading, Frame, Grant, Here, Node, Out, Revoke, RevokeAck, Wish, end_revocation, end_wish, has_node, is_here, is_reading, is_wish, on_ack, on_grant, on_revoke, rank, reads_op, rsn_of, send, stale, value_of, with_node}
 
@@ -119,7 +119,7 @@ module _ (rules : Rules) (ps : List ℕ) (m me : ℕ) (nodes : ℕ → Node) (fr
       let apart = λ (k : ℕ) (ne : k ≢ me). stays k (nodes k).copy (nodes k).wish (came.1 k ne) in
       let rest = others n v.missing in
       cond_both (is_nil (others n v.missing)) _ _ (Kept rules ps m me nodes frames r)
-      (λ nil. (let none = nil_none _ nil in end_holds g o here unlocked calm (gone_of me g rest o.node none mine) (λ k ne. gone_of k g rest (nodes k) none (apart k ne)) h))
+      (λ nil. (let none = nil_is _ nil in end_holds g o here unlocked calm (gone_of me g rest o.node none mine) (λ k ne. gone_of k g rest (nodes k) none (apart k ne)) h))
       (λ _. (
         _,
         own_holds rules ps m me nodes frames r g (tracks rest true g.top g) o (record o.node { revoking = Some (record v { missing = rest }) }) here (global_tracks ps m g rest true g.top calm (omega arith) h.good.all) (change_tracks g rest true g.top (inr (refl, λ _. refl)))

@@ -2,11 +2,12 @@
 use Rattle.std.proofs.Common.{◌≡◌, ◌≢◌, ℕ, ◌≤◌, true, Option, Some, None, List, length, refl, arith}
 use Rattle.std.proofs.lemmas.Bool.{ne_eqb, eq-eqb}
 use Rattle.std.specs.Prelude.{List}
+use Rattle.ct_msg.specs.Client.{is_read}
 use Rattle.ct_msg.specs.declared.client.Answer.TheVariants as answer
 use Rattle.ct_msg.specs.declared.client.ClientOp.{ClientOp}
 use Rattle.ct_msg.specs.declared.client.ClientOp.TheVariants as op
 use Rattle.ct_call.specs.Rules.{Rules}
-use Rattle.ct_rules.specs.State.{is_read_op, is_read_kind, kind_of}
+use Rattle.ct_rules.specs.State.{is_read_kind, kind_of}
 use Rattle.ct_register.specs.Register.{Register, reading, OwnedByNoOther}
 use Rattle.ct_register.specs.Words.{at as changed}
 use Rattle.ct_law_world.specs.Labels.{Told, AcceptsLabel}
@@ -21,9 +22,9 @@ pub owned_by_none : (n : ℕ) (owner : Option ℕ) → ((k : ℕ) → owner ≡ 
 owned_by_none n None h = tt
 owned_by_none n (Some k) h = h k refl
 
-pub read_accepted : (rules : Rules) (r : Register) (me : ℕ) (asked : ClientOp) → is_read_op asked ≡ true → ((n : ℕ) → r.owner ≡ Some n → n ≡ me) → (value : List ℕ) → value ≡ reading r.versions →
+pub read_accepted : (rules : Rules) (r : Register) (me : ℕ) (asked : ClientOp) → is_read asked ≡ true → ((n : ℕ) → r.owner ≡ Some n → n ≡ me) → (value : List ℕ) → value ≡ reading r.versions →
     AcceptsLabel rules r (Told me asked (answer.Read value)) (record r { seen = changed me (length r.versions) r.seen })
-unfolding is_read_op
+unfolding is_read
 read_accepted rules r me (op.Read db key) is owner value new = (owned_by_none me r.owner owner, new, refl)
 read_accepted rules r me (op.Lock db key) is owner value new = absurd (cc)
 read_accepted rules r me (op.Write db key v) is owner value new = absurd (cc)
@@ -33,8 +34,8 @@ read_accepted rules r me (op.Unlock db key) is owner value new = absurd (cc)
 read_accepted rules r me (op.Commit db writes) is owner value new = absurd (cc)
 
 -- a wish of kind Read is a read
-pub reads_is_read : (o : Op) → reads_op o ≡ true → is_read_op o.real ≡ true
-unfolding reads_op kind_of is_read_kind is_read_op
+pub reads_is_read : (o : Op) → reads_op o ≡ true → is_read o.real ≡ true
+unfolding reads_op kind_of is_read_kind is_read
 reads_is_read o h = grind arith
 
 pub changed_me : (me count : ℕ) (f : ℕ → ℕ) → changed me count f me ≤ count

@@ -1,15 +1,14 @@
 -- What a call that is not refused may do.
 use Rattle.std.proofs.Common.{◌≡◌, ℕ, true, List, None, arith}
 use Rattle.std.specs.Prelude.{is_some}
+use Rattle.ct_msg.specs.Client.{db_of, is_read, key_of, wants_record}
 use Rattle.ct_msg.specs.declared.client.ClientOp.{ClientOp}
 use Rattle.ct_msg.specs.declared.client.ClientOp.TheVariants as op
 use Rattle.ct_msg.specs.declared.config.Config.{Config}
 use Rattle.ct_call.specs.Rules.{Rules}
-use Rattle.ct_rules.specs.Form.{is_wanting}
-use Rattle.ct_rules.specs.State.{is_read_op}
 use Rattle.ct_rules_node.specs.Node.{Node, state_at}
 use Rattle.ct_rules_node.specs.Refusals.{refused_if}
-use Rattle.ct_rules_node.specs.Clients.{refusal, call_pending, pending_of, already_locked, not_locked, no_such_db, wrong_kind, wants_record, wants_change, is_read, is_under_lock, is_commit, is_locked, db_of, key_of}
+use Rattle.ct_rules_node.specs.Clients.{refusal, call_pending, pending_of, already_locked, not_locked, no_such_db, wrong_kind, wants_change, is_under_lock, is_commit, is_locked}
 use Rattle.ct_rules_node.proofs.Refusals.{first_none}
 use Rattle.ct_law_world.specs.World.{may_want}
 
@@ -29,25 +28,25 @@ admits c rules n o e =
     record { db = db.0; kind = kind.0; wish = wish.0; lock = lock.0; under = under.0 }
 
 pub may_lock : (c : Config) (n : Node) (db : ℕ) (key : List ℕ) → Admits c n (op.Lock db key) → may_want (state_at db key n) (op.Lock db key) ≡ true
-unfolding may_want call_pending already_locked wants_record wants_change is_read is_locked pending_of refused_if is_wanting is_read_op db_of key_of
+unfolding may_want call_pending already_locked wants_record wants_change is_read is_locked pending_of refused_if
 may_lock c n db key h = (let a = h.wish in let b = h.lock in grind arith)
 
 pub may_read : (c : Config) (n : Node) (db : ℕ) (key : List ℕ) → Admits c n (op.Read db key) → may_want (state_at db key n) (op.Read db key) ≡ true
-unfolding may_want call_pending already_locked wants_record wants_change is_read is_locked pending_of refused_if is_wanting is_read_op db_of key_of
+unfolding may_want call_pending already_locked wants_record wants_change is_read is_locked pending_of refused_if
 may_read c n db key h = (let a = h.wish in let b = h.lock in grind arith)
 
 pub may_write : (c : Config) (n : Node) (db : ℕ) (key v : List ℕ) → Admits c n (op.Write db key v) → may_want (state_at db key n) (op.Write db key v) ≡ true
-unfolding may_want call_pending already_locked wants_record wants_change is_read is_locked pending_of refused_if is_wanting is_read_op db_of key_of
+unfolding may_want call_pending already_locked wants_record wants_change is_read is_locked pending_of refused_if
 may_write c n db key v h = (let a = h.wish in let b = h.lock in grind arith)
 
 pub may_apply : (c : Config) (n : Node) (db f : ℕ) (key arg : List ℕ) → Admits c n (op.Apply db key f arg) → may_want (state_at db key n) (op.Apply db key f arg) ≡ true
-unfolding may_want call_pending already_locked wants_record wants_change is_read is_locked pending_of refused_if is_wanting is_read_op db_of key_of
+unfolding may_want call_pending already_locked wants_record wants_change is_read is_locked pending_of refused_if
 may_apply c n db f key arg h = (let a = h.wish in let b = h.lock in grind arith)
 
 pub may_store : (c : Config) (n : Node) (db : ℕ) (key v : List ℕ) → Admits c n (op.Store db key v) → is_some (state_at db key n).locked ≡ true
-unfolding not_locked is_under_lock is_locked is_commit refused_if db_of key_of
+unfolding not_locked is_under_lock is_locked is_commit refused_if
 may_store c n db key v h = (let a = h.under in grind arith)
 
 pub may_unlock : (c : Config) (n : Node) (db : ℕ) (key : List ℕ) → Admits c n (op.Unlock db key) → is_some (state_at db key n).locked ≡ true
-unfolding not_locked is_under_lock is_locked is_commit refused_if db_of key_of
+unfolding not_locked is_under_lock is_locked is_commit refused_if
 may_unlock c n db key h = (let a = h.under in grind arith)

@@ -1,5 +1,6 @@
 -- A client's call on a record comes to a node of the cluster: it is the call of its number, and the cluster goes on.
 use Rattle.std.proofs.Common.{◌≡◌, ℕ, ◌+◌, ◌<◌, true, List, [], ◌∷◌, ◌++◌, length, refl, arith}
+use Rattle.ct_msg.specs.Client.{db_of, key_of}
 use Rattle.ct_msg.specs.declared.client.ClientOp.{ClientOp}
 use Rattle.ct_msg.specs.declared.config.Config.{Config}
 use Rattle.ct_frame.specs.Fields.{is_db}
@@ -9,7 +10,6 @@ use Rattle.ct_rules_node.specs.Turn.{Turn, begins, makes}
 use Rattle.ct_cluster.specs.Cluster.{Cluster, is_up, node_at, pending}
 use Rattle.ct_cluster.specs.Labels.{Label}
 use Rattle.ct_cluster.specs.Steps.{put}
-use Rattle.ct_register.specs.Legal.{db_of, key_of}
 use Rattle.ct_law_world.specs.World as law
 use Rattle.ct_law_shown.specs.Shown.{Era, labels_of, Schedules}
 use Rattle.ct_law_node.proofs.Pending.{Callers}

@@ -1,5 +1,6 @@
 -- A lock, a read, a write or a function on a record, that is not refused: the cluster goes on.
 use Rattle.std.proofs.Common.{◌≡◌, ℕ, ◌+◌, ◌<◌, true, false, List, [], ◌∷◌, ◌++◌, length, None, sym, ap, ◌∙◌, subst}
+use Rattle.ct_msg.specs.Client.{db_of, key_of}
 use Rattle.ct_msg.specs.declared.client.ClientOp.{ClientOp}
 use Rattle.ct_msg.specs.declared.config.Config.{Config}
 use Rattle.ct_frame.specs.Fields.{is_db}
@@ -12,7 +13,6 @@ use Rattle.ct_rules_node.specs.Clients.{refusal, client, serves}
 use Rattle.ct_cluster.specs.Cluster.{Cluster, is_up, node_at, pending}
 use Rattle.ct_cluster.specs.Labels.{Label}
 use Rattle.ct_cluster.specs.Steps.{put}
-use Rattle.ct_register.specs.Legal.{db_of, key_of}
 use Rattle.ct_law_world.specs.World as law
 use Rattle.ct_law_world.specs.World.{may_want}
 use Rattle.ct_law_shown.specs.Shown.{Era, labels_of, Schedules}

@@ -4,6 +4,7 @@ use Rattle.std.specs.Prelude.{nat_lt, is_none, ◌||◌}
 use Rattle.std.specs.List.{list_all}
 use Rattle.std.proofs.lemmas.Bool.{and_from, or_parts, ltb-false, lt-ltb}
 use Rattle.ct_bytes.specs.declared.address.Address.{Address}
+use Rattle.ct_msg.specs.Client.{db_of, key_of, wants_record}
 use Rattle.ct_msg.specs.Config.{config_fault}
 use Rattle.ct_msg.specs.declared.client.Answer.TheVariants as answer
 use Rattle.ct_msg.specs.declared.client.ClientOp.{ClientOp}
@@ -21,7 +22,7 @@ use Rattle.ct_rules.specs.declared.state.Wish.{Wish}
 use Rattle.ct_rules_node.specs.Node as node
 use Rattle.ct_rules_node.specs.Node.{Node, has_records}
 use Rattle.ct_rules_node.specs.Refusals.{refused_if, first_of}
-use Rattle.ct_rules_node.specs.Clients.{refusal, call_pending, pending_of, already_locked, not_locked, not_serving, commit_pending, no_such_call, full, no_such_db, wrong_kind, wants_record, db_of, key_of}
+use Rattle.ct_rules_node.specs.Clients.{refusal, call_pending, pending_of, already_locked, not_locked, not_serving, commit_pending, no_such_call, full, no_such_db, wrong_kind}
 use Rattle.ct_cluster.specs.Cluster.{numbers, everyone}
 use Rattle.ct_promise.specs.Promises.{IsConfig}
 use Rattle.ct_law_shown.specs.Shown.{is_telling}

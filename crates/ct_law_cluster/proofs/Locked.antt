@@ -1,5 +1,6 @@
 -- A store or an unlock of a record, that is not refused: the cluster goes on.
 use Rattle.std.proofs.Common.{◌≡◌, ℕ, ◌+◌, ◌<◌, true, false, List, [], ◌∷◌, ◌++◌, length, None, refl, sym, ap, ◌∙◌, subst}
+use Rattle.ct_msg.specs.Client.{db_of, is_read}
 use Rattle.ct_msg.specs.declared.client.ClientOp.{ClientOp}
 use Rattle.ct_msg.specs.declared.client.ClientOp.TheVariants as op
 use Rattle.ct_msg.specs.declared.config.Config.{Config}
@@ -35,12 +36,12 @@ client_goes c era rules who w n asked u labels es h sched up is g =
 
 -- the database of a store that is not refused has records
 store_kind : (c : Config) (rules : Rules) (db : ℕ) (key v : List ℕ) (w : Cluster) (n : ℕ) → refusal c rules (node_at n w) (op.Store db key v) ≡ None → has_records (kind_at c db) ≡ true
-unfolding clients.db_of clients.is_commit clients.is_read
+unfolding clients.is_commit is_read
 store_kind c rules db key v w n free = has_database c (node_at n w) (op.Store db key v) (admits c rules (node_at n w) (op.Store db key v) free) refl refl
 
 -- and of an unlock
 unlock_kind : (c : Config) (rules : Rules) (db : ℕ) (key : List ℕ) (w : Cluster) (n : ℕ) → refusal c rules (node_at n w) (op.Unlock db key) ≡ None → has_records (kind_at c db) ≡ true
-unfolding clients.db_of clients.is_commit clients.is_read
+unfolding clients.is_commit is_read
 unlock_kind c rules db key w n free = has_database c (node_at n w) (op.Unlock db key) (admits c rules (node_at n w) (op.Unlock db key) free) refl refl
 
 -- a store

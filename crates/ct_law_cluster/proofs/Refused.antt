@@ -1,6 +1,7 @@
 -- A call that is refused: the node stays as it was, and no record's world sees it.
 use Rattle.std.proofs.Common.{◌≡◌, ℕ, Bool, true, false, cond, ◌&&◌, List, [], ◌∷◌, ◌++◌, refl, ap, ◌∙◌}
 use Rattle.std.proofs.lemmas.Bool.{eq-eqb}
+use Rattle.ct_msg.specs.Client.{db_of, key_of}
 use Rattle.ct_msg.specs.declared.client.Answer.TheVariants as answer
 use Rattle.ct_msg.specs.declared.client.ClientOp.{ClientOp}
 use Rattle.ct_msg.specs.declared.client.Why.{Why}
@@ -11,7 +12,6 @@ use Rattle.ct_cluster.specs.Cluster.{Cluster, node_at, pending}
 use Rattle.ct_cluster.specs.Labels.{Answered}
 use Rattle.ct_cluster.specs.Steps.{frames_of}
 use Rattle.ct_law_shown.specs.Waiting.{answered}
-use Rattle.ct_register.specs.Legal.{db_of, key_of}
 use Rattle.ct_law_world.specs.Labels as law
 use Rattle.ct_law_shown.specs.Shown.{Era, is_it, mails, is_telling, told_of, told_by, told_by_all, heard, labels_of}
 use Rattle.ct_law_node.proofs.Pending.{Callers}

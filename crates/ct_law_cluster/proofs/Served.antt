@@ -1,6 +1,7 @@
 -- A call on a record that is not refused is a step at that record.
 use Rattle.std.proofs.Common.{◌≡◌, ℕ, Bool, true, false, cond, List, None, refl, ap, arith}
 use Rattle.std.specs.Prelude.{is_none}
+use Rattle.ct_msg.specs.Client.{db_of, is_read}
 use Rattle.ct_msg.specs.declared.client.ClientOp.{ClientOp}
 use Rattle.ct_msg.specs.declared.client.ClientOp.TheVariants as op
 use Rattle.ct_msg.specs.declared.client.Why.TheVariants as why
@@ -13,7 +14,7 @@ use Rattle.ct_rules_node.specs.Turn.{Turn, begins, makes}
 use Rattle.ct_rules_node.specs.Databases.{read_pair}
 use Rattle.ct_rules_node.specs.Records.{at_record}
 use Rattle.ct_rules_node.specs.Refusals.{refused_if}
-use Rattle.ct_rules_node.specs.Clients.{refusal, client, serves_or, serves, reads, unlocks, no_such_db, db_of, is_commit, wrong_kind, is_read}
+use Rattle.ct_rules_node.specs.Clients.{refusal, client, serves_or, serves, reads, unlocks, no_such_db, is_commit, wrong_kind}
 use Rattle.ct_rules_node.proofs.Refusals.{not_refused}
 use Rattle.ct_law_cluster.proofs.Admitted.{Admits}
 use Rattle.ct_law_cluster.proofs.Configured.{has_kind}

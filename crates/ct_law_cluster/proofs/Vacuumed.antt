@@ -10,6 +10,7 @@ use Rattle.std.specs.Ordering.{nat_cmp}
 use Rattle.std.specs.declared.cmp.Ordering.TheVariants.{Less}
 use Rattle.std.proofs.lemmas.Map.Keys.{IsStrictlyIncreasing-from_sorted}
 use Rattle.ct_bytes.specs.Words.{others}
+use Rattle.ct_msg.specs.Client.{db_of, key_of}
 use Rattle.ct_msg.specs.declared.client.Answer.{Answer}
 use Rattle.ct_msg.specs.declared.client.ClientOp.{ClientOp}
 use Rattle.ct_msg.specs.declared.config.Config.{Config}
@@ -36,7 +37,6 @@ use Rattle.ct_cluster.specs.Labels.{Label, Answered}
 use Rattle.ct_cluster.specs.Steps as steps
 use Rattle.ct_law_shown.specs.Waiting.{answered}
 use Rattle.ct_cluster.specs.declared.step.PendingCall.{PendingCall}
-use Rattle.ct_register.specs.Legal.{db_of, key_of}
 use Rattle.ct_law_world.specs.World.{Scene, View, World, Vacuums, happens, put, last, trace, place, starts, own_call, waiting_call}
 use Rattle.ct_law_world.specs.World as law
 use Rattle.ct_law_shown.specs.Shown.{Era, scene, view, heard, told_by_all, labels_of, project, amid, Finds, Follows, Schedules}

@@ -1,12 +1,15 @@
 -- Each client call, and what the location master does, keeps the invariant.
 use Rattle.std.proofs.Common.{◌≡◌, ◌≢◌, ℕ, ◌+◌, ◌≤◌, Bool, true, false, Option, Some, None, List, [], ◌∷◌, refl, sym, ap, ◌∙◌, inl, inr, ⊎_elim, arith, subst, ◌&&◌, ◌||◌, cond}
 use Rattle.std.proofs.lemmas.Bool.{and_parts, cond_both, false_from_ne_true, or_cases}
+use Rattle.ct_bytes.proofs.Words.{nil_is}
+use Rattle.ct_bytes.specs.Words.{is_nil}
+use Rattle.ct_msg.specs.Client.{is_read}
 use Rattle.ct_law_fact.proofs.Invariant.{span_of, Start, Asked, readers_of, is_revoking, Ghost, RefuseAt, Says, Holds, Kept}
 use Rattle.ct_law_fact.proofs.Nodes.{NodeInv-called, called}
 use Rattle.ct_law_change.proofs.Holder.{NodeInv-shift, NodeInv-holding, held, holding}
 use Rattle.ct_law_world.specs.Marked.{is_removed}
 use Rattle.ct_law_change.proofs.Markings.{grows_top, goes_on, marking_top}
-use Rattle.ct_law_change.proofs.Parts.{idle_none, nil_none, tracks, change_tracks, global_tracks, granted_to, granted_end, shift_to, nobody_has}
+use Rattle.ct_law_change.proofs.Parts.{idle_none, tracks, change_tracks, global_tracks, granted_to, granted_end, shift_to, nobody_has}
 use Rattle.ct_law_change.proofs.Acts.{send_holds, node_holds, own_holds, Others, owner_me, see_holds, satisfy_holds, revoke_holds}
 use Rattle.ct_law_change.proofs.Small.{reads_is_read}
 use Rattle.ct_law_change.proofs.Revoking.{owned_none}
@@ -14,7 +17,7 @@ use Rattle.std.specs.Prelude.{List}
 use Rattle.ct_msg.specs.declared.client.Answer.TheVariants as answer
 use Rattle.ct_call.specs.Rules.{Rules}
 use Rattle.ct_deleg.specs.Tracked.{Revocation}
-use Rattle.ct_rules.specs.State.{is_nil, is_read_op, kind_of}
+use Rattle.ct_rules.specs.State.{kind_of}
 use Rattle.ct_rules.specs.declared.state.Entry.{Entry}
 use Rattle.ct_rules.specs.declared.state.Waiter.{Waiter}
 use Rattle.ct_law_world.specs.Labels.{Told}
@@ -73,14 +76,14 @@ module _ (rules : Rules) (ps : List ℕ) (m me : ℕ) (nodes : ℕ → Node) (fr
       Kept rules ps m me nodes frames r (cond (is_nil o.node.tracked) (satisfy rules me op.real o) (wait_for_copies me op o))
   unfolding Rule.wish_kept wait_for_copies
   hold_want op g o none_now writes unlocked here calm h = cond_both (is_nil o.node.tracked) _ _ (Kept rules ps m me nodes frames r)
-      (λ t. (let none = nil_none _ t in satisfy_holds rules ps m me nodes frames r op.real g o none_now here unlocked none (h.good.mine.quiet none) calm h))
+      (λ t. (let none = nil_is _ t in satisfy_holds rules ps m me nodes frames r op.real g o none_now here unlocked none (h.good.mine.quiet none) calm h))
       (λ some. cond_both (is_idle o.node.revoking) _ _ (Kept rules ps m me nodes frames r)
       (λ i. revoke_holds rules ps m me nodes frames r (Some (record { request = 0; op = op })) g o some here unlocked (idle_none _ i) calm
       (λ w e. inr ((let k : record { request = 0; op = op } ≡ w = cc in ap (λ (x : Wish). x.request) (sym k)), (let k : record { request = 0; op = op } ≡ w = cc in ap (λ (x : Wish). reads_op x.op) (sym k) ∙ writes))) h)
       (λ i. wait_holds op g o writes unlocked here calm h))
 
   -- who has a copy that may be read, reads it
-  read_holds : (op : Op) (g : Ghost) (o : Out) → is_read_op op.real ≡ true → (is_here o.node.copy || is_reading o.node.copy) ≡ true → Holds rules ps m me nodes frames r g o → Kept rules ps m me nodes frames r (tell (Told me op.real (answer.Read (value_of o.node.copy))) o)
+  read_holds : (op : Op) (g : Ghost) (o : Out) → is_read op.real ≡ true → (is_here o.node.copy || is_reading o.node.copy) ≡ true → Holds rules ps m me nodes frames r g o → Kept rules ps m me nodes frames r (tell (Told me op.real (answer.Read (value_of o.node.copy))) o)
   read_holds op g o read t h = ⊎_elim
       (λ (here : is_here o.node.copy ≡ true). (let at = h.good.mine.here here in let k = h.good.mine.holds at.0 at.1 in
       let y : Kept rules ps m me nodes frames r (tell (Told me op.real (answer.Read (value_of o.node.copy))) o) = (_, see_holds rules ps m me nodes frames r g o k.0 (owner_me rules ps m me nodes frames r g o.node h.good here) op.real read (value_of o.node.copy) k.1 h) in y))
@@ -88,15 +91,15 @@ module _ (rules : Rules) (ps : List ℕ) (m me : ℕ) (nodes : ℕ → Node) (fr
       (_, see_holds rules ps m me nodes frames r g o k.2 (λ n own. absurd (nobody_has me g.readers (owned_none rules ps m me nodes frames r g o n own h) k.0)) op.real read (value_of o.node.copy) k.1 h)))
       (or_cases _ _ t)
 
-  writes_else : (op : Op) (g : Ghost) (o : Out) → (is_read_op op.real && (is_here o.node.copy || is_reading o.node.copy)) ≡ false → is_here o.node.copy ≡ true → (is_read_op op.real ≡ false) × (reads_op op ≡ false)
+  writes_else : (op : Op) (g : Ghost) (o : Out) → (is_read op.real && (is_here o.node.copy || is_reading o.node.copy)) ≡ false → is_here o.node.copy ≡ true → (is_read op.real ≡ false) × (reads_op op ≡ false)
   writes_else op g o t here =
-      let r : is_read_op op.real ≡ false = false_from_ne_true _ (λ a. (let z : (is_read_op op.real && (is_here o.node.copy || is_reading o.node.copy)) ≡ true = rw (a, here) refl in cc)) in
+      let r : is_read op.real ≡ false = false_from_ne_true _ (λ a. (let z : (is_read op.real && (is_here o.node.copy || is_reading o.node.copy)) ≡ true = rw (a, here) refl in cc)) in
       (r, false_from_ne_true _ (λ a. (let z = reads_is_read op a in cc)))
 
-  pub want_of_holds : (op : Op) (g : Ghost) (o : Out) → o.node.wish ≡ None → (is_read_op op.real ≡ false → o.node.locked ≡ false) → (is_here o.node.copy ≡ true → g.vacuum ≡ None) → Holds rules ps m me nodes frames r g o → Kept rules ps m me nodes frames r (Rule.want_of rules me m op o)
+  pub want_of_holds : (op : Op) (g : Ghost) (o : Out) → o.node.wish ≡ None → (is_read op.real ≡ false → o.node.locked ≡ false) → (is_here o.node.copy ≡ true → g.vacuum ≡ None) → Holds rules ps m me nodes frames r g o → Kept rules ps m me nodes frames r (Rule.want_of rules me m op o)
   unfolding Rule.want_of
-  want_of_holds op g o none_now unlocked calm h = cond_both (is_read_op op.real && (is_here o.node.copy || is_reading o.node.copy)) _ _ (Kept rules ps m me nodes frames r)
-      (λ t. (let p = and_parts (is_read_op op.real) (is_here o.node.copy || is_reading o.node.copy) t in read_holds op g o p.0 p.1 h))
+  want_of_holds op g o none_now unlocked calm h = cond_both (is_read op.real && (is_here o.node.copy || is_reading o.node.copy)) _ _ (Kept rules ps m me nodes frames r)
+      (λ t. (let p = and_parts (is_read op.real) (is_here o.node.copy || is_reading o.node.copy) t in read_holds op g o p.0 p.1 h))
       (λ f. cond_both (is_here o.node.copy) _ _ (Kept rules ps m me nodes frames r)
       (λ here. (let w = writes_else op g o f here in hold_want op g o none_now w.1 (unlocked w.0) here (calm here) h))
       (λ away. call_holds op g o away h))

@@ -1,6 +1,7 @@
 -- Each frame that comes keeps the invariant, but for those of the vacuum.
 use Rattle.std.proofs.Common.{◌≡◌, ◌≢◌, ◌⊎◌, ℕ, ◌+◌, ◌-◌, ◌<◌, ◌≤◌, Bool, true, false, Option, Some, None, List, [], ◌∷◌, ◌++◌, refl, sym, ap, ◌∙◌, inl, inr, ⊎_elim, arith, subst, not, ◌&&◌, ◌==◌, nat_lt, nat_le, eqb-true, ltb-false, leb-true}
 use Rattle.std.proofs.lemmas.Bool.{and_parts, cond_both, cases_eq, eq-eqb, eqb-false, false_from_ne_true}
+use Rattle.ct_msg.specs.Client.{is_read}
 use Rattle.ct_law_fact.proofs.Invariant.{Start, Asked, Waits, Recalled, Ghost, PassAt, GiveAt, RefuseAt, Says, NodeInv, Holds, Kept, default_entry}
 use Rattle.ct_law_fact.proofs.Nodes.{NodeInv-queue, each_asked, asked_rest, asked_first}
 use Rattle.ct_law_fact.proofs.Copies.{NodeInv-moved, moved}
@@ -18,7 +19,7 @@ use Rattle.ct_msg.specs.declared.client.Answer.TheVariants as answer
 use Rattle.ct_msg.specs.declared.client.ClientOp.TheVariants as op
 use Rattle.ct_frame.specs.declared.frame.CallKind.{CallKind}
 use Rattle.ct_call.specs.Rules.{Rules}
-use Rattle.ct_rules.specs.State.{is_read_op, is_read_kind, kind_of}
+use Rattle.ct_rules.specs.State.{is_read_kind, kind_of}
 use Rattle.ct_rules.specs.declared.state.Entry.{Entry}
 use Rattle.ct_rules.specs.declared.state.RecallNote.{RecallNote}
 use Rattle.ct_rules.specs.declared.state.Waiter.{Waiter}
@@ -386,7 +387,7 @@ module _ (rules : Rules) (ps : List ℕ) (m me : ℕ) (nodes : ℕ → Node) (fr
       let asked : q ≢ 0 = ⊎_elim (λ (e : x ≡ me). (came.0 e).1) (λ (ne : x ≢ me). (came.1 x ne refl).1) (cases_eq x me) in
       on_call_of_holds x q k p.0 (Rule.opened me (end_vacuum o)) (Rule.opened me (end_vacuum o)).node.entry refl at asked ((λ e. (let j = came.0 e in (rw p.4 j.0, j.1))), came.1) p.1
 
-  pub want_holds : (op : Op) (g : Ghost) (o : Out) → o.node.wish ≡ None → (is_read_op op.real ≡ false → o.node.locked ≡ false) → is_removed o.labels ≡ false → Holds rules ps m me nodes frames r g o → Kept rules ps m me nodes frames r (Rule.want rules me m op o)
+  pub want_holds : (op : Op) (g : Ghost) (o : Out) → o.node.wish ≡ None → (is_read op.real ≡ false → o.node.locked ≡ false) → is_removed o.labels ≡ false → Holds rules ps m me nodes frames r g o → Kept rules ps m me nodes frames r (Rule.want rules me m op o)
   unfolding Rule.want
   want_holds op g o none_now free kept h = cond_both (me == m && not o.node.locked) (Rule.opened me (end_vacuum o)) o (λ x. Kept rules ps m me nodes frames r (Rule.want_of rules me m op x))
       (λ t. (let q = and_parts (me == m) (not o.node.locked) t in let p = opened_holds g o (eqb-true me m q.0) kept h in want_of_holds rules ps m me nodes frames r op p.0 (Rule.opened me (end_vacuum o)) (p.5 ∙ none_now) (λ w. p.3 ∙ free w) (λ _. p.2) p.1))

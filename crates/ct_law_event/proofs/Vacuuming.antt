@@ -1,13 +1,14 @@
 -- The frames of a vacuum, and the vacuum event.
 use Rattle.std.proofs.Common.{◌≡◌, ◌≢◌, ℕ, ◌+◌, ◌<◌, ◌≤◌, true, false, Option, Some, None, List, [], ◌∷◌, take, refl, sym, ap, ◌∙◌, inl, inr, ⊎_elim, arith, subst, ◌&&◌, ◌==◌, eqb-true}
 use Rattle.std.proofs.lemmas.Bool.{and_parts, cond_both, cases_eq, eq-eqb, eqb-false, false_from_ne_true}
-use Rattle.ct_bytes.specs.Words.{others}
+use Rattle.ct_bytes.proofs.Words.{nil_is}
+use Rattle.ct_bytes.specs.Words.{others, is_nil}
 use Rattle.ct_law_fact.proofs.Invariant.{span_of, Start, readers_of, Ghost, Past, Emptied, Joined, VStoreAt, VDeleteAt, Says, VacuumAt, NodeInv, Emptying, GlobalInv, Holds, Kept}
 use Rattle.ct_law_fact.proofs.Nodes.{rank_of, past_none}
 use Rattle.ct_law_fact.proofs.Copies.{touched, NodeInv-raised, NodeInv-dropped, raised_past, dropped_past, lt_cases, whole_reading}
 use Rattle.ct_law_change.proofs.Holder.{Change, Shift, Own}
 use Rattle.ct_law_change.proofs.Markings.{grows_none, grows_top, marking_top, marking_deleting}
-use Rattle.ct_law_change.proofs.Parts.{nil_none, nobody_has, readers_idle, granted_end}
+use Rattle.ct_law_change.proofs.Parts.{nobody_has, readers_idle, granted_end}
 use Rattle.ct_law_change.proofs.Acts.{send_holds, node_holds, own_holds, Others, master_copy, calm_other, below_top, give_holds, free_parts}
 use Rattle.ct_law_change.proofs.Revoking.{risen_is, Came}
 use Rattle.ct_law_event.proofs.Finish.{finish_holds}
@@ -18,7 +19,6 @@ use Rattle.ct_deleg.specs.Tracked.{Revocation}
 use Rattle.ct_vacuum.specs.Vacuum.{Vacuuming, vacuum_begun, is_in, done_by, ends_phase, stored, deleting as in_deleting}
 use Rattle.ct_vacuum.specs.declared.vacuum.VacuumPhase.{VacuumPhase}
 use Rattle.ct_vacuum.specs.declared.vacuum.VacuumPhase.TheVariants.{Storing, Deleting}
-use Rattle.ct_rules.specs.State.{is_nil}
 use Rattle.ct_register.specs.Register.{Register, reading}
 use Rattle.ct_law_fact.proofs.Rule
 use Rattle.ct_law_fact.proofs.Rule.{is_storing, risen, Copy, Frame, Here, Node, Out, VDelete, VDeleted, VStore, VStored, drop_copy, greater, has_node, is_free, is_here, raise_copy, rank, rsn_of, send_all, value_of, with_node}
@@ -444,7 +444,7 @@ module _ (rules : Rules) (ps : List ℕ) (m me : ℕ) (nodes : ℕ → Node) (fr
       let p4 = and_parts (is_free o.node && is_nil (value_of o.node.copy)) (is_nil o.node.tracked) p3.0 in
       let p5 = and_parts (is_free o.node) (is_nil (value_of o.node.copy)) p4.0 in
       let free = free_parts rules ps m me nodes frames r o.node p5.0 in
-      let untracked = nil_none _ p4.1 in
+      let untracked = nil_is _ p4.1 in
       cond_both (me == m) _ _ (Kept rules ps m me nodes frames r)
       (λ at. (let is = eqb-true me m at in subst (λ (l : List ℕ). Kept rules ps m me nodes frames r (Rule.vacuum_of me l o o.node.vacuum)) (sym (all_are is)) (vacuum_of_holds g o o.node.vacuum peers refl is (free.0, free.1, untracked, free.2) (empty_value _ p5.1) (outside is) h)))
       (λ ne. give_holds rules ps m me nodes frames r g o free.0 free.1 untracked free.2 (calm_other rules ps m me nodes frames r g o.node h.good free.0 (eqb-false me m ne)) h))

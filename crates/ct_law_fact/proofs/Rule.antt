@@ -1,7 +1,8 @@
 -- One record as its law sees it: the rules of ct_rules, part by part, over what the facts of the law speak of.
 use Rattle.std.specs.Prelude.{ℕ, ◌+◌, ◌-◌, Bool, true, false, not, ◌&&◌, ◌||◌, ◌==◌, nat_lt, nat_le, if◌then◌else◌, Option, Some, None, is_none, List, [], ◌∷◌, ◌++◌, Result, Ok, Err}
 use Rattle.std.specs.List.{list_any}
-use Rattle.ct_bytes.specs.Words.{others}
+use Rattle.ct_bytes.specs.Words.{others, is_nil}
+use Rattle.ct_msg.specs.Client.{is_read}
 use Rattle.ct_deleg.specs.Awaited.{including}
 use Rattle.ct_msg.specs.declared.client.Answer.TheVariants as answer
 use Rattle.ct_msg.specs.declared.client.ClientOp.{ClientOp}
@@ -17,7 +18,7 @@ use Rattle.ct_deleg.specs.Tracked.{Revocation}
 use Rattle.ct_vacuum.specs.Vacuum.{Vacuuming, vacuum_begun, ends_phase, stored, deleted}
 use Rattle.ct_vacuum.specs.declared.vacuum.VacuumPhase.{VacuumPhase}
 use Rattle.ct_vacuum.specs.declared.vacuum.VacuumPhase.TheVariants.{Storing, Deleting}
-use Rattle.ct_rules.specs.State.{is_nil, is_read_op, is_read_kind, kind_of}
+use Rattle.ct_rules.specs.State.{is_read_kind, kind_of}
 use Rattle.ct_rules.specs.Messages.{is_request, same_recall}
 use Rattle.ct_rules.specs.declared.state.Entry.{Entry}
 use Rattle.ct_rules.specs.declared.state.RecallNote.{RecallNote}
@@ -157,9 +158,6 @@ risen (Some c) = Some (record c { rsn = c.rsn + 1 })
 
 unfoldable pub reads_op : Op → Bool
 reads_op o = is_read_kind (kind_of o.readonly o.real)
-
-unfoldable pub is_read : Op → Bool
-is_read o = is_read_op o.real
 
 unfoldable pub is_idle : Option Revocation → Bool
 is_idle None = true
@@ -328,7 +326,7 @@ wait_for_copies me op o = if is_idle o.node.revoking then revoke me (wish_kept o
 -- Want, once the location master has an entry
 unfoldable pub want_of : Rules → ℕ → ℕ → Op → Out → Out
 want_of rules me master op o =
-    if is_read_op op.real && (is_here o.node.copy || is_reading o.node.copy)
+    if is_read op.real && (is_here o.node.copy || is_reading o.node.copy)
     then tell (Told me op.real (answer.Read (value_of o.node.copy))) o
     else (if is_here o.node.copy
     then (if is_nil o.node.tracked then satisfy rules me op.real o else wait_for_copies me op o)

@@ -1,6 +1,7 @@
 -- A store, an unlock and a read at a node that freezes, each as a whole turn.
 use Rattle.std.proofs.Common.{◌≡◌, ◌≢◌, ℕ, ◌+◌, ◌<◌, Bool, true, false, cond, ◌||◌, List, [], ◌∷◌, ◌++◌, length, Option, None, Some, inl, inr, ⊎_elim, refl, sym, ap, ◌∙◌, subst, arith}
 use Rattle.std.proofs.lemmas.Bool.{cases_eq, eq-eqb}
+use Rattle.ct_msg.specs.Client.{db_of}
 use Rattle.ct_msg.specs.declared.client.ClientOp.TheVariants as op
 use Rattle.ct_msg.specs.declared.config.Config.{Config}
 use Rattle.ct_frame.specs.declared.event.Event.TheVariants as event
@@ -111,9 +112,9 @@ plain_kind (Some Volatile) e = refl
 plain_kind (Some ReadOnly) e = refl
 plain_kind (Some Persistent) e = absurd (cc)
 
-spoken : (c : Config) (n : ℕ) (asked : ClientOp) (a : Answer) → has_records (kind_at c (legal.db_of asked)) ≡ true → record_labels c (Answered n asked a ∷ []) ≡ Answered n asked a ∷ []
+spoken : (c : Config) (n : ℕ) (asked : ClientOp) (a : Answer) → has_records (kind_at c (db_of asked)) ≡ true → record_labels c (Answered n asked a ∷ []) ≡ Answered n asked a ∷ []
 unfolding speaks_of_records
-spoken c n asked a kind = ap (λ (b : Bool). cond (not b) (Answered n asked a ∷ []) []) (plain_kind (kind_at c (legal.db_of asked)) kind)
+spoken c n asked a kind = ap (λ (b : Bool). cond (not b) (Answered n asked a ∷ []) []) (plain_kind (kind_at c (db_of asked)) kind)
 
 same_rsn : (v : List ℕ) (o : Option RecCopy) → rsn_of (with_value v o) ≡ rsn_of o
 unfolding with_value rsn_of

@@ -3,6 +3,7 @@ use Rattle.std.proofs.Common.{◌≡◌, ◌≢◌, ℕ, ◌<◌, ◌^◌, Bool,
 use Rattle.std.specs.Prelude.{nat_eq, is_some, is_none}
 use Rattle.std.specs.List.{list_all}
 use Rattle.std.proofs.lemmas.Bool.{cases_eq, ne_eqb, eq-eqb}
+use Rattle.ct_msg.specs.Client.{is_read, wants_record}
 use Rattle.ct_msg.specs.declared.client.Answer.{Answer}
 use Rattle.ct_msg.specs.declared.client.Answer.TheVariants as answer
 use Rattle.ct_msg.specs.declared.client.ClientOp.{ClientOp}
@@ -10,8 +11,7 @@ use Rattle.ct_msg.specs.declared.client.ClientOp.TheVariants as op
 use Rattle.ct_msg.specs.declared.config.Config.{Config}
 use Rattle.ct_frame.specs.Fields.{is_node}
 use Rattle.ct_call.specs.Rules.{Rules}
-use Rattle.ct_rules.specs.State.{rsn_of, value_of, with_value, is_mastered, is_read_op}
-use Rattle.ct_rules.specs.Form.{is_wanting}
+use Rattle.ct_rules.specs.State.{rsn_of, value_of, with_value, is_mastered}
 use Rattle.ct_rules.specs.Parts.{performs, reply, keeps}
 use Rattle.ct_rules.specs.Moves.{store, release}
 use Rattle.ct_rules.specs.declared.event.Act.TheVariants as act
@@ -79,7 +79,7 @@ releases_so s w n call member there locked = chosen (is_some (w.nodes n).state.l
 
 pub reads_so : (s : Scene) (w : World) (n call : ℕ) → is_among n s.members ≡ true → w.joined n ≡ true → is_none (w.nodes n).state.locked ≡ false → is_none (w.nodes n).state.wish ≡ true → is_mastered n (w.nodes n).state.copy ≡ true →
     Holds_so s w n (Wants n call (op.Read s.db s.key)) (w.nodes n).state (op.Read s.db s.key) (answer.Read (value_of (w.nodes n).state.copy))
-unfolding may_want is_wanting is_read_op reply keeps performs
+unfolding may_want wants_record is_read reply keeps performs
 reads_so s w n call member there locked free mine =
     chosen (may_want (w.nodes n).state (op.Read s.db s.key)) _ _ (ap (λ (b : Bool). true && b && true) free)
     ∙ ap (put s w n (own_call call (op.Read s.db s.key))) (locked_read (place s n (w.nodes n)) s.rules call s.db s.key (starts (w.nodes n)) locked mine)

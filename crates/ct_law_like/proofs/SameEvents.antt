@@ -2,7 +2,7 @@
 use Rattle.std.proofs.Common.{◌≡◌, ◌≢◌, ℕ, ◌+◌, Bool, true, false, cond, Option, Some, None, List, [], ◌∷◌, refl, sym, ap, ◌∙◌, arith, not, ◌&&◌, ◌==◌, nat_lt, nat_le, eqb-true}
 use Rattle.std.proofs.lemmas.Bool.{ne_eqb}
 use Rattle.std.specs.Prelude.{is_none, is_some, nat_eq}
-use Rattle.ct_bytes.specs.Words.{others, is_nil as is_none_left}
+use Rattle.ct_bytes.specs.Words.{others, is_nil}
 use Rattle.ct_msg.specs.declared.client.Answer.TheVariants as answer
 use Rattle.ct_msg.specs.declared.client.ClientOp.{ClientOp}
 use Rattle.ct_msg.specs.declared.client.ClientOp.TheVariants as op
@@ -11,7 +11,7 @@ use Rattle.ct_frame.specs.declared.frame.Msg.TheVariants as msg
 use Rattle.ct_frame.specs.declared.header.RecCopy.{RecCopy}
 use Rattle.ct_call.specs.Rules.{Rules}
 use Rattle.ct_rules.specs.State
-use Rattle.ct_rules.specs.State.{is_nil, nobody, for_reading, a_copy, is_read_kind, kind_of}
+use Rattle.ct_rules.specs.State.{nobody, for_reading, a_copy, is_read_kind, kind_of}
 use Rattle.ct_rules.specs.Parts
 use Rattle.ct_rules.specs.Parts.{Moving}
 use Rattle.ct_rules.specs.declared.event.Place.{Place}
@@ -141,7 +141,7 @@ module _ (at : Place) (asks : ℕ → Option ClientOp) (ne : at.me ≢ nobody) w
   like_ended rules o t held fine = like_end_revocation at asks ne rules (Parts.keeps (record o.state { tracking = t }) o) held fine
 
   ack_cases : (rules : Rules) (n rsn : ℕ) (o : Moving) (v : Revocation) (b : Bool) (l : List ℕ) → nat_eq v.rsn rsn ≡ b → State.is_mastered at.me o.state.copy ≡ true → FineAt at asks o →
-      out_of at asks (cond (b && is_none_left l) (Parts.end_revocation at rules (Parts.keeps (record o.state { tracking = cond b (awaiting rsn l o.state.tracking) o.state.tracking }) o)) (Parts.keeps (record o.state { tracking = cond b (awaiting rsn l o.state.tracking) o.state.tracking }) o)) ≡
+      out_of at asks (cond (b && is_nil l) (Parts.end_revocation at rules (Parts.keeps (record o.state { tracking = cond b (awaiting rsn l o.state.tracking) o.state.tracking }) o)) (Parts.keeps (record o.state { tracking = cond b (awaiting rsn l o.state.tracking) o.state.tracking }) o)) ≡
       cond b (cond (is_nil l) (Rule.end_revocation rules at.me at.lmaster (out_of at asks o)) (Rule.with_node (record (out_of at asks o).node { revoking = Some (record v { missing = l }) }) (out_of at asks o))) (out_of at asks o)
   unfolding Parts.keeps Rule.with_node
   ack_cases rules n rsn o v false l is held fine = refl

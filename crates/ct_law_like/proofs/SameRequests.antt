@@ -2,6 +2,8 @@
 use Rattle.std.proofs.Common.{◌≡◌, ◌≢◌, ℕ, true, false, Option, Some, None, List, [], ◌∷◌, refl, sym, ap, ◌∙◌, arith, ◌&&◌, ◌||◌, ◌==◌, nat_lt, eqb-true}
 use Rattle.std.proofs.lemmas.Bool.{cond_both, and_parts, ne_eqb}
 use Rattle.std.specs.Prelude.{is_none, nat_eq, Result, Ok, Err}
+use Rattle.ct_bytes.specs.Words.{is_nil}
+use Rattle.ct_msg.specs.Client.{is_read}
 use Rattle.ct_msg.specs.declared.client.Answer.TheVariants as answer
 use Rattle.ct_msg.specs.declared.client.ClientOp.{ClientOp}
 use Rattle.ct_msg.specs.declared.client.ClientOp.TheVariants as op
@@ -13,7 +15,7 @@ use Rattle.ct_call.specs.Table.{applied}
 use Rattle.ct_call.specs.declared.fault.CallFault.{CallFault}
 use Rattle.ct_call.specs.declared.fault.CallFault.TheVariants as fault
 use Rattle.ct_rules.specs.State
-use Rattle.ct_rules.specs.State.{is_nil, nobody, plain, for_reading, a_copy, is_read_op, is_read_kind}
+use Rattle.ct_rules.specs.State.{nobody, plain, for_reading, a_copy, is_read_kind}
 use Rattle.ct_rules.specs.Parts
 use Rattle.ct_rules.specs.Parts.{Moving}
 use Rattle.ct_rules.specs.declared.event.Place.{Place}
@@ -145,8 +147,8 @@ module _ (at : Place) (asks : ℕ → Option ClientOp) (ne : at.me ≢ nobody) w
 
   like_want_of : (rules : Rules) (call : ℕ) (asked : ClientOp) (o : Moving) → asks call ≡ Some asked → Rule.is_odd (copy_of at.me o.state.copy) ≡ false → out_of at asks (Parts.want_of at rules call asked o) ≡ Rule.want_of rules at.me at.lmaster (record { real = asked; readonly = at.readonly }) (out_of at asks o)
   unfolding Parts.want_of Rule.want_of
-  like_want_of rules call asked o is even = if_like at asks ne (is_read_op asked && (State.is_mastered at.me o.state.copy || State.is_for_reading o.state.copy)) _ _ _ _ _
-      (λ i. is_read_op asked && (mastered_like at.me o.state.copy even i || for_reading_like at.me o.state.copy even i))
+  like_want_of rules call asked o is even = if_like at asks ne (is_read asked && (State.is_mastered at.me o.state.copy || State.is_for_reading o.state.copy)) _ _ _ _ _
+      (λ i. is_read asked && (mastered_like at.me o.state.copy even i || for_reading_like at.me o.state.copy even i))
       (λ _. like_reply at asks call asked _ o is ∙ ap (λ v. Rule.tell (Told at.me asked (answer.Read v)) (out_of at asks o)) (value_like at.me o.state.copy))
       (λ _. if_like at asks ne (State.is_mastered at.me o.state.copy) _ _ _ _ _ (mastered_like at.me o.state.copy even)
       (λ held. if_like at asks ne (is_nil o.state.tracking.tracked) _ _ _ _ _ refl (λ _. like_satisfy at asks ne rules call asked o is) (λ _. like_wait_for_copies call asked o held even))

@@ -3,6 +3,7 @@ use Rattle.std.proofs.Common.{◌≡◌, ◌≢◌, ℕ, ◌<◌, ◌≤◌, Boo
 use Rattle.std.specs.Prelude.{nat_eq, nat_lt}
 use Rattle.std.specs.List.{list_all, list_any, AllByRecursion}
 use Rattle.std.proofs.lemmas.Bool.{cases_eq, cond_both, eqb-true, ne_eqb, and_parts}
+use Rattle.ct_msg.specs.Client.{db_of, key_of}
 use Rattle.ct_msg.specs.declared.client.ClientOp.{ClientOp}
 use Rattle.ct_msg.specs.declared.config.Config.{Config}
 use Rattle.ct_frame.specs.Fields.{ascends, is_db, is_node}
@@ -24,7 +25,6 @@ use Rattle.ct_cluster.specs.Steps.{frames_of}
 use Rattle.ct_cluster.specs.Cluster.{Cluster, Sent, node_at, pending}
 use Rattle.ct_cluster.specs.Labels.{Label, Answered}
 use Rattle.ct_cluster.specs.declared.step.PendingCall.{PendingCall}
-use Rattle.ct_register.specs.Legal.{db_of, key_of}
 use Rattle.ct_register.specs.Register.{Register}
 use Rattle.ct_law_world.specs.Labels as law
 use Rattle.ct_law_world.specs.World.{Scene, World, Event, LeadsTo, last, trace, happens, put, place, starts, view_of, told, sent, waiting_call, own_call, Stepped}

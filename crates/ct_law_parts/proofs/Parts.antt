@@ -2,6 +2,7 @@
 use Rattle.std.proofs.Common.{◌≡◌, ◌≢◌, ℕ, ◌+◌, ◌≤◌, true, false, List, [], ◌∷◌, ◌++◌, length, Option, None, Some}
 use Rattle.std.specs.Prelude.{if◌then◌else◌}
 use Rattle.std.specs.List.{filter}
+use Rattle.ct_msg.specs.Client.{db_of, key_of}
 use Rattle.ct_msg.specs.declared.client.Answer.{Answer}
 use Rattle.ct_msg.specs.declared.client.Answer.TheVariants as answer
 use Rattle.ct_msg.specs.declared.client.ClientOp.{ClientOp}
@@ -22,7 +23,7 @@ use Rattle.ct_register.specs.Placing as placing
 use Rattle.ct_register.specs.Placing.{Placing, IsPushedAlike, given_placement, take_list, IsAssigned}
 use Rattle.ct_register.specs.Lines.{Lines, with_record, with_database, with_placing, with_address, ticketed, joined, stopped}
 use Rattle.ct_register.specs.Births.{born_of}
-use Rattle.ct_register.specs.Legal.{db_of, key_of, lock_owner}
+use Rattle.ct_register.specs.Legal.{lock_owner}
 
 -- what one step leaves open: what a birth takes over of records and of databases, and how many commits a read has seen
 pub record Choice : Type 0 where

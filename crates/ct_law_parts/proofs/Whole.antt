@@ -1,6 +1,7 @@
 -- Every label is accepted where what it needs of records, of databases, of addresses and of rounds holds; and so is a list of labels.
 use Rattle.std.proofs.Common.{◌≡◌, ◌≢◌, ℕ, false, List, [], ◌∷◌, Option, None, Some, refl, inl, inr, ⊎_elim}
 use Rattle.std.specs.Prelude.{◌⊎◌}
+use Rattle.ct_msg.specs.Client.{db_of, key_of}
 use Rattle.ct_msg.specs.declared.client.Answer.TheVariants as answer
 use Rattle.ct_msg.specs.declared.client.ClientOp.TheVariants as op
 use Rattle.ct_msg.specs.declared.client.Why.TheVariants as why
@@ -13,7 +14,7 @@ use Rattle.ct_cluster.specs.Labels.{Label, Answered, Unasked, Begun, Noted, Tick
 use Rattle.ct_rules_node.specs.Node.{is_persistent, kind_at}
 use Rattle.ct_register.specs.Register.{AcceptsEnd, AcceptsVacuum, emptied, released}
 use Rattle.ct_register.specs.Lines.{Lines}
-use Rattle.ct_register.specs.Legal.{db_of, key_of, AcceptsLabel, AcceptsLabels}
+use Rattle.ct_register.specs.Legal.{AcceptsLabel, AcceptsLabels}
 use Rattle.ct_law_parts.proofs.Parts.{Choice, goes, goes_on, answer_goes, DatabasesNeed, PlacesNeed, AllNeed}
 use Rattle.ct_law_parts.proofs.Accepted.{took_accepted, released_accepted, pushed_accepted, taken_accepted, takeover_accepted, begun_accepted, committed_accepted, unsure_accepted}
 use Rattle.ct_law_parts.proofs.Rounds.{RoundsNeed, CanTake, round_accepted, installed_accepted, thawed_accepted, ticket_accepted, yielded_accepted, stopped_accepted, started_accepted}

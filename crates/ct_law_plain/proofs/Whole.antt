@@ -5,6 +5,7 @@ use Rattle.std.specs.Cmp.Lexicographic.{pointwise}
 use Rattle.std.proofs.lemmas.Bool.{eq-eqb}
 use Rattle.std.proofs.lemmas.Slice.Eq.{bytes_eq-Decides}
 use Rattle.ct_bytes.specs.Words.{others}
+use Rattle.ct_msg.specs.Client.{db_of, is_read, key_of}
 use Rattle.ct_msg.specs.declared.client.ClientOp.{ClientOp}
 use Rattle.ct_msg.specs.declared.client.ClientOp.TheVariants as op
 use Rattle.ct_msg.specs.declared.client.Pair.{Pair}
@@ -29,7 +30,7 @@ use Rattle.ct_rules_node.specs.Turn.{Turn, does, with_node, with_phase, makes, a
 use Rattle.ct_rules_node.specs.Records.{at_record}
 use Rattle.ct_rules_node.specs.Refusals.{refused_if}
 use Rattle.ct_rules_node.specs.Databases.{updates, with_commit, awaits_others, commits_at, commit, read_pair}
-use Rattle.ct_rules_node.specs.Clients.{is_commit, is_unlock, is_read, is_under_lock, is_locked, db_of, key_of, refusal, may_finish, not_serving, wrong_kind, not_locked, commit_pending, is_name_of_commit, frozen_if_unlocked, unlocks, reads, serves, serves_or, client}
+use Rattle.ct_rules_node.specs.Clients.{is_commit, is_unlock, is_under_lock, is_locked, refusal, may_finish, not_serving, wrong_kind, not_locked, commit_pending, is_name_of_commit, frozen_if_unlocked, unlocks, reads, serves, serves_or, client}
 use Rattle.ct_rules_node.specs.Rounds.{Called, want_again, want_all, thaws, pending_calls, freezes, ends_commits, on_freeze, installs, on_push, on_thaw}
 use Rattle.ct_rules_node.specs.Retries.{call_all, revoke_all, revoke_in, retry_records, retry}
 use Rattle.ct_rules_node.specs.Steps.{on_record_of, if_persistent, if_sound, if_taken_over, arrives, vacuum_all, vacuums, happens}
@@ -113,12 +114,12 @@ unfolding not_serving may_finish is_under_lock is_read refused_if
 commit_serving n db writes e = grind arith
 
 commit_locks : (c : Config) (n : Node) (db : ℕ) (writes : List Pair) → not_locked c n (op.Commit db writes) ≡ None → is_locked 0 (name_of c db) n ≡ true
-unfolding not_locked is_under_lock is_commit db_of key_of refused_if
+unfolding not_locked is_under_lock is_commit refused_if
 commit_locks c n db writes e = grind arith
 
 -- a commit that is not refused has what it needs
 under_lock : (c : Config) (rules : Rules) (n : Node) (db : ℕ) (writes : List Pair) → refusal c rules n (op.Commit db writes) ≡ None → UnderLock c db n.phase n.dbs
-unfolding wrong_kind is_commit db_of locked_in is_locked state_at db_at
+unfolding wrong_kind is_commit locked_in is_locked state_at db_at
 under_lock c rules n db writes e =
     let a = allowed c rules n (op.Commit db writes) e in
     record { kind = required (is_persistent (kind_at c db)) _ a.kind; present = serves_present n.phase (commit_serving n db writes a.serving); lock = commit_locks c n db writes a.under }
@@ -144,7 +145,7 @@ name_found c key i (d ∷ ds) (suc k) w e =
 
 -- an unlock that is not refused is of no such name
 no_name : (c : Config) (rules : Rules) (n : Node) (db : ℕ) (key : List ℕ) → refusal c rules n (op.Unlock db key) ≡ None → db ≡ 0 → (k : ℕ) → waits_in k n.dbs ≡ true → key ≢ name_of c k
-unfolding commit_pending is_unlock is_commit db_of key_of
+unfolding commit_pending is_unlock is_commit
 no_name c rules n db key e zero_db k w same =
     let a = (allowed c rules n (op.Unlock db key) e).pending in
     let f = not_refused _ _ a in

@@ -2,13 +2,14 @@
 use Rattle.std.proofs.Common.{◌≡◌, ◌≢◌, ℕ, Bool, true, false, Option, Some, None, List, refl, sym, ap, ◌∙◌, arith, ◌&&◌, ◌||◌, eqb-true, ◌≤◌, subst, eq-eqb}
 use Rattle.std.proofs.lemmas.Bool.{cond_both, false_from_ne_true}
 use Rattle.std.specs.Prelude.{is_none, is_some, nat_eq}
+use Rattle.ct_msg.specs.Client.{is_read}
 use Rattle.ct_msg.specs.declared.client.ClientOp.{ClientOp}
 use Rattle.ct_msg.specs.declared.client.ClientOp.TheVariants as op
 use Rattle.ct_frame.specs.declared.frame.CallKind.{CallKind}
 use Rattle.ct_frame.specs.declared.frame.Msg.{Msg}
 use Rattle.ct_frame.specs.declared.frame.Msg.TheVariants as msg
 use Rattle.ct_call.specs.Rules.{Rules}
-use Rattle.ct_rules.specs.State.{nobody, is_read_op}
+use Rattle.ct_rules.specs.State.{nobody}
 use Rattle.ct_rules.specs.Parts
 use Rattle.ct_rules.specs.Parts.{Moving}
 use Rattle.ct_rules.specs.declared.event.Place.{Place}
@@ -71,7 +72,7 @@ greater_up : (a b : ℕ) → a ≤ Messages.greater a b
 unfolding Messages.greater
 greater_up a b = grind arith
 
-pub may_parts : (s : RecState) (asked : ClientOp) → may_want s asked ≡ true → (is_none s.wish ≡ true) × (is_read_op asked ≡ false → is_none s.locked ≡ true)
+pub may_parts : (s : RecState) (asked : ClientOp) → may_want s asked ≡ true → (is_none s.wish ≡ true) × (is_read asked ≡ false → is_none s.locked ≡ true)
 unfolding may_want
 may_parts s asked t = (grind arith, λ e. grind arith)
 
@@ -124,7 +125,7 @@ module _ (at : Place) (asks : ℕ → Option ClientOp) (ne : at.me ≢ nobody) (
   arrive_holds n _ g o real waits apart sent came kept h = (g, h)
 
   -- the client calls
-  pub wants_holds : (call : ℕ) (asked : ClientOp) (g : Ghost) (o : Moving) → asks call ≡ Some asked → o.state.wish ≡ None → (is_read_op asked ≡ false → is_some o.state.locked ≡ false) → is_removed (out_of at asks o).labels ≡ false → Stands g o → Goes (Parts.want at rules call asked o)
+  pub wants_holds : (call : ℕ) (asked : ClientOp) (g : Ghost) (o : Moving) → asks call ≡ Some asked → o.state.wish ≡ None → (is_read asked ≡ false → is_some o.state.locked ≡ false) → is_removed (out_of at asks o).labels ≡ false → Stands g o → Goes (Parts.want at rules call asked o)
   unfolding wish_of
   wants_holds call asked g o is none free kept h = goes (Parts.want at rules call asked o) _ (like_want at asks ne rules call asked o is h.good.mine.even)
       (want_holds rules ps at.lmaster at.me nodes frames r (record { real = asked; readonly = at.readonly }) g (out_of at asks o) (ap (wish_of at.readonly) none) free kept h)

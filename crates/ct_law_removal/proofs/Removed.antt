@@ -7,6 +7,7 @@ use Rattle.std.specs.Map.{keys_of}
 use Rattle.std.specs.Ordering.{is_eq}
 use Rattle.std.specs.declared.cmp.Ordering.TheVariants.{Less}
 use Rattle.std.proofs.lemmas.Bool.{cond_both}
+use Rattle.ct_bytes.specs.Key.{key_cmp}
 use Rattle.ct_bytes.specs.Words.{others}
 use Rattle.ct_msg.specs.declared.client.ClientOp.{ClientOp}
 use Rattle.ct_msg.specs.declared.client.ClientOp.TheVariants as op
@@ -18,7 +19,7 @@ use Rattle.ct_frame.specs.declared.frame.Frame.{Frame}
 use Rattle.ct_frame.specs.declared.frame.Msg.{Msg}
 use Rattle.ct_frame.specs.declared.frame.Msg.TheVariants as msg
 use Rattle.ct_call.specs.Rules.{Rules}
-use Rattle.ct_store.specs.Map.{Pairs, Ascends, key_cmp}
+use Rattle.ct_store.specs.Map.{Pairs, Ascends}
 use Rattle.ct_rules.specs.Parts.{Moving, want}
 use Rattle.ct_rules.specs.Moves.{vacuum, arrive, call_again, revoke_again}
 use Rattle.ct_rules.specs.declared.event.Place.{Place}

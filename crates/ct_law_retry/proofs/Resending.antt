@@ -5,8 +5,9 @@ use Rattle.std.specs.Ordering.{is_eq}
 use Rattle.std.specs.List.{filter}
 use Rattle.std.proofs.lemmas.List.Elements.{filter-append}
 use Rattle.std.specs.List.Sorted.{IsStrictlySortedBy}
+use Rattle.ct_bytes.specs.Key.{key_cmp}
 use Rattle.ct_msg.specs.declared.config.Config.{Config}
-use Rattle.ct_store.specs.Map.{Pairs, Ascends, key_cmp, look}
+use Rattle.ct_store.specs.Map.{Pairs, Ascends, look}
 use Rattle.ct_store.proofs.Maps.{one_key, equal}
 use Rattle.ct_rules.specs.Moves.{call_again, revoke_again}
 use Rattle.ct_rules.specs.Parts.{Moving}

@@ -10,7 +10,7 @@ use Rattle.ct_frame.specs.declared.event.Note.TheVariants as note
 use Rattle.ct_frame.specs.declared.event.Out.{Out}
 use Rattle.ct_frame.specs.declared.event.Out.TheVariants as out
 use Rattle.ct_call.specs.Rules.{Rules}
-use Rattle.ct_rules.specs.Form.{wants_record, wished_as, MayCome}
+use Rattle.ct_rules.specs.Form.{wishes_record, wished_as, MayCome}
 use Rattle.ct_rules.specs.Parts.{Moving, keeps}
 use Rattle.ct_rules.specs.declared.event.MoveEvent.TheVariants as event
 use Rattle.ct_rules.specs.declared.event.Place.{Place}
@@ -52,7 +52,7 @@ unwished v = record v { state = record v.state { wish = None } }
 
 -- it stays in form
 wish_cleared : (s : Scene) (n : ℕ) (v : View) → Is_formed s n v → Is_formed s n (unwished v)
-unfolding wants_record wished_as
+unfolding wishes_record wished_as
 wish_cleared s n v h = record {
   form = record {
     shape = record {
@@ -93,8 +93,8 @@ unlocked_where (Some l) (Some w) x e f = absurd (let k = f refl in cc)
 
 -- the call of the wish may come to it
 wish_comes : (s : Scene) (n : ℕ) (v : View) (w : Wish) → v.state.wish ≡ Some w → Is_formed s n v → MayCome (unwished v).state (event.Want w.call w.op)
-unfolding wants_record
-wish_comes s n v w e h = (subst (λ (x : Option Wish). wants_record x ≡ true) e h.form.shape.wish_wants, refl, λ not_read. unlocked_where v.state.locked v.state.wish w e h.form.shape.lock_unwished)
+unfolding wishes_record
+wish_comes s n v w e h = (subst (λ (x : Option Wish). wishes_record x ≡ true) e h.form.shape.wish_wants, refl, λ not_read. unlocked_where v.state.locked v.state.wish w e h.form.shape.lock_unwished)
 
 again_formed_of : (s : Scene) (n : ℕ) (v : View) (w : Option Wish) → v.state.wish ≡ w → is_db s.db ≡ true → Is_formed s n v → (want_again_of (place s n v) s.rules (starts v) w).spent ≡ false →
     Is_formed s n (view_of (want_again_of (place s n v) s.rules (starts v) w))

@@ -4,6 +4,7 @@ use Rattle.std.specs.Prelude.{◌≢◌, ◌⊎◌, nat_eq, bytes_eq, ◌&&◌}
 use Rattle.std.specs.List.{AllByRecursion}
 use Rattle.std.proofs.lemmas.Bool.{cases_eq, eq-eqb, eqb-true, and_parts}
 use Rattle.std.proofs.lemmas.Slice.Eq.{bytes_eq-Decides}
+use Rattle.ct_msg.specs.Client.{db_of, key_of}
 use Rattle.ct_msg.specs.declared.client.Answer.{Answer}
 use Rattle.ct_msg.specs.declared.client.Answer.TheVariants as answer
 use Rattle.ct_msg.specs.declared.client.ClientOp.{ClientOp}
@@ -17,7 +18,7 @@ use Rattle.ct_rules_node.specs.Node.{is_among, has_records, kind_at}
 use Rattle.ct_register.specs.Register
 use Rattle.ct_register.specs.Register.{Register, AcceptsVacuum}
 use Rattle.ct_register.specs.Lines.{Lines, with_record}
-use Rattle.ct_register.specs.Legal.{db_of, key_of, AtRecord, AcceptsAnswer, AcceptsThawed, AcceptsLabel, AcceptsLabels}
+use Rattle.ct_register.specs.Legal.{AtRecord, AcceptsAnswer, AcceptsThawed, AcceptsLabel, AcceptsLabels}
 use Rattle.ct_register.proofs.Places.{at_same, at_other, at_key_same, at_key_other}
 use Rattle.ct_law_world.specs.Labels.{AcceptsAll}
 use Rattle.ct_law_world.specs.Labels as law

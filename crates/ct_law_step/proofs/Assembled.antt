@@ -2,6 +2,7 @@
 use Rattle.std.proofs.Common.{◌≡◌, ℕ, zero, suc, ◌+◌, ◌<◌, Bool, true, false, cond, List, [], ◌∷◌, ◌++◌, length, Option, Some, None, refl, sym, ap, ◌∙◌, append-nil, subst}
 use Rattle.std.specs.Prelude.{slice_get, Result, Ok, Err}
 use Rattle.std.specs.List.{AllByRecursion}
+use Rattle.ct_msg.specs.Client.{db_of, is_read}
 use Rattle.ct_msg.specs.declared.client.ClientOp.{ClientOp}
 use Rattle.ct_msg.specs.declared.client.ClientOp.TheVariants as op
 use Rattle.ct_msg.specs.declared.config.Config.{Config}
@@ -205,42 +206,42 @@ client_taken c era rules reg w ls n o kept none goes h x ok e =
 -- a store that is not refused
 pub store_taken : (c : Config) (era : Era) (rules : Rules) (reg : Lines) (w : Cluster) (ls : List Label) (n db : ℕ) (key v : List ℕ) → Starts c era rules reg → refusal c rules (node_at n (counted w)) (op.Store db key v) ≡ None →
     Tells c era reg n (own_pending n (w.calls + 1) (op.Store db key v) ∷ pending (counted w)) (client_turn c rules w n (op.Store db key v)) → Run_goes c era rules reg ls w → Taken_goes c era rules reg w ls (step.Client n (op.Store db key v))
-unfolding own_labels traces.begun_by clients.db_of clients.is_commit clients.is_read
+unfolding own_labels traces.begun_by clients.is_commit is_read
 store_taken c era rules reg w ls n db key v is free kept h =
     client_taken c era rules reg w ls n (op.Store db key v) kept (λ lines. refl) (λ who es stays sched up spent. stores_go c era rules who w n db key v ls es is.era_is is.small stays sched up free spent) h
 
 -- an unlock that is not refused
 pub unlock_taken : (c : Config) (era : Era) (rules : Rules) (reg : Lines) (w : Cluster) (ls : List Label) (n db : ℕ) (key : List ℕ) → Starts c era rules reg → refusal c rules (node_at n (counted w)) (op.Unlock db key) ≡ None →
     Tells c era reg n (own_pending n (w.calls + 1) (op.Unlock db key) ∷ pending (counted w)) (client_turn c rules w n (op.Unlock db key)) → Run_goes c era rules reg ls w → Taken_goes c era rules reg w ls (step.Client n (op.Unlock db key))
-unfolding own_labels traces.begun_by clients.db_of clients.is_commit clients.is_read
+unfolding own_labels traces.begun_by clients.is_commit is_read
 unlock_taken c era rules reg w ls n db key is free kept h =
     client_taken c era rules reg w ls n (op.Unlock db key) kept (λ lines. refl) (λ who es stays sched up spent. unlocks_go c era rules who w n db key ls es is.era_is is.small stays sched up free spent) h
 
 -- a lock that is not refused
 pub lock_taken : (c : Config) (era : Era) (rules : Rules) (reg : Lines) (w : Cluster) (ls : List Label) (n db : ℕ) (key : List ℕ) → Starts c era rules reg → refusal c rules (node_at n (counted w)) (op.Lock db key) ≡ None →
     Tells c era reg n (own_pending n (w.calls + 1) (op.Lock db key) ∷ pending (counted w)) (client_turn c rules w n (op.Lock db key)) → Run_goes c era rules reg ls w → Taken_goes c era rules reg w ls (step.Client n (op.Lock db key))
-unfolding own_labels traces.begun_by clients.db_of clients.is_commit clients.is_read
+unfolding own_labels traces.begun_by clients.is_commit is_read
 lock_taken c era rules reg w ls n db key is free kept h =
     client_taken c era rules reg w ls n (op.Lock db key) kept (λ lines. refl) (λ who es stays sched up spent. wants_go c era rules who w n db key (op.Lock db key) ls es is.era_is is.small stays sched up (has_database c (node_at n (counted w)) (op.Lock db key) (admits c rules (node_at n (counted w)) (op.Lock db key) free) refl refl) refl refl free (may_lock c (node_at n (counted w)) db key (admits c rules (node_at n (counted w)) (op.Lock db key) free)) (serves_lock c rules n (w.calls + 1) db key (makes (w.calls + 1) (begins (node_at n (counted w))))) spent) h
 
 -- a write that is not refused
 pub write_taken : (c : Config) (era : Era) (rules : Rules) (reg : Lines) (w : Cluster) (ls : List Label) (n db : ℕ) (key v : List ℕ) → Starts c era rules reg → refusal c rules (node_at n (counted w)) (op.Write db key v) ≡ None →
     Tells c era reg n (own_pending n (w.calls + 1) (op.Write db key v) ∷ pending (counted w)) (client_turn c rules w n (op.Write db key v)) → Run_goes c era rules reg ls w → Taken_goes c era rules reg w ls (step.Client n (op.Write db key v))
-unfolding own_labels traces.begun_by clients.db_of clients.is_commit clients.is_read
+unfolding own_labels traces.begun_by clients.is_commit is_read
 write_taken c era rules reg w ls n db key v is free kept h =
     client_taken c era rules reg w ls n (op.Write db key v) kept (λ lines. refl) (λ who es stays sched up spent. wants_go c era rules who w n db key (op.Write db key v) ls es is.era_is is.small stays sched up (has_database c (node_at n (counted w)) (op.Write db key v) (admits c rules (node_at n (counted w)) (op.Write db key v) free) refl refl) refl refl free (may_write c (node_at n (counted w)) db key v (admits c rules (node_at n (counted w)) (op.Write db key v) free)) (serves_write c rules n (w.calls + 1) db key v (makes (w.calls + 1) (begins (node_at n (counted w))))) spent) h
 
 -- a function that is not refused
 pub apply_taken : (c : Config) (era : Era) (rules : Rules) (reg : Lines) (w : Cluster) (ls : List Label) (n db : ℕ) (f : ℕ) (key arg : List ℕ) → Starts c era rules reg → refusal c rules (node_at n (counted w)) (op.Apply db key f arg) ≡ None →
     Tells c era reg n (own_pending n (w.calls + 1) (op.Apply db key f arg) ∷ pending (counted w)) (client_turn c rules w n (op.Apply db key f arg)) → Run_goes c era rules reg ls w → Taken_goes c era rules reg w ls (step.Client n (op.Apply db key f arg))
-unfolding own_labels traces.begun_by clients.db_of clients.is_commit clients.is_read
+unfolding own_labels traces.begun_by clients.is_commit is_read
 apply_taken c era rules reg w ls n db f key arg is free kept h =
     client_taken c era rules reg w ls n (op.Apply db key f arg) kept (λ lines. refl) (λ who es stays sched up spent. wants_go c era rules who w n db key (op.Apply db key f arg) ls es is.era_is is.small stays sched up (has_database c (node_at n (counted w)) (op.Apply db key f arg) (admits c rules (node_at n (counted w)) (op.Apply db key f arg) free) refl refl) refl refl free (may_apply c (node_at n (counted w)) db f key arg (admits c rules (node_at n (counted w)) (op.Apply db key f arg) free)) (serves_apply c rules n (w.calls + 1) db f key arg (makes (w.calls + 1) (begins (node_at n (counted w))))) spent) h
 
 -- a read of a record that is not refused
 pub read_taken : (c : Config) (era : Era) (rules : Rules) (reg : Lines) (w : Cluster) (ls : List Label) (n db : ℕ) (key : List ℕ) → Starts c era rules reg → is_persistent (kind_at c db) ≡ false → refusal c rules (node_at n (counted w)) (op.Read db key) ≡ None →
     Tells c era reg n (own_pending n (w.calls + 1) (op.Read db key) ∷ pending (counted w)) (client_turn c rules w n (op.Read db key)) → Run_goes c era rules reg ls w → Taken_goes c era rules reg w ls (step.Client n (op.Read db key))
-unfolding own_labels traces.begun_by clients.db_of clients.is_commit clients.is_read
+unfolding own_labels traces.begun_by clients.is_commit is_read
 read_taken c era rules reg w ls n db key is kind free kept h =
     let admitted = admits c rules (node_at n (counted w)) (op.Read db key) free in
     client_taken c era rules reg w ls n (op.Read db key) kept (λ lines. refl) (λ who es stays sched up spent. wants_go c era rules who w n db key (op.Read db key) ls es is.era_is is.small stays sched up (call_kind c (node_at n (counted w)) (op.Read db key) admitted kind) refl refl free

@@ -2,6 +2,7 @@
 use Rattle.std.proofs.Common.{◌≡◌, ℕ, ◌+◌, Bool, true, false, cond, List, [], ◌∷◌, ◌++◌, Option, Some, None, refl, sym, ap, ◌∙◌, arith, subst, ⊎_elim, ◌≤◌}
 use Rattle.std.specs.List.{AllByRecursion}
 use Rattle.std.proofs.lemmas.Bool.{eq-eqb}
+use Rattle.ct_msg.specs.Client.{db_of, is_read}
 use Rattle.ct_msg.specs.declared.client.Answer.TheVariants as answer
 use Rattle.ct_msg.specs.declared.client.ClientOp.{ClientOp}
 use Rattle.ct_msg.specs.declared.client.ClientOp.TheVariants as op
@@ -11,7 +12,7 @@ use Rattle.ct_msg.specs.declared.config.Config.{Config}
 use Rattle.ct_frame.specs.declared.event.Event.TheVariants as event
 use Rattle.ct_call.specs.Rules.{Rules}
 use Rattle.ct_rules_node.specs.Clients as clients
-use Rattle.ct_rules_node.specs.Clients.{client, refusal, serves, serves_or, reads, is_commit, is_read}
+use Rattle.ct_rules_node.specs.Clients.{client, refusal, serves, serves_or, reads, is_commit}
 use Rattle.ct_rules_node.specs.Databases.{read_pair}
 use Rattle.ct_rules_node.specs.Node as node
 use Rattle.ct_rules_node.specs.Node.{Node}
@@ -219,7 +220,7 @@ read_pair_taken c era rules reg w ls n db key kind free h =
 -- a call that is not refused
 free_taken : (c : Config) (era : Era) (rules : Rules) (reg : Lines) (w : Cluster) (ls : List Label) (n : ℕ) (o : ClientOp) → Starts c era rules reg → refusal c rules (node_at n (counted w)) o ≡ None → Run_goes c era rules reg ls w →
     Taken_goes c era rules reg w ls (step.Client n o)
-unfolding clients.db_of is_commit is_read
+unfolding is_commit is_read
 free_taken c era rules reg w ls n (op.Lock db key) is free h x ok e =
     let o = op.Lock db key in
     let kind = record_kind c (node_at n (counted w)) o (admits c rules (node_at n (counted w)) o free) refl refl in

@@ -2,6 +2,7 @@
 use Rattle.std.proofs.Common.{◌≡◌, ℕ, ◌+◌, true, false, List, [], ◌∷◌, ◌++◌, map, Option, None, refl, sym, ap, ◌∙◌, subst}
 use Rattle.std.specs.Prelude.{Ok}
 use Rattle.std.specs.List.{AllByRecursion}
+use Rattle.ct_msg.specs.Client.{db_of, key_of}
 use Rattle.ct_msg.specs.declared.client.ClientOp.{ClientOp}
 use Rattle.ct_msg.specs.declared.client.ClientOp.TheVariants as op
 use Rattle.ct_msg.specs.declared.config.Config.{Config}
@@ -25,7 +26,6 @@ use Rattle.ct_cluster.specs.Faults.{fault_of}
 use Rattle.ct_cluster.specs.Steps.{Stepped, steps}
 use Rattle.ct_cluster.specs.declared.step.PendingCall.{PendingCall}
 use Rattle.ct_cluster.specs.declared.step.Step.TheVariants as step
-use Rattle.ct_register.specs.Legal.{db_of, key_of}
 use Rattle.ct_law_world.specs.World.{World, Event, Wants, Stores, Unlocks, own_call, may_want}
 use Rattle.ct_law_shown.specs.Shown.{Era, project, labels_of}
 use Rattle.ct_law_shown.proofs.Hearing.{labels_more}
@@ -118,9 +118,8 @@ unlock_kept c era rules reg w ls n db key is kind h up free spent =
 -- ---- every call on a record
 
 -- what a call tells that is not refused, and not of a persistent database
-pub client_kept : (c : Config) (era : Era) (rules : Rules) (reg : Lines) (w : Cluster) (ls : List Label) (n : ℕ) (o : ClientOp) → Starts c era rules reg → is_persistent (kind_at c (clients.db_of o)) ≡ false → refusal c rules (node_at n (counted w)) o ≡ None →
+pub client_kept : (c : Config) (era : Era) (rules : Rules) (reg : Lines) (w : Cluster) (ls : List Label) (n : ℕ) (o : ClientOp) → Starts c era rules reg → is_persistent (kind_at c (db_of o)) ≡ false → refusal c rules (node_at n (counted w)) o ≡ None →
     Run_goes c era rules reg ls w → is_up n w ≡ true → (client_turn c rules w n o).spent ≡ false → Tells c era reg n (own_pending n (w.calls + 1) o ∷ pending (counted w)) (client_turn c rules w n o)
-unfolding clients.db_of
 client_kept c era rules reg w ls n (op.Lock db key) is f free h up spent =
     let a = admits c rules (node_at n (counted w)) (op.Lock db key) free in
     want_kept c era rules reg w ls n db key (op.Lock db key) is (call_kind c (node_at n (counted w)) (op.Lock db key) a f) h up refl refl free (may_lock c (node_at n (counted w)) db key a) (serves_lock c rules n (w.calls + 1) db key (call_begins w n)) spent
@@ -146,7 +145,7 @@ unfolding steps node_steps.happens
 client_whole c rules w n o x e = (fed_is c rules n (node_event.Client (w.calls + 1) o) [] (counted w) x e).0
 
 -- so it is of a call whose step is taken
-pub client_tells : (c : Config) (era : Era) (rules : Rules) (reg : Lines) (w : Cluster) (ls : List Label) (n : ℕ) (o : ClientOp) (x : Stepped) → Starts c era rules reg → is_persistent (kind_at c (clients.db_of o)) ≡ false → refusal c rules (node_at n (counted w)) o ≡ None →
+pub client_tells : (c : Config) (era : Era) (rules : Rules) (reg : Lines) (w : Cluster) (ls : List Label) (n : ℕ) (o : ClientOp) (x : Stepped) → Starts c era rules reg → is_persistent (kind_at c (db_of o)) ≡ false → refusal c rules (node_at n (counted w)) o ≡ None →
     Run_goes c era rules reg ls w → fault_of c w (step.Client n o) ≡ None → steps c rules w (step.Client n o) ≡ Ok x → Tells c era reg n (own_pending n (w.calls + 1) o ∷ pending (counted w)) (client_turn c rules w n o)
 unfolding fault_of
 client_tells c era rules reg w ls n o x is f free h ok e = client_kept c era rules reg w ls n o is f free h (runs w n _ _ ok) (client_whole c rules w n o x e)

@@ -3,6 +3,7 @@ use Rattle.std.proofs.Common.{◌≡◌, ◌≢◌, ℕ, zero, suc, ◌<◌, ◌
 use Rattle.std.specs.Prelude.{nat_eq, nat_lt, slice_get, slice_set}
 use Rattle.std.proofs.lemmas.Bool.{cases_eq, cond_both, ne_eqb, eq-eqb, ltb-true}
 use Rattle.std.proofs.lemmas.List.{length-set}
+use Rattle.ct_bytes.specs.Words.{is_this_node}
 use Rattle.ct_msg.specs.declared.config.Config.{Config}
 use Rattle.ct_frame.specs.declared.frame.Frame.{Frame}
 use Rattle.ct_frame.specs.declared.frame.Msg.{Msg}
@@ -17,7 +18,7 @@ use Rattle.ct_rules_node.proofs.Refusals.{first_none, required}
 use Rattle.ct_rules_node.proofs.Starting.{restarts_in_order}
 use Rattle.ct_rules_node.proofs.Rounds.{restarts_each}
 use Rattle.ct_cluster.specs.Cluster.{Cluster, is_true, is_up, node_at, pending_at}
-use Rattle.ct_cluster.specs.Faults.{fault_of, is_holder, no_such_node}
+use Rattle.ct_cluster.specs.Faults.{fault_of, no_such_node}
 use Rattle.ct_cluster.specs.Labels.{Label, Stopped}
 use Rattle.ct_cluster.specs.Steps.{with_node, without_holder, gone, done, stop, steps}
 use Rattle.ct_cluster.specs.Traces.{own_labels}
@@ -79,7 +80,7 @@ was_up (b ∷ bs) (suc n) zero e = e
 was_up (b ∷ bs) (suc n) (suc k) e = was_up bs n k e
 
 same_without : (n : ℕ) (o : Option ℕ) → owner_without n o ≡ without_holder n o
-unfolding owner_without without_holder is_holder
+unfolding owner_without without_holder is_this_node
 same_without n None = refl
 same_without n (Some m) = refl
 

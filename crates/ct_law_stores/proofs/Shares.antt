@@ -3,13 +3,14 @@ use Rattle.std.proofs.Common.{◌≡◌, ◌≢◌, ℕ, zero, suc, ◌+◌, ◌
 use Rattle.std.specs.Prelude.{is_some, ◌⊎◌}
 use Rattle.std.specs.List.{filter, list_any, AllByRecursion}
 use Rattle.std.proofs.lemmas.Bool.{cond_both, eqb-true}
+use Rattle.ct_bytes.proofs.Words.{this_node_is}
+use Rattle.ct_bytes.proofs.AddressOrder.{address_is}
+use Rattle.ct_bytes.specs.Words.{is_this_node}
+use Rattle.ct_bytes.specs.Address.{same_address}
 use Rattle.ct_bytes.specs.declared.address.Address.{Address}
-use Rattle.ct_msg.specs.Config.{same_address}
 use Rattle.ct_frame.specs.declared.frame.Assigned.{Assigned}
 use Rattle.ct_rules_node.specs.Node.{holder_in, assigned_all}
-use Rattle.ct_rules_node.specs.Rounds.{is_at}
 use Rattle.ct_rules_node.specs.Takeovers.{share, assigned_in, has_address}
-use Rattle.ct_law_stores.proofs.Stand.{is_same}
 
 -- no two items are of one address
 unfoldable pub Apart : List Assigned → Type 0
@@ -20,11 +21,6 @@ pub holder_none : (a : Address) (xs : List Assigned) → AllByRecursion (λ y. s
 unfolding holder_in
 holder_none a [] h = refl
 holder_none a (x ∷ xs) h = rw h.0 (holder_none a xs h.1)
-
-at_node : (n : ℕ) (o : Option ℕ) → is_at n o ≡ true → o ≡ Some n
-unfolding is_at
-at_node n None e = absurd (cc)
-at_node n (Some m) e = ap Some (eqb-true m n e)
 
 either_of : (a b : Bool) → (a || b) ≡ true → (a ≡ true) ⊎ (b ≡ true)
 either_of true b e = inl refl
@@ -38,7 +34,7 @@ holder_head a x xs n t e = rw t e
 holder_tail : (a : Address) (x : Assigned) (xs : List Assigned) (n : ℕ) → Apart (x ∷ xs) → holder_in a xs ≡ Some n → holder_in a (x ∷ xs) ≡ Some n
 unfolding holder_in Apart
 holder_tail a x xs n apart e = cond_both (same_address a x.address) true false (λ (_ : Bool). holder_in a (x ∷ xs) ≡ Some n)
-    (λ t. absurd (let k : holder_in a xs ≡ None = subst (λ (b : Address). holder_in b xs ≡ None) (sym (is_same a x.address t)) (holder_none x.address xs apart.0) in let l = sym e ∙ k in cc))
+    (λ t. absurd (let k : holder_in a xs ≡ None = subst (λ (b : Address). holder_in b xs ≡ None) (sym (address_is a x.address t)) (holder_none x.address xs apart.0) in let l = sym e ∙ k in cc))
     (λ f. rw f e)
 
 -- a node's share is what the placement gives it
@@ -46,15 +42,15 @@ pub share_holder : (a : Address) (n : ℕ) (xs : List Assigned) → Apart xs →
 unfolding share has_address Apart
 share_holder a n [] apart e = absurd (cc)
 share_holder a n (x ∷ xs) apart e =
-    cond_both (is_at n x.node) (x.address ∷ share n xs) (share n xs) (λ (l : List Address). list_any (same_address a) l ≡ true → holder_in a (x ∷ xs) ≡ Some n)
-    (λ here some. ⊎_elim (λ (t : same_address a x.address ≡ true). holder_head a x xs n t (at_node n x.node here))
+    cond_both (is_this_node n x.node) (x.address ∷ share n xs) (share n xs) (λ (l : List Address). list_any (same_address a) l ≡ true → holder_in a (x ∷ xs) ≡ Some n)
+    (λ here some. ⊎_elim (λ (t : same_address a x.address ≡ true). holder_head a x xs n t (this_node_is n x.node here))
     (λ (u : list_any (same_address a) (share n xs) ≡ true). holder_tail a x xs n apart (share_holder a n xs apart.1 u)) (either_of (same_address a x.address) (list_any (same_address a) (share n xs)) some))
     (λ _ some. holder_tail a x xs n apart (share_holder a n xs apart.1 some)) e
 
 item : (n : ℕ) (x : Assigned) (xs : List Assigned) (o : Option ℕ) → x.node ≡ o → share n (assigned_in xs) ≡ share n xs → share n (assigned_in (x ∷ xs)) ≡ share n (x ∷ xs)
-unfolding share assigned_in is_at
-item n x xs None e ih = (let s : is_some x.node ≡ false = ap is_some e in let i : is_at n x.node ≡ false = ap (is_at n) e in rw s (rw i ih))
-item n x xs (Some m) e ih = (let s : is_some x.node ≡ true = ap is_some e in rw s (ap (λ (l : List Address). cond (is_at n x.node) (x.address ∷ l) l) ih))
+unfolding share assigned_in is_this_node
+item n x xs None e ih = (let s : is_some x.node ≡ false = ap is_some e in let i : is_this_node n x.node ≡ false = ap (is_this_node n) e in rw s (rw i ih))
+item n x xs (Some m) e ih = (let s : is_some x.node ≡ true = ap is_some e in rw s (ap (λ (l : List Address). cond (is_this_node n x.node) (x.address ∷ l) l) ih))
 
 -- an item without a node is in no share
 pub share_assigned : (n : ℕ) (xs : List Assigned) → share n (assigned_in xs) ≡ share n xs

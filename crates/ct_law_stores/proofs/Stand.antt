@@ -3,9 +3,10 @@ use Rattle.std.proofs.Common.{◌≡◌, ◌≢◌, ℕ, zero, suc, ◌+◌, ◌
 use Rattle.std.specs.Prelude.{nat_lt, is_some}
 use Rattle.std.specs.List.{filter}
 use Rattle.std.proofs.lemmas.Bool.{cond_both, eqb-true}
+use Rattle.ct_bytes.proofs.AddressOrder.{address_is}
+use Rattle.ct_bytes.specs.Address.{same_address}
 use Rattle.ct_bytes.specs.declared.address.Address.{Address}
 use Rattle.ct_bytes.specs.declared.address.Address.TheVariants.{V4, V6}
-use Rattle.ct_msg.specs.Config.{same_address}
 use Rattle.ct_msg.specs.declared.config.Config.{Config}
 use Rattle.ct_msg.specs.declared.config.DbKind.{DbKind}
 use Rattle.ct_msg.specs.declared.config.DbKind.TheVariants.{Persistent}
@@ -43,18 +44,12 @@ stores_stand config who w r has gone h n db line member kind =
 
 -- ---- addresses
 
-pub is_same : (a b : Address) → same_address a b ≡ true → a ≡ b
-is_same (V4 x) (V4 y) e = ap V4 (eqb-true x y e)
-is_same (V6 x) (V6 y) e = ap V6 (eqb-true x y e)
-is_same (V4 x) (V6 y) e = absurd (cc)
-is_same (V6 x) (V4 y) e = absurd (cc)
-
 -- an assignment of configured addresses places an address only where the list does
 pub in_all : (a : Address) (addresses : List Address) (xs : List Assigned) (n : ℕ) → holder_in a (assigned_all addresses xs) ≡ Some n → holder_in a xs ≡ Some n
 unfolding holder_in assigned_all
 in_all a [] xs n e = absurd (cc)
 in_all a (b ∷ rest) xs n e = cond_both (same_address a b) (holder_in b xs) (holder_in a (assigned_all rest xs)) (λ (o : Option ℕ). o ≡ Some n → holder_in a xs ≡ Some n)
-    (λ t is. ap (λ (c : Address). holder_in c xs) (is_same a b t) ∙ is)
+    (λ t is. ap (λ (c : Address). holder_in c xs) (address_is a b t) ∙ is)
     (λ f is. in_all a rest xs n is) e
 
 passed : (a : Address) (x : Assigned) (rest : List Assigned) (n : ℕ) → same_address a x.address ≡ false → holder_in a rest ≡ Some n → holder_in a (x ∷ rest) ≡ Some n

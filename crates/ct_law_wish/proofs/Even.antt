@@ -2,6 +2,8 @@
 use Rattle.std.proofs.Common.{◌≡◌, ◌≢◌, ℕ, Bool, true, false, cond, List, [], ◌∷◌, ◌++◌, length, Option, Some, None, refl, sym, ap, ◌∙◌, subst, arith}
 use Rattle.std.specs.Prelude.{Result, Ok, Err, nat_le, nat_eq, ◌==◌, ◌&&◌, ◌||◌, if◌then◌else◌, is_none}
 use Rattle.std.proofs.lemmas.Bool.{cond_both}
+use Rattle.ct_bytes.specs.Words.{is_nil}
+use Rattle.ct_msg.specs.Client.{is_read, wants_record}
 use Rattle.ct_call.specs.Rules.{Rules}
 use Rattle.ct_frame.specs.declared.frame.CallKind.{CallKind}
 use Rattle.ct_frame.specs.declared.frame.Msg.{Msg}
@@ -17,8 +19,7 @@ use Rattle.ct_rules.specs.declared.state.Waiter.{Waiter}
 use Rattle.ct_rules.specs.declared.state.Wish.{Wish}
 use Rattle.ct_rules.specs.Moves.{store, release, unlock, begin_vacuum, vacuum_at_home, vacuum, at_home, from_home, arrive}
 use Rattle.ct_rules.specs.Moves.{call_again_of, call_again, revoke_again_of, revoke_again}
-use Rattle.ct_rules.specs.Form.{is_wanting}
-use Rattle.ct_rules.specs.State.{value_of, is_wished, is_quiet, is_nil, is_mastered, is_for_reading, is_read_op}
+use Rattle.ct_rules.specs.State.{value_of, is_wished, is_quiet, is_mastered, is_for_reading}
 use Rattle.ct_rules.specs.declared.event.Act.{Act}
 use Rattle.ct_rules.specs.declared.event.Act.TheVariants as act
 use Rattle.ct_deleg.specs.Tracked.{Revocation}
@@ -45,7 +46,7 @@ answers_in (act.Finished floor ∷ xs) = answers_in xs
 -- What was answered, in order, and then the call that waits, if there is one: these are the calls. One that waits wants the record.
 unfoldable pub Even : List ℕ → List Act → Option Wish → Type 0
 Even xs as' None = answers_in as' ≡ xs
-Even xs as' (Some w) = (answers_in as' ++ w.call ∷ [] ≡ xs) × (is_wanting w.op ≡ true)
+Even xs as' (Some w) = (answers_in as' ++ w.call ∷ [] ≡ xs) × (wants_record w.op ≡ true)
 
 -- the number of the call that waits, if there is one
 unfoldable pub number_of : Option Wish → List ℕ
@@ -97,11 +98,11 @@ answer_even : (xs : List ℕ) (as' : List Act) (call : ℕ) (a : Answer) → ans
 unfolding Even
 answer_even xs as' call a h = answered_more as' call a ∙ h
 
-due : (xs : List ℕ) (as' : List Act) (w : Wish) → Even xs as' (Some w) → (answers_in as' ++ w.call ∷ [] ≡ xs) × (is_wanting w.op ≡ true)
+due : (xs : List ℕ) (as' : List Act) (w : Wish) → Even xs as' (Some w) → (answers_in as' ++ w.call ∷ [] ≡ xs) × (wants_record w.op ≡ true)
 unfolding Even
 due xs as' w h = h
 
-waits_even : (xs : List ℕ) (as' : List Act) (w : Wish) → answers_in as' ++ w.call ∷ [] ≡ xs → is_wanting w.op ≡ true → Even xs as' (Some w)
+waits_even : (xs : List ℕ) (as' : List Act) (w : Wish) → answers_in as' ++ w.call ∷ [] ≡ xs → wants_record w.op ≡ true → Even xs as' (Some w)
 unfolding Even
 waits_even xs as' w h k = (h, k)
 
@@ -160,8 +161,8 @@ applies_even xs call o (Err fault.NoSuchCall) never none h = subst (λ (x : Opti
 applies_even xs call o (Err fault.NoMemory) never none h = absurd (never refl)
 
 -- a call that wants the record, and waits no more, is answered once
-satisfied_even : (xs : List ℕ) (rules : Rules) (call : ℕ) (asked : ClientOp) (o : Moving) → o.state.wish ≡ None → is_wanting asked ≡ true → answers_in o.acts ++ call ∷ [] ≡ xs → Even xs (satisfy rules call asked o).acts (satisfy rules call asked o).state.wish
-unfolding satisfy reply performs keeps is_wanting
+satisfied_even : (xs : List ℕ) (rules : Rules) (call : ℕ) (asked : ClientOp) (o : Moving) → o.state.wish ≡ None → wants_record asked ≡ true → answers_in o.acts ++ call ∷ [] ≡ xs → Even xs (satisfy rules call asked o).acts (satisfy rules call asked o).state.wish
+unfolding satisfy reply performs keeps wants_record
 satisfied_even xs rules call (op.Lock db key) o none is h = subst (λ (x : Option Wish). Even xs (o.acts ++ act.Answer call (answer.Locked (value_of o.state.copy)) ∷ []) x) (sym none) (answer_even xs o.acts call _ h)
 satisfied_even xs rules call (op.Read db key) o none is h = subst (λ (x : Option Wish). Even xs (o.acts ++ act.Answer call (answer.Read (value_of o.state.copy)) ∷ []) x) (sym none) (answer_even xs o.acts call _ h)
 satisfied_even xs rules call (op.Write db key v) o none is h = subst (λ (x : Option Wish). Even xs (o.acts ++ act.Answer call answer.Written ∷ []) x) (sym none) (answer_even xs o.acts call _ h)
@@ -326,15 +327,15 @@ arrive_even xs at rules n _ o h = h
 
 -- ---- a client's call comes
 
-call_for_even : (xs : List ℕ) (at : Place) (call : ℕ) (asked : ClientOp) (o : Moving) → is_wanting asked ≡ true → answers_in o.acts ++ call ∷ [] ≡ xs → Even xs (call_for at call asked o).acts (call_for at call asked o).state.wish
+call_for_even : (xs : List ℕ) (at : Place) (call : ℕ) (asked : ClientOp) (o : Moving) → wants_record asked ≡ true → answers_in o.acts ++ call ∷ [] ≡ xs → Even xs (call_for at call asked o).acts (call_for at call asked o).state.wish
 unfolding send performs reaches call_for
 call_for_even xs at call asked o is h = send_even xs o.acts _ at.lmaster _ (waits_even xs o.acts (record { call = call; request = o.next; op = asked }) h is)
 
-wait_even : (xs : List ℕ) (at : Place) (call : ℕ) (asked : ClientOp) (o : Moving) → is_wanting asked ≡ true → answers_in o.acts ++ call ∷ [] ≡ xs → Even xs (wait_for_copies at call asked o).acts (wait_for_copies at call asked o).state.wish
+wait_even : (xs : List ℕ) (at : Place) (call : ℕ) (asked : ClientOp) (o : Moving) → wants_record asked ≡ true → answers_in o.acts ++ call ∷ [] ≡ xs → Even xs (wait_for_copies at call asked o).acts (wait_for_copies at call asked o).state.wish
 unfolding keeps wait_for_copies
 wait_even xs at call asked o is h = (let k = waits_even xs o.acts (record { call = call; request = 0; op = asked }) h is in either_even xs (is_quiet o.state.tracking) _ _ (revoke_even xs at _ k) k)
 
-want_of_even : (xs : List ℕ) (at : Place) (rules : Rules) (call : ℕ) (asked : ClientOp) (o : Moving) → o.state.wish ≡ None → is_wanting asked ≡ true → answers_in o.acts ++ call ∷ [] ≡ xs → Even xs (want_of at rules call asked o).acts (want_of at rules call asked o).state.wish
+want_of_even : (xs : List ℕ) (at : Place) (rules : Rules) (call : ℕ) (asked : ClientOp) (o : Moving) → o.state.wish ≡ None → wants_record asked ≡ true → answers_in o.acts ++ call ∷ [] ≡ xs → Even xs (want_of at rules call asked o).acts (want_of at rules call asked o).state.wish
 unfolding reply performs want_of
 want_of_even xs at rules call asked o none is h =
     let satisfied = satisfy rules call asked o in
@@ -342,7 +343,7 @@ want_of_even xs at rules call asked o none is h =
     let mastered = if is_nil o.state.tracking.tracked then satisfied else waits in
     let calls = call_for at call asked o in
     let wanted = if is_mastered at.me o.state.copy then mastered else calls in
-    either_even xs (is_read_op asked && (is_mastered at.me o.state.copy || is_for_reading o.state.copy)) (record o { acts = o.acts ++ act.Answer call (answer.Read (value_of o.state.copy)) ∷ [] }) wanted
+    either_even xs (is_read asked && (is_mastered at.me o.state.copy || is_for_reading o.state.copy)) (record o { acts = o.acts ++ act.Answer call (answer.Read (value_of o.state.copy)) ∷ [] }) wanted
     (subst (λ (x : Option Wish). Even xs (o.acts ++ act.Answer call (answer.Read (value_of o.state.copy)) ∷ []) x) (sym none) (answer_even xs o.acts call _ h))
     (either_even xs (is_mastered at.me o.state.copy) mastered calls (either_even xs (is_nil o.state.tracking.tracked) satisfied waits (satisfied_even xs rules call asked o none is h) (wait_even xs at call asked o is h)) (call_for_even xs at call asked o is h))
 
@@ -356,7 +357,7 @@ unfolding keeps opened_at_home end_vacuum opened
 opened_acts at o = cond_both (nat_eq at.me at.lmaster && is_none o.state.locked) _ _ (λ (p : Moving). (p.acts ≡ o.acts) × (p.state.wish ≡ o.state.wish)) (λ _. open_acts at o o.state.entry) (λ _. (refl, refl))
 
 -- a call that wants the record, where none waits: it is answered, or waits
-pub want_even : (xs : List ℕ) (at : Place) (rules : Rules) (call : ℕ) (asked : ClientOp) (o : Moving) → o.state.wish ≡ None → is_wanting asked ≡ true → answers_in o.acts ++ call ∷ [] ≡ xs → Even xs (want at rules call asked o).acts (want at rules call asked o).state.wish
+pub want_even : (xs : List ℕ) (at : Place) (rules : Rules) (call : ℕ) (asked : ClientOp) (o : Moving) → o.state.wish ≡ None → wants_record asked ≡ true → answers_in o.acts ++ call ∷ [] ≡ xs → Even xs (want at rules call asked o).acts (want at rules call asked o).state.wish
 unfolding want
 want_even xs at rules call asked o none is h = (let k = opened_acts at o in want_of_even xs at rules call asked (opened_at_home at o) (k.1 ∙ none) is (ap (λ (l : List Act). answers_in l ++ call ∷ []) k.0 ∙ h))
 

@@ -2,16 +2,16 @@
 -- by the call that waits at a node; `Calls` says it by the log of open calls, and ct_law_record shows that both are the same.
 use Rattle.std.specs.Prelude.{◌≡◌, ◌↔◌, ℕ, ◌≤◌, ◌<◌, nat_eq, Bool, true, not, ◌&&◌, ◌||◌, if◌then◌else◌, Option, Some, None, is_none, is_some, List, [], ◌∷◌, ◌++◌, slice_get, take, length}
 use Rattle.ct_bytes.specs.Words.{others}
+use Rattle.ct_msg.specs.Client.{is_read, wants_record}
 use Rattle.ct_msg.specs.declared.client.ClientOp.{ClientOp}
 use Rattle.ct_msg.specs.declared.client.ClientOp.TheVariants as op
 use Rattle.ct_frame.specs.declared.frame.Msg.{Msg}
 use Rattle.ct_frame.specs.declared.header.RecCopy.{RecCopy}
 use Rattle.ct_call.specs.Rules.{Rules}
-use Rattle.ct_rules.specs.State.{nothing_kept, for_reading, is_read_op}
+use Rattle.ct_rules.specs.State.{nothing_kept, for_reading}
 use Rattle.ct_rules.specs.Parts.{Moving}
 use Rattle.ct_rules.specs.Messages.{greater}
 use Rattle.ct_rules.specs.Moves.{move, release, begins}
-use Rattle.ct_rules.specs.Form.{is_wanting}
 use Rattle.ct_rules.specs.declared.event.Act.{Act}
 use Rattle.ct_rules.specs.declared.event.Act.TheVariants as act
 use Rattle.ct_rules.specs.declared.event.MoveEvent.{MoveEvent}
@@ -89,7 +89,7 @@ peers s n = others n s.members
 
 -- may the call come? It wants the record, no other waits, and under the lock it is a read
 unfoldable pub may_want : RecState → ClientOp → Bool
-may_want s asked = is_wanting asked && is_none s.wish && (is_read_op asked || is_none s.locked)
+may_want s asked = wants_record asked && is_none s.wish && (is_read asked || is_none s.locked)
 
 -- what the call that comes asks
 unfoldable pub own_call : ℕ → ClientOp → ℕ → Option ClientOp

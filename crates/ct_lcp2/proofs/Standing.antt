@@ -4,46 +4,23 @@ use Rattle.std.specs.Prelude.{if◌then◌else◌, is_some, map, not, ◌==◌, 
 use Rattle.std.specs.List.{AllByRecursion}
 use Rattle.std.specs.List.Sorted.{IsStrictlySortedBy}
 use Rattle.std.specs.Ordering.{nat_cmp, is_lt}
+use Rattle.ct_bytes.proofs.Words.{this_node_is}
+use Rattle.ct_bytes.proofs.AddressOrder.{same_itself, less_differs, same_flips}
+use Rattle.ct_bytes.specs.Words.{is_this_node}
 use Rattle.ct_frame.specs.Fields.{ascends, ascends_after, assigned_before}
 use Rattle.std.specs.declared.cmp.Ordering.{Ordering}
 use Rattle.std.specs.declared.cmp.Ordering.TheVariants.{Less, Equal, Greater}
 use Rattle.std.proofs.lemmas.Bool.Decides.{nat_tests}
-use Rattle.ct_bytes.specs.Address.{address_cmp}
+use Rattle.ct_bytes.specs.Address.{address_cmp, same_address}
 use Rattle.ct_bytes.specs.declared.address.Address.{Address}
 use Rattle.ct_bytes.specs.declared.address.Address.TheVariants.{V4, V6}
-use Rattle.ct_msg.specs.Config.{same_address}
 use Rattle.ct_frame.specs.declared.frame.Assigned.{Assigned}
 use Rattle.ct_lcp2.specs.Distance.{squared, sum_to, imbalance}
-use Rattle.ct_lcp2.specs.Placing.{addresses, Ascend, freed, must_leave, is_at, held, others, sent, beside, total, homeless}
+use Rattle.ct_lcp2.specs.Placing.{addresses, Ascend, freed, must_leave, held, others, sent, beside, total, homeless}
 use Rattle.ct_lcp2.proofs.Distances.{squared_symmetric, sum_within}
 use Rattle.ct_lcp2.proofs.Choices.{all_weaken}
 
 -- ---- one address
-
-number_itself : (m : ℕ) → (m == m) ≡ true
-number_itself m = grind arith
-
-pub same_itself : (a : Address) → same_address a a ≡ true
-same_itself (V4 a) = number_itself a
-same_itself (V6 a) = number_itself a
-
-number_differs : (a b : ℕ) → nat_cmp a b ≡ Less → (a == b) ≡ false
-number_differs a b e = grind (arith, nat_tests)
-
-less_differs : (a b : Address) → address_cmp a b ≡ Less → same_address a b ≡ false
-less_differs (V4 a) (V4 b) e = number_differs a b e
-less_differs (V6 a) (V6 b) e = number_differs a b e
-less_differs (V4 a) (V6 b) e = refl
-less_differs (V6 a) (V4 b) e = refl
-
-number_flips : (a b : ℕ) → (a == b) ≡ (b == a)
-number_flips a b = grind arith
-
-same_flips : (a b : Address) → same_address a b ≡ same_address b a
-same_flips (V4 a) (V4 b) = number_flips a b
-same_flips (V6 a) (V6 b) = number_flips a b
-same_flips (V4 a) (V6 b) = refl
-same_flips (V6 a) (V4 b) = refl
 
 -- ---- lists of addresses
 
@@ -110,7 +87,7 @@ left_behind a pre post h =
 pub held_length : (n : ℕ) (xs : List Assigned) → length (held n xs) ≤ length xs
 unfolding held
 held_length n [] = omega arith
-held_length n (x ∷ xs) = by (is_at n x.node) (held_length n xs)
+held_length n (x ∷ xs) = by (is_this_node n x.node) (held_length n xs)
   where
     by : (t : Bool) → length (held n xs) ≤ length xs → length (if t then x.address ∷ held n xs else held n xs) ≤ suc (length xs)
     by true h = omega arith
@@ -119,7 +96,7 @@ held_length n (x ∷ xs) = by (is_at n x.node) (held_length n xs)
 all_held : (P : Address → Type 0) (n : ℕ) (xs : List Assigned) → AllByRecursion P (addresses xs) → AllByRecursion P (held n xs)
 unfolding held
 all_held P n [] h = tt
-all_held P n (x ∷ xs) h = by (is_at n x.node) (all_held P n xs h.1)
+all_held P n (x ∷ xs) h = by (is_this_node n x.node) (all_held P n xs h.1)
   where
     by : (t : Bool) → AllByRecursion P (held n xs) → AllByRecursion P (if t then x.address ∷ held n xs else held n xs)
     by true k = (h.0, k)
@@ -128,7 +105,7 @@ all_held P n (x ∷ xs) h = by (is_at n x.node) (all_held P n xs h.1)
 pub held_ascends : (n : ℕ) (xs : List Assigned) → Ascend xs → IsStrictlySortedBy address_cmp (held n xs)
 unfolding held IsStrictlySortedBy
 held_ascends n [] h = tt
-held_ascends n (x ∷ xs) h = by (is_at n x.node) (held_ascends n xs h.1)
+held_ascends n (x ∷ xs) h = by (is_this_node n x.node) (held_ascends n xs h.1)
   where
     by : (t : Bool) → IsStrictlySortedBy address_cmp (held n xs) → IsStrictlySortedBy address_cmp (if t then x.address ∷ held n xs else held n xs)
     by true k = (all_held (λ b. address_cmp x.address b ≡ Less) n xs h.0, k)
@@ -198,12 +175,12 @@ homeless_falls (y ∷ ys) = (
 sum_held_insert : (b : Address) (m : ℕ) (pre : List Assigned) (x : Assigned) (post : List Assigned)
     → sum_to b (held m (pre ++ x ∷ post)) ≡ sum_to b (held m (x ∷ [])) + sum_to b (held m (pre ++ post))
 unfolding held sum_to
-sum_held_insert b m [] x post = by (is_at m x.node)
+sum_held_insert b m [] x post = by (is_this_node m x.node)
   where
     by : (t : Bool) → sum_to b (if t then x.address ∷ held m post else held m post) ≡ sum_to b (if t then x.address ∷ [] else []) + sum_to b (held m post)
     by true = omega arith
     by false = omega arith
-sum_held_insert b m (y ∷ pre) x post = by (is_at m y.node) (sum_held_insert b m pre x post)
+sum_held_insert b m (y ∷ pre) x post = by (is_this_node m y.node) (sum_held_insert b m pre x post)
   where
     by : (t : Bool) → sum_to b (held m (pre ++ x ∷ post)) ≡ sum_to b (held m (x ∷ [])) + sum_to b (held m (pre ++ post))
         → sum_to b (if t then y.address ∷ held m (pre ++ x ∷ post) else held m (pre ++ x ∷ post)) ≡ sum_to b (held m (x ∷ [])) + sum_to b (if t then y.address ∷ held m (pre ++ post) else held m (pre ++ post))
@@ -221,7 +198,7 @@ eq_flips m n = grind arith
 
 -- two addresses at one node count alike
 pair_flips : (a b : Address) (o p : Option ℕ) → sum_to a (beside o (record { address = b; node = p } ∷ [])) ≡ sum_to b (beside p (record { address = a; node = o } ∷ []))
-unfolding held sum_to
+unfolding held is_this_node sum_to
 pair_flips a b None None = refl
 pair_flips a b None (Some n) = refl
 pair_flips a b (Some m) None = refl
@@ -260,18 +237,18 @@ sent_split a s t (x ∷ pre) post hp hq =
 held_append : (m : ℕ) (xs ys : List Assigned) → held m (xs ++ ys) ≡ held m xs ++ held m ys
 unfolding held
 held_append m [] ys = refl
-held_append m (x ∷ xs) ys = by (is_at m x.node) (held_append m xs ys)
+held_append m (x ∷ xs) ys = by (is_this_node m x.node) (held_append m xs ys)
   where
     by : (t : Bool) → held m (xs ++ ys) ≡ held m xs ++ held m ys → (if t then x.address ∷ held m (xs ++ ys) else held m (xs ++ ys)) ≡ (if t then x.address ∷ held m xs else held m xs) ++ held m ys
     by true h = ap (λ cs. x.address ∷ cs) h
     by false h = h
 
 held_own : (a : Address) (s : ℕ) (post : List Assigned) → held s (record { address = a; node = Some s } ∷ post) ≡ a ∷ held s post
-unfolding held
+unfolding held is_this_node
 held_own a s post = let e : nat_eq s s ≡ true = grind arith in ap (λ t. if t then a ∷ held s post else held s post) e
 
 held_other : (a : Address) (s t : ℕ) (post : List Assigned) → nat_eq t s ≡ false → held t (record { address = a; node = Some s } ∷ post) ≡ held t post
-unfolding held
+unfolding held is_this_node
 held_other a s t post d = let e : nat_eq s t ≡ false = grind arith in ap (λ b. if b then a ∷ held t post else held t post) e
 
 -- the total after and before one address at node s was sent to node t
@@ -304,17 +281,13 @@ Splits xs s a = (pre : List Assigned) × (post : List Assigned) × (xs ≡ pre +
 one_further : (x : Assigned) (xs : List Assigned) (s : ℕ) (a : Address) → Splits xs s a → Splits (x ∷ xs) s a
 one_further x xs s a h = (x ∷ h.0, h.1, ap (λ ys. x ∷ ys) h.2)
 
-is_node : (s : ℕ) (o : Option ℕ) → is_at s o ≡ true → o ≡ Some s
-is_node s None e = absurd (cc)
-is_node s (Some n) e = let same : n ≡ s = grind arith in ap (λ k. Some k) same
-
 pub all_split : (s : ℕ) (xs : List Assigned) → AllByRecursion (Splits xs s) (held s xs)
 unfolding held
 all_split s [] = tt
-all_split s (x ∷ xs) = by (is_at s x.node) refl (all_weaken (Splits xs s) (Splits (x ∷ xs) s) (one_further x xs s) (held s xs) (all_split s xs))
+all_split s (x ∷ xs) = by (is_this_node s x.node) refl (all_weaken (Splits xs s) (Splits (x ∷ xs) s) (one_further x xs s) (held s xs) (all_split s xs))
   where
-    by : (t : Bool) → is_at s x.node ≡ t → AllByRecursion (Splits (x ∷ xs) s) (held s xs) → AllByRecursion (Splits (x ∷ xs) s) (if t then x.address ∷ held s xs else held s xs)
-    by true e more = (([], xs, ap (λ o. record { address = x.address; node = o } ∷ xs) (is_node s x.node e)), more)
+    by : (t : Bool) → is_this_node s x.node ≡ t → AllByRecursion (Splits (x ∷ xs) s) (held s xs) → AllByRecursion (Splits (x ∷ xs) s) (if t then x.address ∷ held s xs else held s xs)
+    by true e more = (([], xs, ap (λ o. record { address = x.address; node = o } ∷ xs) (this_node_is s x.node e)), more)
     by false e more = more
 
 -- the total falls where the address is nearer to the source's others

@@ -4,13 +4,13 @@ use native.Mathlib.Nat.{le_refl}
 use Rattle.std.specs.Prelude.{if◌then◌else◌, is_some, option_map, map, not, nat_eq, ◌||◌}
 use Rattle.std.specs.List.{AllByRecursion}
 use Rattle.std.specs.List.Sorted.{IsStrictlySortedBy}
-use Rattle.ct_bytes.specs.Address.{address_cmp}
+use Rattle.ct_bytes.specs.Words.{is_nil}
+use Rattle.ct_bytes.specs.Address.{address_cmp, same_address}
 use Rattle.ct_bytes.specs.declared.address.Address.{Address}
-use Rattle.ct_msg.specs.Config.{same_address}
 use Rattle.ct_frame.specs.declared.frame.Assigned.{Assigned}
 use Rattle.ct_lcp2.specs.Distance.{sum_to, imbalance}
 use Rattle.ct_lcp2.specs.Best.{best, best_from}
-use Rattle.ct_lcp2.specs.Placing.{Ascend, sent, moved, homeless, total, held, others, may_fail_back, failbacks, choice_before, source_before, places, sources, next_place, next_failback, one_placed, one_failed_back, filled, failed_back, repeated, if_some, begun, targets_of, placement, placed, source_of, addresses, is_able, must_leave, freed, is_none, places_at, failbacks_of}
+use Rattle.ct_lcp2.specs.Placing.{Ascend, sent, moved, homeless, total, held, others, may_fail_back, failbacks, choice_before, source_before, places, sources, next_place, next_failback, one_placed, one_failed_back, filled, failed_back, repeated, if_some, begun, targets_of, placement, placed, source_of, addresses, is_able, must_leave, freed, places_at, failbacks_of}
 use Rattle.ct_lcp2.specs.declared.choice.Choice.{Choice}
 use Rattle.ct_lcp2.specs.declared.choice.Source.{Source}
 use Rattle.ct_lcp2.specs.declared.placement.Placement.{Placement}
@@ -278,7 +278,7 @@ failbacks_able able source (n ∷ ns) xs h = by (nat_eq n source) (failbacks_abl
 
 targets_able : (able ns : List ℕ) (given : List Assigned) → AllAble able ns → AllAble able (targets_of ns given)
 targets_able able [] given h = tt
-targets_able able (n ∷ ns) given h = by (is_none (held n given)) (targets_able able ns given h.1)
+targets_able able (n ∷ ns) given h = by (is_nil (held n given)) (targets_able able ns given h.1)
   where
     by : (t : Bool) → AllAble able (targets_of ns given) → AllAble able (if t then n ∷ targets_of ns given else targets_of ns given)
     by true k = (h.0, k)

@@ -3,10 +3,9 @@
 use Rattle.std.specs.Prelude.{ℕ, zero, suc, ◌+◌, Bool, true, false, not, ◌&&◌, ◌||◌, ◌==◌, nat_lt, nat_eq, is_some, if◌then◌else◌, List, [], ◌∷◌, ◌++◌, map, Option, None, Some, option_map}
 use Rattle.std.specs.List.{filter, list_any}
 use Rattle.std.specs.List.Sorted.{IsStrictlySortedBy}
-use Rattle.ct_bytes.specs.Address.{address_cmp}
+use Rattle.ct_bytes.specs.Words.{is_nil, is_this_node}
+use Rattle.ct_bytes.specs.Address.{address_cmp, address_before, same_address}
 use Rattle.ct_bytes.specs.declared.address.Address.{Address}
-use Rattle.ct_msg.specs.Config.{same_address}
-use Rattle.ct_frame.specs.Fields.{address_before}
 use Rattle.ct_frame.specs.declared.frame.Assigned.{Assigned}
 use Rattle.ct_lcp2.specs.Distance.{sum_to, imbalance}
 use Rattle.ct_lcp2.specs.Best.{best, better}
@@ -24,14 +23,10 @@ addresses xs = map (λ x. x.address) xs
 abbrev pub Ascend : List Assigned → Type 0
 Ascend xs = IsStrictlySortedBy address_cmp (addresses xs)
 
-abbrev pub is_at : ℕ → Option ℕ → Bool
-is_at node None = false
-is_at node (Some n) = nat_eq n node
-
 -- the addresses at a node
 unfoldable pub held : ℕ → List Assigned → List Address
 held node [] = []
-held node (x ∷ xs) = if is_at node x.node then x.address ∷ held node xs else held node xs
+held node (x ∷ xs) = if is_this_node node x.node then x.address ∷ held node xs else held node xs
 
 abbrev pub others : Address → List Address → List Address
 others a bs = filter (λ b. not (same_address a b)) bs
@@ -184,13 +179,9 @@ failed_back able targets p = repeated (total p.at) (one_failed_back able targets
 
 -- ---- the whole
 
-abbrev pub is_none : List Address → Bool
-is_none [] = true
-is_none (a ∷ rest) = false
-
 -- the able nodes that hold no address in the given placement
 abbrev pub targets_of : List ℕ → List Assigned → List ℕ
-targets_of able given = filter (λ node. is_none (held node given)) able
+targets_of able given = filter (λ node. is_nil (held node given)) able
 
 -- the placement over the able nodes that is made of the given one, and its moves in order
 unfoldable pub placement : List ℕ → List Assigned → Placement

@@ -1,7 +1,6 @@
 //! What may be done with an address, and which of it comes first.
 ghost use Rattle.std.specs.Prelude.{◌≡◌};
-ghost use Rattle.ct_frame.specs.Fields.{address_before};
-ghost use Rattle.ct_msg.specs.Config.{same_address};
+ghost use Rattle.ct_bytes.specs.Address.{address_before, same_address};
 ghost use Rattle.ct_lcp2.specs.Best.{better};
 ghost use Rattle.ct_lcp2.specs.Placing.{choice_before, source_before};
 

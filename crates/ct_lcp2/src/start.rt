@@ -1,6 +1,7 @@
 //! Before addresses are placed: who is able, who leaves, and who may be a target.
 ghost use Rattle.std.specs.Prelude.{◌≡◌, IfOk};
-ghost use Rattle.ct_lcp2.specs.Placing.{begun, freed, held, is_able, is_at, must_leave, targets_of};
+ghost use Rattle.ct_bytes.specs.Words.{is_this_node};
+ghost use Rattle.ct_lcp2.specs.Placing.{begun, freed, held, is_able, must_leave, targets_of};
 
 use crate::placement::{Move, Placement};
 use ct_bytes::address::Address;
@@ -9,8 +10,9 @@ use ct_bytes::memory::NoMemory;
 use ct_frame::frame::Assigned;
 use std::alloc::Global;
 
-fn is_at(node: u32, at: Option<u32>) -> bool
-    ensures { result ≡ is_at node at }
+#[tactic(auto, unfolding(ct_bytes::specs::Words::is_this_node))]
+fn is_this_node(node: u32, at: Option<u32>) -> bool
+    ensures { result ≡ is_this_node node at }
 {
     match at {
         None => false,
@@ -25,7 +27,7 @@ pub fn held(alloc: Global, node: u32, at: &[Assigned]) -> Result<Vec<Address>, N
 {
     let mut addresses = Vec::new(alloc);
     for x in at {
-        if is_at(node, x.node) {
+        if is_this_node(node, x.node) {
             addresses.push(x.address)?;
         }
     }

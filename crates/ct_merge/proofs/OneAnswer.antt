@@ -4,9 +4,9 @@ use Rattle.std.specs.Prelude.{map}
 use Rattle.std.specs.declared.cmp.Ordering.{Ordering}
 use Rattle.std.specs.Ordering.{is_eq, is_lt, nat_cmp}
 use Rattle.std.specs.Cmp.{IsTotalOrder, nat_cmp_total, on_total, tied_then}
-use Rattle.std.specs.Cmp.Lexicographic.{slice_cmp}
 use Rattle.std.specs.List.{find}
 use Rattle.std.specs.List.Sorted.{IsStrictlySortedBy}
+use Rattle.ct_bytes.specs.Key.{key_cmp}
 use Rattle.ct_bytes.specs.Address.{address_cmp}
 use Rattle.ct_frame.specs.declared.frame.Assigned.{Assigned}
 use Rattle.ct_frame.specs.declared.frame.PTable.{PTable}
@@ -37,11 +37,11 @@ abbrev table_order : TableRow → TableRow → Ordering
 table_order a b = place_cmp (a.db, a.key) (b.db, b.key)
 
 row_test : (z : TableRow) (table : List TableRow) → find (λ w. is_eq (table_order z w)) table ≡ row_at z.db z.key table
-row_test z table = λ i. find (λ w. sym (tied_then (nat_cmp z.db w.db) (slice_cmp nat_cmp z.key w.key)) i) table
+row_test z table = λ i. find (λ w. sym (tied_then (nat_cmp z.db w.db) (key_cmp z.key w.key)) i) table
 
 one_table : (a b : List TableRow) → ascends row_before a ≡ true → ascends row_before b ≡ true → ((db : ℕ) (key : List ℕ) → row_at db key a ≡ row_at db key b) → a ≡ b
 one_table a b h k e =
-    one_list table_order (on_total (λ r. (r.db, r.key)) place_total) row_before (λ x y. sym (is_lt_then (nat_lt x.db y.db) (x.db == y.db) (slice_cmp nat_cmp x.key y.key))) a b h k
+    one_list table_order (on_total (λ r. (r.db, r.key)) place_total) row_before (λ x y. sym (is_lt_then (nat_lt x.db y.db) (x.db == y.db) (key_cmp x.key y.key))) a b h k
     (λ z. row_test z a ∙ e z.db z.key ∙ sym (row_test z b))
 
 one_volatile : (pulls : List Pull) (m n : Merged) → IsVolatileMerge pulls m → IsVolatileMerge pulls n → m ≡ n

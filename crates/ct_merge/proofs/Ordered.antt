@@ -3,14 +3,15 @@ use Rattle.std.proofs.Common.{◌≡◌, ℕ, Bool, true, false, cond, ◌&&◌,
 use Rattle.std.specs.Prelude.{if◌then◌else◌, map}
 use Rattle.std.specs.declared.cmp.Ordering.{Ordering}
 use Rattle.std.specs.declared.cmp.Ordering.TheVariants.{Less, Equal, Greater}
-use Rattle.std.specs.Ordering.{is_lt, nat_cmp, ordering_then}
+use Rattle.std.specs.Ordering.{is_lt, ordering_then}
 use Rattle.std.specs.Cmp.{IsTotalOrder}
-use Rattle.std.specs.Cmp.Lexicographic.{slice_cmp}
 use Rattle.std.specs.List.{AllByRecursion}
 use Rattle.std.specs.List.Sorted.{IsStrictlySortedBy}
+use Rattle.ct_bytes.specs.Key.{key_cmp}
+use Rattle.ct_bytes.specs.Address.{address_before}
 use Rattle.ct_frame.specs.declared.frame.TableRow.{TableRow}
 use Rattle.ct_frame.specs.declared.round.Pull.{Pull}
-use Rattle.ct_frame.specs.Fields.{ascends, ascends_after, row_before, ptable_before, address_before, assigned_before, are_addresses}
+use Rattle.ct_frame.specs.Fields.{ascends, ascends_after, row_before, ptable_before, assigned_before, are_addresses}
 use Rattle.ct_merge.specs.declared.held.HeldRow.{HeldRow}
 use Rattle.ct_merge.specs.declared.held.HeldPTable.{HeldPTable}
 use Rattle.ct_merge.specs.declared.held.HeldAddress.{HeldAddress}
@@ -79,7 +80,7 @@ is_lt_nat false true = refl
 is_lt_nat false false = refl
 
 pub row_is : (a b : HeldRow) → row_before a.row b.row ≡ is_lt (row_order a b)
-row_is a b = sym (is_lt_then (nat_lt a.row.db b.row.db) (a.row.db == b.row.db) (slice_cmp nat_cmp a.row.key b.row.key))
+row_is a b = sym (is_lt_then (nat_lt a.row.db b.row.db) (a.row.db == b.row.db) (key_cmp a.row.key b.row.key))
 
 pub ptable_is : (a b : HeldPTable) → ptable_before a.ptable b.ptable ≡ is_lt (ptable_order a b)
 ptable_is a b = sym (is_lt_nat (nat_lt a.ptable.db b.ptable.db) (a.ptable.db == b.ptable.db))

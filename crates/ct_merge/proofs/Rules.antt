@@ -6,9 +6,10 @@ use Rattle.std.specs.declared.cmp.Ordering.TheVariants.{Less, Equal, Greater}
 use Rattle.std.specs.Ordering.{is_eq, nat_cmp, ordering_then}
 use Rattle.std.specs.Option.{option_map}
 use Rattle.std.specs.Cmp.{IsTotalOrder, alike_right, nat_cmp_total, on_total, then_total, tied_then}
-use Rattle.std.specs.Cmp.Lexicographic.{slice_cmp, nat_list_cmp_total}
+use Rattle.std.specs.Cmp.Lexicographic.{nat_list_cmp_total}
 use Rattle.std.specs.List.{find}
 use Rattle.std.proofs.lemmas.List.{drop_all}
+use Rattle.ct_bytes.specs.Key.{key_cmp}
 use Rattle.ct_bytes.specs.Address.{address_cmp}
 use Rattle.ct_bytes.specs.declared.address.Address.{Address}
 use Rattle.ct_frame.specs.declared.frame.Assigned.{Assigned}
@@ -54,7 +55,7 @@ from_zero n = grind arith
 
 -- rows by database and key
 abbrev pub place_cmp : (ℕ × List ℕ) → (ℕ × List ℕ) → Ordering
-place_cmp a b = ordering_then (nat_cmp a.0 b.0) (slice_cmp nat_cmp a.1 b.1)
+place_cmp a b = ordering_then (nat_cmp a.0 b.0) (key_cmp a.1 b.1)
 
 pub place_total : IsTotalOrder place_cmp
 place_total = then_total (on_total (λ a. a.0) nat_cmp_total) (on_total (λ a. a.1) nat_list_cmp_total)
@@ -63,7 +64,7 @@ abbrev pub row_place : HeldRow → (ℕ × List ℕ)
 row_place h = (h.row.db, h.row.key)
 
 pub row_test : (db : ℕ) (key : List ℕ) (h : HeldRow) → is_row_at db key h.row ≡ is_eq (place_cmp (db, key) (row_place h))
-row_test db key h = tied_then (nat_cmp db h.row.db) (slice_cmp nat_cmp key h.row.key)
+row_test db key h = tied_then (nat_cmp db h.row.db) (key_cmp key h.row.key)
 
 pub rows_alike : (db : ℕ) (key : List ℕ) (x y : HeldRow) → row_order x y ≡ Equal → is_row_at db key x.row ≡ is_row_at db key y.row
 rows_alike db key x y h = row_test db key x ∙ alike_at place_cmp place_total row_place (db, key) x y h ∙ sym (row_test db key y)

@@ -2,8 +2,9 @@
 use Rattle.std.specs.Prelude.{ℕ, Bool, false, ◌&&◌, ◌==◌, List, [], Option, None, Some, nat_eq, map, if◌then◌else◌}
 use Rattle.std.specs.declared.cmp.Ordering.{Ordering}
 use Rattle.std.specs.Ordering.{nat_cmp, bool_cmp, ordering_then}
-use Rattle.std.specs.Cmp.Lexicographic.{slice_cmp}
 use Rattle.std.specs.BTreeMap.{is_at}
+use Rattle.ct_bytes.specs.Key.{key_cmp}
+use Rattle.ct_bytes.specs.Words.{is_this_node}
 use Rattle.ct_bytes.specs.Address.{address_cmp}
 use Rattle.ct_bytes.specs.declared.address.Address.{Address}
 use Rattle.ct_frame.specs.declared.frame.PTable.{PTable}
@@ -20,19 +21,15 @@ is_in_order pull = ascends row_before pull.table && ascends ptable_before pull.p
 
 -- rows are in the order of their databases, and then of their keys
 abbrev pub row_order : HeldRow → HeldRow → Ordering
-row_order a b = ordering_then (nat_cmp a.row.db b.row.db) (slice_cmp nat_cmp a.row.key b.row.key)
+row_order a b = ordering_then (nat_cmp a.row.db b.row.db) (key_cmp a.row.key b.row.key)
 
 -- does the row stand at this database and key?
 abbrev pub is_row_at : ℕ → List ℕ → TableRow → Bool
-is_row_at db key row = is_at (nat_cmp db) row.db && is_at (slice_cmp nat_cmp key) row.key
-
-abbrev pub names : ℕ → Option ℕ → Bool
-names node None = false
-names node (Some m) = nat_eq m node
+is_row_at db key row = is_at (nat_cmp db) row.db && is_at (key_cmp key) row.key
 
 -- does the row name its own node as data master?
 abbrev pub is_own : HeldRow → Bool
-is_own h = names h.node h.row.master
+is_own h = is_this_node h.node h.row.master
 
 -- of several rows at a key the greatest RSN comes first; of these those that name their own node as data master; and
 -- of these the lowest node's

@@ -62,6 +62,7 @@ impl Duplicate for HeldAddress {
 
 impl HeldRow {
     /// Does the row name its own node as data master?
+    #[tactic(auto, unfolding(ct_bytes::specs::Words::is_this_node))]
     fn is_own(&self) -> bool
         ensures { result ≡ is_own self.now }
     {

@@ -1,6 +1,7 @@
 //! Whether the lists of pulls are in order.
 ghost use Rattle.std.specs.Prelude.{◌≡◌, Bool};
-ghost use Rattle.ct_frame.specs.Fields.{address_before, ascends, ptable_before, row_before};
+ghost use Rattle.ct_bytes.specs.Address.{address_before};
+ghost use Rattle.ct_frame.specs.Fields.{ascends, ptable_before, row_before};
 ghost use Rattle.ct_merge.specs.Held.{is_in_order};
 ghost use Rattle.ct_merge.specs.Rule.{are_in_order};
 

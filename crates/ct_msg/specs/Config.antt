@@ -3,7 +3,7 @@ use Rattle.std.specs.Prelude.{ℕ, ◌≡◌, ◌+◌, Bool, false, ◌||◌, �
 use Rattle.std.specs.List.{list_any}
 use Rattle.std.specs.List.Sorted.{IsPermutation, IsStrictlySortedBy}
 use Rattle.std.specs.Cmp.Lexicographic.{pointwise}
-use Rattle.ct_bytes.specs.Address.{address_cmp}
+use Rattle.ct_bytes.specs.Address.{address_cmp, same_address}
 use Rattle.ct_bytes.specs.declared.address.Address.{Address}
 use Rattle.ct_bytes.specs.declared.address.Address.TheVariants.{V4, V6}
 use Rattle.ct_msg.specs.declared.config.Config.{Config}
@@ -18,12 +18,6 @@ lock_db = record { name = 103 ∷ 95 ∷ 108 ∷ 111 ∷ 99 ∷ 107 ∷ []; kind
 
 abbrev pub same_name : DbDecl → DbDecl → Bool
 same_name d e = pointwise nat_eq d.name e.name
-
-abbrev pub same_address : Address → Address → Bool
-same_address (V4 a) (V4 b) = a == b
-same_address (V6 a) (V6 b) = a == b
-same_address (V4 a) (V6 b) = false
-same_address (V6 a) (V4 b) = false
 
 -- the place of the first item that is the same as one before it, where the items of `before` stand before all,
 -- and the first of the others has place i

@@ -1,6 +1,7 @@
 //! What a cluster is made of: its nodes, its databases and its addresses.
 ghost use Rattle.std.specs.Prelude.{◌≡◌, ◌<◌, ◌^◌, ◌∷◌, [], IfOk, length};
-ghost use Rattle.ct_msg.specs.Config.{Configures, lock_db, repeated_address, repeat_from, same_address, same_name};
+ghost use Rattle.ct_bytes.specs.Address.{same_address};
+ghost use Rattle.ct_msg.specs.Config.{Configures, lock_db, repeated_address, repeat_from, same_name};
 ghost use Rattle.std.specs.List.{list_any};
 
 use ct_bytes::address::Address;

@@ -7,9 +7,10 @@ use Rattle.std.specs.Ordering.{is_lt, ordering_reverse, match_ordering}
 use Rattle.std.specs.List.{AllByRecursion, list_all}
 use Rattle.std.specs.List.Sorted.{IsStrictlySortedBy}
 use Rattle.std.specs.Map.{keys_of}
+use Rattle.ct_bytes.specs.Key.{key_cmp}
 use Rattle.ct_msg.specs.declared.client.Pair.{Pair}
 use Rattle.ct_frame.specs.Fields.{ascends, ascends_after, pair_before, is_kept}
-use Rattle.ct_store.specs.Map.{Pairs, Ascends, key_cmp, write}
+use Rattle.ct_store.specs.Map.{Pairs, Ascends, write}
 use Rattle.ct_store.proofs.Maps.{key_total}
 use Rattle.ct_persist.specs.Persisted.{IsKept, keyed, listed}
 use Rattle.ct_persist.proofs.Looks.{V, Full}

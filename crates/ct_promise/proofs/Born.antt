@@ -7,9 +7,11 @@ use Rattle.std.proofs.lemmas.Slice.Eq.{bytes_eq-Decides}
 use Rattle.std.proofs.lemmas.Map.Text.{is_eq-slice_cmp}
 use Rattle.std.specs.List.Sorted.{IsStrictlySortedBy}
 use Rattle.std.proofs.lemmas.List.Sorted.{IsPermutation-refl}
+use Rattle.ct_bytes.specs.Key.{key_cmp}
+use Rattle.ct_msg.specs.Client.{wants_record}
 use Rattle.ct_msg.specs.declared.config.DbKind.TheVariants.{Volatile}
 use Rattle.ct_frame.specs.declared.frame.TableRow.{TableRow}
-use Rattle.ct_store.specs.Map.{look, Ascends, key_cmp}
+use Rattle.ct_store.specs.Map.{look, Ascends}
 use Rattle.ct_rules.specs.Form
 use Rattle.ct_rules.specs.declared.state.RecState.{RecState}
 use Rattle.ct_rules_node.specs.Admission.{record_in}
@@ -57,7 +59,7 @@ one_drawn : 1 < 2
 one_drawn = omega arith
 
 at_zero : (key : List ℕ) → Sound 0 1 2 (look key (node.db_at 1 (Nodes.installed 0 (Nodes.frozen Nodes.waits 2))).records) (begun_with 1 key) key
-unfolding Sound node.or_nothing Born.born_state Born.WishIsSound node.db_at node.or_untouched node.untouched node.opening node.master_of node.or_zero rounds.installed_node rounds.installed_dbs rounds.installed_db rounds.install_rows rounds.install_row rounds.changed rounds.bared rounds.installed_state rounds.copy_from rounds.entry_from rounds.row_master rounds.or_nobody Form.is_wanting
+unfolding Sound node.or_nothing Born.born_state Born.WishIsSound node.db_at node.or_untouched node.untouched node.opening node.master_of node.or_zero rounds.installed_node rounds.installed_dbs rounds.installed_db rounds.install_rows rounds.install_row rounds.changed rounds.bared rounds.installed_state rounds.copy_from rounds.entry_from rounds.row_master rounds.or_nobody wants_record
 at_zero key = of_row (Sound 0 1 2) _ key (refl, record { wanting = refl; of_db = refl; of_key = refl; drawn = one_drawn }) (of_none 0 1 2 key)
 
 at_one : (key : List ℕ) → Sound 1 1 1 (look key (node.db_at 1 (Nodes.installed 1 (Nodes.frozen [] 1))).records) (begun_with 1 key) key

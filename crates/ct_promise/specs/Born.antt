@@ -1,13 +1,13 @@
 -- What is promised of records in a generation that began with some.
 use Rattle.std.specs.Prelude.{◌≡◌, ℕ, ◌+◌, ◌<◌, ◌≤◌, ◌^◌, nat_eq, nat_lt, Bool, true, false, not, List, [], ◌∷◌, length, map, Option, None, Some}
 use Rattle.std.specs.List.{list_all}
+use Rattle.ct_msg.specs.Client.{db_of, key_of, wants_record}
 use Rattle.ct_msg.specs.declared.config.Config.{Config}
 use Rattle.ct_frame.specs.Fields.{ascends}
 use Rattle.ct_frame.specs.declared.frame.TableRow.{TableRow}
 use Rattle.ct_call.specs.Rules.{Rules}
 use Rattle.ct_store.specs.Map.{Ascends}
 use Rattle.ct_rules.specs.State.{nothing_kept}
-use Rattle.ct_rules.specs.Form.{is_wanting}
 use Rattle.ct_rules.specs.declared.state.RecState.{RecState}
 use Rattle.ct_rules.specs.declared.state.Wish.{Wish}
 use Rattle.ct_rules_node.specs.Admission.{record_in}
@@ -19,7 +19,6 @@ use Rattle.ct_cluster.specs.declared.step.PendingCall.{PendingCall}
 use Rattle.ct_cluster.specs.declared.step.Step.{Step}
 use Rattle.ct_register.specs.Register.{reading}
 use Rattle.ct_register.specs.Lines.{Lines}
-use Rattle.ct_register.specs.Legal.{db_of, key_of}
 use Rattle.ct_promise.specs.Promises.{IsConfig}
 use Rattle.ct_promise.specs.Generation.{is_of_one_generation, KeepsRecords}
 
@@ -31,7 +30,7 @@ Rows = ℕ → List ℕ → Option TableRow
 
 -- a call waits that wants this record, under a request that the node has drawn, or under none
 pub record MayWait (db : ℕ) (key : List ℕ) (next : ℕ) (wish : Wish) : Type 0 where
-  pub wanting : is_wanting wish.op ≡ true
+  pub wanting : wants_record wish.op ≡ true
   pub of_db : db_of wish.op ≡ db
   pub of_key : key_of wish.op ≡ key
   pub drawn : wish.request < next

@@ -1,6 +1,7 @@
 -- What is promised of records while no generation follows the first one.
 use Rattle.std.specs.Prelude.{◌≡◌, Bool, true, false, not, List, []}
 use Rattle.std.specs.List.{list_all, filter}
+use Rattle.ct_msg.specs.Client.{db_of}
 use Rattle.ct_msg.specs.declared.config.Config.{Config}
 use Rattle.ct_frame.specs.declared.event.Note.{Note}
 use Rattle.ct_frame.specs.declared.event.Note.TheVariants as note
@@ -12,7 +13,7 @@ use Rattle.ct_cluster.specs.declared.step.Step.{Step}
 use Rattle.ct_cluster.specs.declared.step.Step.TheVariants as step
 use Rattle.ct_register.specs.Lines
 use Rattle.ct_register.specs.Lines.{Lines}
-use Rattle.ct_register.specs.Legal.{db_of, AcceptsLabels}
+use Rattle.ct_register.specs.Legal.{AcceptsLabels}
 use Rattle.ct_register.specs.Stands.{RecordsStand}
 use Rattle.ct_promise.specs.Promises.{IsConfig, CallsStand}
 use Rattle.ct_rules_node.specs.Node.{is_persistent, kind_at}

@@ -4,6 +4,7 @@ use Rattle.std.specs.Prelude.{◌⊎◌, ◌++◌, nat_eq, nat_lt, not, ◌&&◌
 use Rattle.std.proofs.lemmas.Bool.{cases_eq, cond_both, eq-eqb}
 use Rattle.std.proofs.lemmas.List.{length-append}
 use Rattle.ct_bytes.specs.declared.address.Address.{Address}
+use Rattle.ct_msg.specs.Client.{db_of, key_of}
 use Rattle.ct_msg.specs.declared.client.Answer.{Answer}
 use Rattle.ct_msg.specs.declared.client.Answer.TheVariants as answer
 use Rattle.ct_msg.specs.declared.client.ClientOp.{ClientOp}
@@ -233,7 +234,7 @@ at_placing_formed n Step r s p f = subst IsFormed (sym p.3) (placing_formed (r.l
 
 answer_formed : (config : Config) (rules : Rules) (n : ℕ) (asked : ClientOp) (given : Answer) (r s : Lines) → Legal.AcceptsAnswer config rules n asked given r s → IsFormed r → IsFormed s
 answer_formed config rules n asked (answer.Refused (why.TooLong m)) r s p f =
-    at_record_formed config n (Legal.db_of asked) (Legal.key_of asked) (Register.Accepts rules n asked (answer.Refused (why.TooLong m))) r s (record_answered rules n asked (answer.Refused (why.TooLong m))) p f
+    at_record_formed config n (db_of asked) (key_of asked) (Register.Accepts rules n asked (answer.Refused (why.TooLong m))) r s (record_answered rules n asked (answer.Refused (why.TooLong m))) p f
 answer_formed config rules n asked (answer.Refused w) r s p f = subst IsFormed (sym p) f
 answer_formed config rules n (op.Commit db writes) given r s p f =
     at_database_formed config n db (Database.AcceptsCommit (r.members (r.line n)) n writes given) r s (commit_counted (r.members (r.line n)) n writes given) p f
@@ -241,7 +242,7 @@ answer_formed config rules n (op.Read db key) (answer.Read v) r s p f = ⊎_elim
     (λ (q : AtRecord config n db key (Register.Accepts rules n (op.Read db key) (answer.Read v)) r s). at_record_formed config n db key (Register.Accepts rules n (op.Read db key) (answer.Read v)) r s (record_answered rules n (op.Read db key) (answer.Read v)) q f)
     (λ (q : AtDatabase config n db (Database.AcceptsRead n key v) r s). at_database_formed config n db (Database.AcceptsRead n key v) r s (read_counted n key v) q f) p
 answer_formed config rules n asked given r s p f =
-    at_record_formed config n (Legal.db_of asked) (Legal.key_of asked) (Register.Accepts rules n asked given) r s (record_answered rules n asked given) p f
+    at_record_formed config n (db_of asked) (key_of asked) (Register.Accepts rules n asked given) r s (record_answered rules n asked given) p f
 
 note_formed : (config : Config) (n : ℕ) (noted : Note) (r s : Lines) → Legal.AcceptsNote config n noted r s → IsFormed r → IsFormed s
 note_formed config n (note.Vacuumed db key) r s p f = at_record_formed config n db key Register.AcceptsVacuum r s (λ x t a m is. inl (sym (ap (λ (r : Register). r.owner) a.2) ∙ is)) p f

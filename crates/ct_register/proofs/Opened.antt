@@ -2,8 +2,8 @@
 use Rattle.std.proofs.Common.{arith, ◌≡◌, ℕ, zero, suc, nat_lt, Bool, true, false, if◌then◌else◌, List, [], ◌∷◌, refl, sym, subst, ap, ◌∙◌}
 use Rattle.std.specs.Prelude.{slice_get, replicate, is_some}
 use Rattle.std.specs.List.{list_any}
+use Rattle.ct_bytes.specs.Address.{same_address}
 use Rattle.ct_bytes.specs.declared.address.Address.{Address}
-use Rattle.ct_msg.specs.Config.{same_address}
 use Rattle.ct_msg.specs.declared.config.Config.{Config}
 use Rattle.ct_frame.specs.declared.header.RecCopy.{RecCopy}
 use Rattle.ct_persist.specs.Updates

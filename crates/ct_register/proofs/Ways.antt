@@ -2,6 +2,7 @@
 use Rattle.std.proofs.Common.{◌≡◌, ℕ, Bool, true, false, List, [], ◌∷◌, sym, ap, ◌∙◌, ⊎_elim, subst}
 use Rattle.std.specs.Prelude.{◌+◌, ◌++◌, ◌&&◌, not, length, filter, Option, None, Some}
 use Rattle.std.proofs.lemmas.Bool.{and_parts, not-true}
+use Rattle.ct_msg.specs.Client.{db_of, key_of}
 use Rattle.ct_msg.specs.declared.client.Answer.{Answer}
 use Rattle.ct_msg.specs.declared.client.Answer.TheVariants as answer
 use Rattle.ct_msg.specs.declared.client.ClientOp.{ClientOp}
@@ -72,10 +73,10 @@ at_placing n f r = with_placing (r.line n) (f (r.placing (r.line n))) r
 
 abbrev pub answer_after : ℕ → ClientOp → Answer → Lines → Lines
 answer_after n asked (answer.Refused (why.TooLong m)) r =
-    at_record n (Legal.db_of asked) (Legal.key_of asked) (register_after n asked (answer.Refused (why.TooLong m))) r
+    at_record n (db_of asked) (key_of asked) (register_after n asked (answer.Refused (why.TooLong m))) r
 answer_after n asked (answer.Refused w) r = r
 answer_after n (op.Commit db writes) given r = at_database n db (database_after (r.members (r.line n)) given) r
-answer_after n asked given r = at_record n (Legal.db_of asked) (Legal.key_of asked) (register_after n asked given) r
+answer_after n asked given r = at_record n (db_of asked) (key_of asked) (register_after n asked given) r
 
 abbrev pub note_after : ℕ → Note → Lines → Lines
 note_after n (note.Vacuumed db key) r = at_record n db key Register.emptied r
@@ -152,14 +153,14 @@ read_one config rules n db key v r s c p =
 answer_one : (config : Config) (rules : Rules) (n : ℕ) (asked : ClientOp) (given : Answer) (r s : Lines) → leaves_choice config (Answered n asked given) ≡ false →
     Legal.AcceptsAnswer config rules n asked given r s → s ≡ answer_after n asked given r
 answer_one config rules n asked (answer.Refused (why.TooLong m)) r s c p =
-    record_one config n (Legal.db_of asked) (Legal.key_of asked) (Register.Accepts rules n asked (answer.Refused (why.TooLong m))) (register_after n asked (answer.Refused (why.TooLong m))) r s
+    record_one config n (db_of asked) (key_of asked) (Register.Accepts rules n asked (answer.Refused (why.TooLong m))) (register_after n asked (answer.Refused (why.TooLong m))) r s
     (register_one rules n asked (answer.Refused (why.TooLong m))) p
 answer_one config rules n asked (answer.Refused w) r s c p = p
 answer_one config rules n (op.Commit db writes) given r s c p =
     database_one config n db (Database.AcceptsCommit (r.members (r.line n)) n writes given) (database_after (r.members (r.line n)) given) r s (commit_one (r.members (r.line n)) n writes given) p
 answer_one config rules n (op.Read db key) (answer.Read v) r s c p = read_one config rules n db key v r s c p
 answer_one config rules n asked given r s c p =
-    record_one config n (Legal.db_of asked) (Legal.key_of asked) (Register.Accepts rules n asked given) (register_after n asked given) r s (register_one rules n asked given) p
+    record_one config n (db_of asked) (key_of asked) (Register.Accepts rules n asked given) (register_after n asked given) r s (register_one rules n asked given) p
 
 note_one : (config : Config) (rules : Rules) (n : ℕ) (noted : Note) (r s : Lines) → leaves_choice config (Noted n noted) ≡ false → Legal.AcceptsNote config n noted r s → s ≡ note_after n noted r
 note_one config rules n (note.Vacuumed db key) r s c p = record_one config n db key Register.AcceptsVacuum Register.emptied r s (λ x y a. a.2) p

@@ -1,5 +1,6 @@
 -- One persistent database in one generation: what it began with, its commits, and what each node has seen of them.
 use Rattle.std.specs.Prelude.{◌≡◌, ◌≢◌, ℕ, ◌+◌, ◌<◌, ◌≤◌, not, ◌&&◌, if◌then◌else◌, List, [], ◌∷◌, ◌++◌, length, take, Option, None, Some}
+use Rattle.ct_bytes.specs.Words.{or_empty}
 use Rattle.ct_msg.specs.declared.client.Answer.{Answer}
 use Rattle.ct_msg.specs.declared.client.Answer.TheVariants as answer
 use Rattle.ct_msg.specs.declared.client.Pair.{Pair}
@@ -30,14 +31,9 @@ newborn seq base = record { seq = seq; base = base; commits = []; committer = No
 abbrev pub contents_after : ℕ → Database → Pairs (List ℕ)
 contents_after j d = contents (take j d.commits) d.base
 
--- a value, and the empty one where there is none
-unfoldable pub value_or_empty : Option (List ℕ) → List ℕ
-value_or_empty None = []
-value_or_empty (Some v) = v
-
 -- the value of a key after the first j commits, and the empty value where it has none
 abbrev pub value_after : ℕ → List ℕ → Database → List ℕ
-value_after j key d = value_or_empty (look key (contents_after j d))
+value_after j key d = or_empty (look key (contents_after j d))
 
 -- the last of them
 unfoldable pub newest : List (List Pair) → Option (List Pair)

@@ -2,6 +2,7 @@
 -- seen, is left open.
 use Rattle.std.specs.Prelude.{◌≡◌, ◌≢◌, ◌⊎◌, ℕ, ◌+◌, ◌<◌, true, false, List, [], ◌∷◌, Option, None, Some}
 use Rattle.ct_bytes.specs.declared.address.Address.{Address}
+use Rattle.ct_msg.specs.Client.{db_of, key_of}
 use Rattle.ct_msg.specs.declared.client.Answer.{Answer}
 use Rattle.ct_msg.specs.declared.client.Answer.TheVariants as answer
 use Rattle.ct_msg.specs.declared.client.ClientOp.{ClientOp}
@@ -23,26 +24,6 @@ use Rattle.ct_register.specs.Lines.{Lines, with_record, with_database, with_plac
 use Rattle.ct_register.specs.Births.{Birth, PersistentBirth, born_of}
 
 -- ---- databases
-
--- the database of a request, and its key
-abbrev pub db_of : ClientOp → ℕ
-db_of (op.Lock db key) = db
-db_of (op.Read db key) = db
-db_of (op.Write db key value) = db
-db_of (op.Apply db key function arg) = db
-db_of (op.Store db key value) = db
-db_of (op.Unlock db key) = db
-db_of (op.Commit db writes) = db
-
--- the key of a request; a commit speaks of no single one
-abbrev pub key_of : ClientOp → List ℕ
-key_of (op.Lock db key) = key
-key_of (op.Read db key) = key
-key_of (op.Write db key value) = key
-key_of (op.Apply db key function arg) = key
-key_of (op.Store db key value) = key
-key_of (op.Unlock db key) = key
-key_of (op.Commit db writes) = []
 
 -- ---- what one register of a node's line does
 

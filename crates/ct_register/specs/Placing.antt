@@ -1,8 +1,9 @@
 -- Where the addresses of one generation are placed: by its push, and then by its takeover runs.
 use Rattle.std.specs.Prelude.{◌≡◌, ℕ, ◌+◌, nat_eq, Bool, true, false, ◌&&◌, List, filter, Option, None, Some, is_some}
 use Rattle.std.specs.List.{list_any}
+use Rattle.ct_bytes.specs.Words.{is_this_node}
+use Rattle.ct_bytes.specs.Address.{same_address}
 use Rattle.ct_bytes.specs.declared.address.Address.{Address}
-use Rattle.ct_msg.specs.Config.{same_address}
 use Rattle.ct_frame.specs.declared.frame.Assigned.{Assigned}
 use Rattle.ct_lcp2.specs.Placing.{placed}
 use Rattle.ct_rules_node.specs.Node.{is_among, assigned_all}
@@ -63,14 +64,9 @@ abbrev pub AcceptsTake : List Address → ℕ → List Assigned → Placing → 
 AcceptsTake addresses number assigned p q =
     (run : Run) × (p.runs number ≡ Some run) × (assigned ≡ take_list addresses run) × (q ≡ record p { taken = at number (Some assigned) p.taken; last = Some assigned })
 
--- is it this node?
-unfoldable pub is_node : ℕ → Option ℕ → Bool
-is_node n None = false
-is_node n (Some m) = nat_eq m n
-
 -- does the list assign the address to the node?
 unfoldable pub assigns : Address → ℕ → List Assigned → Bool
-assigns a n xs = list_any (λ x. same_address a x.address && is_node n x.node) xs
+assigns a n xs = list_any (λ x. same_address a x.address && is_this_node n x.node) xs
 
 -- some take that was sent assigns the address to the node
 abbrev pub IsAssigned : Address → ℕ → Placing → Type 0

@@ -1,8 +1,8 @@
 -- Which clusters the registers describe.
 use Rattle.std.specs.Prelude.{◌≡◌, ◌≢◌, ◌↔◌, ℕ, ◌+◌, ◌≤◌, nat_lt, true, List, length, None, Some, is_some}
 use Rattle.std.specs.List.{list_any}
+use Rattle.ct_bytes.specs.Address.{same_address}
 use Rattle.ct_bytes.specs.declared.address.Address.{Address}
-use Rattle.ct_msg.specs.Config.{same_address}
 use Rattle.ct_msg.specs.declared.config.Config.{Config}
 use Rattle.ct_msg.specs.declared.config.DbKind.TheVariants.{Persistent}
 use Rattle.ct_frame.specs.declared.header.RecCopy.{RecCopy}

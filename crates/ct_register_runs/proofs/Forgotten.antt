@@ -2,6 +2,7 @@
 use Rattle.std.proofs.Common.{◌≡◌, ℕ, zero, suc, ◌∙◌, ap, true, false, ◌≤◌, List, [], ◌∷◌, length, refl, sym, arith, ⊎_elim, subst}
 use Rattle.std.specs.Prelude.{nat_eq, nat_lt, if◌then◌else◌, ◌++◌, take, Some}
 use Rattle.std.proofs.lemmas.Bool.{cond_both}
+use Rattle.ct_bytes.specs.Words.{or_empty}
 use Rattle.ct_msg.specs.declared.client.Answer.TheVariants as answer
 use Rattle.ct_msg.specs.declared.client.ClientOp.TheVariants as op
 use Rattle.ct_frame.specs.declared.event.Note.TheVariants as note
@@ -127,9 +128,9 @@ reads_value : (n : ℕ) (v : List ℕ) (r s : Lines) → Legal.AcceptsLabel conf
     (j : ℕ) × ((r.databases (r.line n) 2).acked ≤ j) × ((r.databases (r.line n) 2).seen n ≤ j) × (j ≤ length (r.databases (r.line n) 2).commits) × (v ≡ Database.value_after j a (r.databases (r.line n) 2))
 reads_value n v r s h = let k = (read_of_database n v r s h).3 in (k.0, k.1, k.2, k.3, k.4)
 
-value_after_one : (j : ℕ) → j ≡ 1 → Database.value_or_empty (look a (Updates.contents (take j (one_write ∷ [])) [])) ≡ x
-unfolding Updates.contents Persisted.written Database.value_or_empty
-value_after_one j is = subst (λ j. Database.value_or_empty (look a (Updates.contents (take j (one_write ∷ [])) [])) ≡ x) (sym is) refl
+value_after_one : (j : ℕ) → j ≡ 1 → or_empty (look a (Updates.contents (take j (one_write ∷ [])) [])) ≡ x
+unfolding Updates.contents Persisted.written or_empty
+value_after_one j is = subst (λ j. or_empty (look a (Updates.contents (take j (one_write ∷ [])) [])) ≡ x) (sym is) refl
 
 committed_front : Lines
 committed_front = labels_after (locks_database 0 ∷ begins 0 ∷ commits 0 1 ∷ []) (Lines.opening config)
@@ -152,8 +153,8 @@ read_front : ℕ → Lines
 read_front j = Lines.with_database 1 2 (record (begun_front.databases 1 2) { seen = Words.at 1 j (begun_front.databases 1 2).seen }) begun_front
 
 -- who reads the value has seen the commit
-one_seen : (j : ℕ) → j ≤ 1 → x ≡ Database.value_or_empty (look a (Updates.contents (take j (one_write ∷ [])) [])) → j ≡ 1
-unfolding Updates.contents Database.value_or_empty
+one_seen : (j : ℕ) → j ≤ 1 → x ≡ or_empty (look a (Updates.contents (take j (one_write ∷ [])) [])) → j ≡ 1
+unfolding Updates.contents or_empty
 one_seen zero low e = absurd (empty_not_x (sym e))
 one_seen (suc zero) low e = refl
 one_seen (suc (suc j)) low e = absurd (omega arith)
@@ -172,9 +173,9 @@ old_read_after_read s = from_opening (locks_database 0 ∷ begins 0 ∷ []) (rea
 none : (j : ℕ) → j ≤ 0 → j ≡ 0
 none j low = omega arith
 
-base_of_none : (j : ℕ) (base : Pairs (List ℕ)) → j ≡ 0 → Database.value_or_empty (look a (Updates.contents (take j []) base)) ≡ Database.value_or_empty (look a base)
+base_of_none : (j : ℕ) (base : Pairs (List ℕ)) → j ≡ 0 → or_empty (look a (Updates.contents (take j []) base)) ≡ or_empty (look a base)
 unfolding Updates.contents
-base_of_none j base is = subst (λ j. Database.value_or_empty (look a (Updates.contents (take j []) base)) ≡ Database.value_or_empty (look a base)) (sym is) refl
+base_of_none j base is = subst (λ j. or_empty (look a (Updates.contents (take j []) base)) ≡ or_empty (look a base)) (sym is) refl
 
 abbrev pub forgetting : List Label
 forgetting = locks_database 0 ∷ begins 0 ∷ commits 0 1 ∷ Stopped 0 ∷ Ticket 2 1 (1 ∷ []) ∷ []
@@ -183,5 +184,5 @@ pub round_forgets_commit : RoundForgetsCommit
 unfolding Words.at is_among
 round_forgets_commit s = through_round forgetting 1 (1 ∷ []) 1 1 (installs 1 ∷ []) (reads_database 1 [] ∷ []) s refl refl (λ counts kept b d h.
     (let k = reads_value 1 [] (born_after forgetting 1 1 (installs 1 ∷ []) counts kept) h.0 h.1 in
-    let based : [] ≡ Database.value_or_empty (look a (Updates.contents (take (kept 2) (one_write ∷ [])) [])) = subst (λ v. [] ≡ v) (base_of_none k.0 _ (none k.0 k.3)) k.4 in
+    let based : [] ≡ or_empty (look a (Updates.contents (take (kept 2) (one_write ∷ [])) [])) = subst (λ v. [] ≡ v) (base_of_none k.0 _ (none k.0 k.3)) k.4 in
     empty_not_x (subst (λ v. [] ≡ v) (value_after_one (kept 2) (one (kept 2) (d.acked 2) (d.within 2))) based)))

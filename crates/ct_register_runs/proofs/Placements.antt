@@ -1,6 +1,7 @@
 -- Runs in which addresses are placed.
 use Rattle.std.proofs.Common.{◌≡◌, ℕ, [], ◌∷◌, refl, sym}
 use Rattle.std.specs.Prelude.{Bool, true, false}
+use Rattle.ct_bytes.specs.Words.{is_this_node}
 use Rattle.ct_bytes.specs.declared.address.Address.{Address}
 use Rattle.ct_bytes.specs.declared.address.Address.TheVariants.{V4}
 use Rattle.ct_lcp2.specs.Best
@@ -22,7 +23,7 @@ use Rattle.ct_register_runs.specs.Runs.{config, both, first_at_zero, one_each, A
 
 -- what LCP2 makes of the first address at node 0 and the second at none
 pub placed_once : Placing.take_list config.addresses (record { able = both; given = first_at_zero }) ≡ one_each
-unfolding Placing.take_list holder_in assigned_all lcp2.placement lcp2.held lcp2.repeated lcp2.moves_away lcp2.places_at lcp2.places lcp2.homeless lcp2.failbacks_of lcp2.failbacks lcp2.sources lcp2.total Best.best_from Distance.agreed Distance.sum_to Distance.imbalance
+unfolding Placing.take_list holder_in assigned_all lcp2.placement lcp2.held lcp2.repeated lcp2.moves_away lcp2.places_at lcp2.places lcp2.homeless lcp2.failbacks_of lcp2.failbacks lcp2.sources lcp2.total Best.best_from Distance.agreed Distance.sum_to Distance.imbalance is_this_node
 placed_once = refl
 
 -- ---- the run
@@ -54,6 +55,6 @@ unfolding Words.at_address
 free_of_second = at_all (λ (f : Address → Bool). f (V4 2) ≡ false) 0 (Words.at_address (V4 1) true (λ _. false)) (λ _ _. false) refl (λ _. refl)
 
 pub addresses_are_placed : AddressesArePlaced
-unfolding born front Words.at Words.at_address is_among Lines.also_had Placing.given_placement Placing.assigns Placing.is_node
+unfolding born front Words.at Words.at_address is_among Lines.also_had Placing.given_placement Placing.assigns is_this_node
 addresses_are_placed =
     (_, (_, (refl, tt, refl), (born, ((λ _ _. 0), (λ _. 0), front_births, front_persistent, refl), (_, (refl, _, (tt, refl), refl), (_, (refl, refl, below_next 1, unowned_by 0 born.records born_unowned, refl), (_, (refl, refl, below_next 1, unowned_by 1 (Lines.joined 2 0 born).records one_unowned, refl), (_, (two_not_zero, _, (first_at_zero, refl, refl), refl), (_, (refl, (two_not_zero, _, (record { able = both; given = first_at_zero }, refl, sym placed_once, refl), refl)), (_, (two_not_zero, (λ m ne is. refl), (1, one_each, refl, refl), refl), (_, (two_not_zero, (λ m ne is. free_of_second m), (1, one_each, refl, refl), refl), refl))))))))), (refl, refl, refl, refl))

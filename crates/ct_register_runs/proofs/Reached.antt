@@ -1,5 +1,6 @@
 -- The runs that are legal, and what the registers show then: runs in one line.
 use Rattle.std.proofs.Common.{refl, inl, inr}
+use Rattle.ct_bytes.specs.Words.{or_empty}
 use Rattle.ct_persist.specs.Updates
 use Rattle.ct_persist.specs.Persisted
 use Rattle.ct_rules_node.specs.Node.{is_among, has_records, kind_at, kind_in, name_in, name_of}
@@ -43,11 +44,11 @@ unfolding Register.owner_without
 tickets_count = (_, (_, (refl, tt, refl), (_, (refl, refl, refl), (_, (refl, refl), (_, (refl, tt, refl), (_, refl, (_, (refl, tt, refl), refl)))))), (refl, refl))
 
 pub commit_is_read : CommitIsRead
-unfolding Words.at Words.at_key is_among Database.newest Database.value_or_empty Database.all_seen kind_at kind_in name_in name_of has_records Updates.contents Persisted.written Register.reading
+unfolding Words.at Words.at_key is_among Database.newest or_empty Database.all_seen kind_at kind_in name_in name_of has_records Updates.contents Persisted.written Register.reading
 commit_is_read =
     (_, (_, (one_not_zero, refl, _, (refl, refl, refl), refl), (_, (one_not_zero, refl, _, (refl, refl, refl), refl), (_, inr (one_not_zero, refl, _, (0, nought 0, nought 0, nought 1, refl, refl), refl), (_, inr (one_not_zero, refl, _, (1, nought 1, same 1, same 1, refl, refl), refl), (_, (one_not_zero, refl, _, (record { begun = refl; newest = refl; unacknowledged = below_next 0; numbered = refl }, refl), refl), (_, inr (one_not_zero, refl, _, (1, same 1, same 1, same 1, refl, refl), refl), refl)))))), (refl, refl, refl, refl))
 
 pub unsure_is_open : UnsureIsOpen
-unfolding Words.at Words.at_key is_among Database.newest Database.value_or_empty Database.all_seen kind_at kind_in name_in name_of has_records Updates.contents Persisted.written Register.reading
+unfolding Words.at Words.at_key is_among Database.newest or_empty Database.all_seen kind_at kind_in name_in name_of has_records Updates.contents Persisted.written Register.reading
 unsure_is_open =
     (_, (_, (one_not_zero, refl, _, (refl, refl, refl), refl), (_, (one_not_zero, refl, _, (refl, refl, refl), refl), (_, (one_not_zero, refl, _, (record { begun = refl; newest = refl; unacknowledged = below_next 0; numbered = refl }, (λ e. cc), refl), refl), (_, (one_not_zero, refl, _, (refl, refl), refl), (_, inr (one_not_zero, refl, _, (0, nought 0, nought 0, nought 1, refl, refl), refl), refl))))), (refl, refl, refl, refl))

@@ -4,14 +4,15 @@ use Rattle.std.proofs.lemmas.Bool.{cond_both, and_from}
 use Rattle.std.proofs.lemmas.List.Folds.{list_all-append}
 use Rattle.std.specs.Prelude.{is_none}
 use Rattle.std.specs.List.{list_all}
+use Rattle.ct_bytes.specs.Words.{is_nil}
 use Rattle.ct_call.specs.Rules.{Rules}
 use Rattle.ct_frame.specs.Fields.{is_from_one}
 use Rattle.ct_frame.specs.declared.frame.CallKind.{CallKind}
 use Rattle.ct_frame.specs.declared.frame.CallKind.TheVariants as kind
-use Rattle.ct_rules.specs.State.{is_nil, a_copy, plain, rsn_of, is_mastered, is_quiet, is_free, is_wished}
+use Rattle.ct_rules.specs.State.{a_copy, plain, rsn_of, is_mastered, is_quiet, is_free, is_wished}
 use Rattle.ct_rules.specs.Parts.{Moving, performs, send, reply, keeps, reaches, opened, end_vacuum, keep}
 use Rattle.ct_rules.specs.Messages.{enqueue, on_call_of, called, on_call, wait, handle, recalled, on_recall, hand_on, on_give_of, on_give, satisfy_wish, becomes, accept, refuse, on_pass, on_refuse_of, on_refuse, read_granted, on_grant, on_done_of, on_done, called_in, acknowledge, renew, on_revoke_of, on_revoke, acknowledged, on_revokeack, stored_copy, deleted_copy, on_vstore, on_vdelete, finish, greater, on_vstored_of, on_vstored, on_vdeleted_of, on_vdeleted}
-use Rattle.ct_rules.specs.Form.{least_of, sent_for, revoked_rsn, vacuumed_rsn, wished_as, wants_record, is_asked, is_recalled}
+use Rattle.ct_rules.specs.Form.{least_of, sent_for, revoked_rsn, vacuumed_rsn, wished_as, wishes_record, is_asked, is_recalled}
 use Rattle.ct_rules.specs.declared.event.Place.{Place}
 use Rattle.ct_rules.specs.declared.state.RecallNote.{RecallNote}
 use Rattle.ct_rules.specs.declared.state.Entry.{Entry}
@@ -154,7 +155,7 @@ pass_formed at rules request rsn value o h = if_formed at _ _ _ h (cond_both (is
 -- ---- Grant, Done, Revoke and RevokeAck
 
 pub on_grant_formed : (at : Place) (n request rsn : ℕ) (value : List ℕ) (o : Moving) → rsn < 2 ^ 62 → Formed at o → Formed at (on_grant at n request rsn value o)
-unfolding Formed on_grant read_granted reply performs keeps wants_record is_wished rsn_of least_of sent_for revoked_rsn vacuumed_rsn wished_as
+unfolding Formed on_grant read_granted reply performs keeps wishes_record is_wished rsn_of least_of sent_for revoked_rsn vacuumed_rsn wished_as
 on_grant_formed at n request rsn value o below h = grind arith
 
 served_formed : (at : Place) (o : Moving) (w : Waiter) (ws : List Waiter) → o.state.queue ≡ w ∷ ws → Formed at o → Formed at (keeps (record o.state { queue = ws }) o)
@@ -175,7 +176,7 @@ unfolding Formed acknowledge called_in send performs keeps is_mastered rsn_of
 acknowledge_formed at n rsn o h = grind arith
 
 renewed_formed : (at : Place) (o : Moving) (w : Wish) → o.state.wish ≡ Some w → Formed at o → Formed at (reaches (o.next + 1) (record o { state = record o.state { wish = Some (record w { request = o.next }) }; next = o.next + 1 }))
-unfolding Formed reaches wants_record wished_as
+unfolding Formed reaches wishes_record wished_as
 renewed_formed at o w is h = grind arith
 
 revoke_of_formed : (at : Place) (n rsn : ℕ) (o : Moving) (w : Option Wish) → o.state.wish ≡ w → Formed at o → Formed at (on_revoke_of at n rsn o w)

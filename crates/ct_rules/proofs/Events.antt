@@ -2,13 +2,15 @@
 use Rattle.std.proofs.Common.{◌≡◌, ℕ, ◌+◌, ◌≤◌, Bool, true, false, List, [], ◌∷◌, Option, Some, None, ap, subst, ◌∙◌, arith, ◌&&◌, ◌||◌}
 use Rattle.std.proofs.lemmas.Bool.{cond_both, and_parts, eqb-true}
 use Rattle.std.specs.Prelude.{is_none, nat_eq}
+use Rattle.ct_bytes.specs.Words.{is_nil}
+use Rattle.ct_msg.specs.Client.{is_read, wants_record}
 use Rattle.ct_call.specs.Rules.{Rules}
 use Rattle.ct_frame.specs.declared.frame.Msg.{Msg}
 use Rattle.ct_frame.specs.declared.frame.Msg.TheVariants as msg
 use Rattle.ct_msg.specs.declared.client.ClientOp.{ClientOp}
-use Rattle.ct_rules.specs.State.{is_nil, rsn_of, is_mastered, is_quiet, is_free, with_value, risen, is_read_op, is_for_reading}
+use Rattle.ct_rules.specs.State.{rsn_of, is_mastered, is_quiet, is_free, with_value, risen, is_for_reading}
 use Rattle.ct_rules.specs.Parts.{Moving, performs, send, reply, keeps, reaches, opened, open_of, end_vacuum, next, call_for, wait_for_copies, want_of, opened_at_home, want}
-use Rattle.ct_rules.specs.Form.{vacuumed_rsn, wished_as, wants_record, is_wanting, is_recalled, least_of, sent_for, revoked_rsn}
+use Rattle.ct_rules.specs.Form.{vacuumed_rsn, wished_as, wishes_record, is_recalled, least_of, sent_for, revoked_rsn}
 use Rattle.ct_rules.specs.declared.event.Place.{Place}
 use Rattle.ct_rules.specs.declared.state.RecState.{RecState}
 use Rattle.ct_rules.specs.declared.state.Wish.{Wish}
@@ -41,15 +43,15 @@ opened_home_rest : (at : Place) (o : Moving) → ((opened_at_home at o).state.wi
 unfolding opened_at_home opened open_of end_vacuum keeps
 opened_home_rest at o = (grind arith, grind arith)
 
-call_for_formed : (at : Place) (call : ℕ) (asked : ClientOp) (o : Moving) → is_wanting asked ≡ true → is_none o.state.vacuum ≡ true → is_mastered at.me o.state.copy ≡ false → Formed at o → Formed at (call_for at call asked o)
-unfolding Formed call_for send performs reaches wants_record wished_as
+call_for_formed : (at : Place) (call : ℕ) (asked : ClientOp) (o : Moving) → wants_record asked ≡ true → is_none o.state.vacuum ≡ true → is_mastered at.me o.state.copy ≡ false → Formed at o → Formed at (call_for at call asked o)
+unfolding Formed call_for send performs reaches wishes_record wished_as
 call_for_formed at call asked o wanting still other h = grind arith
 
-own_wish_formed : (at : Place) (call : ℕ) (asked : ClientOp) (o : Moving) → is_wanting asked ≡ true → is_none o.state.vacuum ≡ true → is_none o.state.locked ≡ true → Formed at o → Formed at (keeps (record o.state { wish = Some (record { call = call; request = 0; op = asked }) }) o)
-unfolding Formed keeps wants_record wished_as
+own_wish_formed : (at : Place) (call : ℕ) (asked : ClientOp) (o : Moving) → wants_record asked ≡ true → is_none o.state.vacuum ≡ true → is_none o.state.locked ≡ true → Formed at o → Formed at (keeps (record o.state { wish = Some (record { call = call; request = 0; op = asked }) }) o)
+unfolding Formed keeps wishes_record wished_as
 own_wish_formed at call asked o wanting still unlocked h = grind arith
 
-wait_formed : (at : Place) (call : ℕ) (asked : ClientOp) (o : Moving) → is_wanting asked ≡ true → is_none o.state.vacuum ≡ true → is_none o.state.locked ≡ true → is_mastered at.me o.state.copy ≡ true → is_nil o.state.tracking.tracked ≡ false → Formed at o → Formed at (wait_for_copies at call asked o)
+wait_formed : (at : Place) (call : ℕ) (asked : ClientOp) (o : Moving) → wants_record asked ≡ true → is_none o.state.vacuum ≡ true → is_none o.state.locked ≡ true → is_mastered at.me o.state.copy ≡ true → is_nil o.state.tracking.tracked ≡ false → Formed at o → Formed at (wait_for_copies at call asked o)
 unfolding wait_for_copies keeps
 wait_formed at call asked o wanting still unlocked held tracked h = (let k = own_wish_formed at call asked o wanting still unlocked h in if_formed at _ _ _ (revoke_formed at (keeps (record o.state { wish = Some (record { call = call; request = 0; op = asked }) }) o) held unlocked still tracked k) k)
 
@@ -60,9 +62,9 @@ untracked_quiet at o none h = grind arith
 not_read : (read held reading : Bool) → (read && (held || reading)) ≡ false → held ≡ true → read ≡ false
 not_read read held reading t is = grind arith
 
-want_of_formed : (at : Place) (rules : Rules) (call : ℕ) (asked : ClientOp) (o : Moving) → is_wanting asked ≡ true → is_none o.state.wish ≡ true → is_none o.state.vacuum ≡ true → (is_read_op asked ≡ false → is_none o.state.locked ≡ true) → Formed at o → Formed at (want_of at rules call asked o)
+want_of_formed : (at : Place) (rules : Rules) (call : ℕ) (asked : ClientOp) (o : Moving) → wants_record asked ≡ true → is_none o.state.wish ≡ true → is_none o.state.vacuum ≡ true → (is_read asked ≡ false → is_none o.state.locked ≡ true) → Formed at o → Formed at (want_of at rules call asked o)
 unfolding want_of
-want_of_formed at rules call asked o wanting unwished still unlocked h = cond_both (is_read_op asked && (is_mastered at.me o.state.copy || is_for_reading o.state.copy)) _ _ (Formed at)
+want_of_formed at rules call asked o wanting unwished still unlocked h = cond_both (is_read asked && (is_mastered at.me o.state.copy || is_for_reading o.state.copy)) _ _ (Formed at)
     (λ _. reply_formed at _ _ o h)
     (λ t. cond_both (is_mastered at.me o.state.copy) _ _ (Formed at)
     (λ held. cond_both (is_nil o.state.tracking.tracked) _ _ (Formed at)
@@ -70,7 +72,7 @@ want_of_formed at rules call asked o wanting unwished still unlocked h = cond_bo
     (λ tracked. wait_formed at call asked o wanting still (unlocked (not_read _ _ _ t held)) held tracked h))
     (λ other. call_for_formed at call asked o wanting still other h))
 
-pub want_formed : (at : Place) (rules : Rules) (call : ℕ) (asked : ClientOp) (o : Moving) → is_wanting asked ≡ true → o.state.wish ≡ None → (is_read_op asked ≡ false → o.state.locked ≡ None) → Formed at o → Formed at (want at rules call asked o)
+pub want_formed : (at : Place) (rules : Rules) (call : ℕ) (asked : ClientOp) (o : Moving) → wants_record asked ≡ true → o.state.wish ≡ None → (is_read asked ≡ false → o.state.locked ≡ None) → Formed at o → Formed at (want at rules call asked o)
 unfolding want
 want_formed at rules call asked o wanting unwished unlocked h = (let r = opened_home_rest at o in want_of_formed at rules call asked (opened_at_home at o) wanting (ap (λ (x : Option Wish). is_none x) (r.0 ∙ unwished)) (opened_home_still at o h) (λ n. ap (λ (x : Option ℕ). is_none x) (r.1 ∙ unlocked n)) (opened_home_formed at o h))
 
@@ -176,7 +178,7 @@ move_formed at rules event.Resend o may h = resend_formed at o h
 -- ---- a whole step
 
 pub in_form_at_start : StartsInForm
-unfolding is_quiet least_of sent_for revoked_rsn vacuumed_rsn wished_as wants_record rsn_of
+unfolding is_quiet least_of sent_for revoked_rsn vacuumed_rsn wished_as wishes_record rsn_of
 in_form_at_start at next counters = grind arith
 
 pub begins_formed : (at : Place) (s : RecState) (next : ℕ) → IsInForm at next s → Formed at (begins s next at.floor)

@@ -3,6 +3,7 @@ use Rattle.std.proofs.Common.{◌≡◌, ℕ, ◌<◌, Bool, true, false, cond, 
 use Rattle.std.proofs.lemmas.Bool.{cond_both, and_parts}
 use Rattle.std.specs.Prelude.{is_none, Result}
 use Rattle.std.specs.List.{list_all}
+use Rattle.ct_bytes.specs.Words.{is_nil}
 use Rattle.ct_call.specs.Rules.{Rules}
 use Rattle.ct_call.specs.declared.fault.CallFault.{CallFault}
 use Rattle.ct_call.specs.declared.fault.CallFault.TheVariants as fault
@@ -10,10 +11,10 @@ use Rattle.ct_frame.specs.declared.frame.Msg.{Msg}
 use Rattle.ct_msg.specs.declared.client.Answer.{Answer}
 use Rattle.ct_msg.specs.declared.client.ClientOp.{ClientOp}
 use Rattle.ct_msg.specs.declared.client.ClientOp.TheVariants as op
-use Rattle.ct_rules.specs.State.{is_nil, rsn_of, is_mastered, is_quiet, is_free, given, with_flags, with_value, risen}
+use Rattle.ct_rules.specs.State.{rsn_of, is_mastered, is_quiet, is_free, given, with_flags, with_value, risen}
 use Rattle.ct_rules.specs.Parts.{Moving, performs, send, send_all, reply, keeps, reaches, opened, open_of, end_vacuum, give, applies, satisfy, revoke, read_here, delegate, grant, yield_record, drain, drained, satisfy_own, raise, end_revocation, next, next_of}
 use Rattle.ct_rules.specs.Messages.{pass_again}
-use Rattle.ct_rules.specs.Form.{HasShape, least_of, sent_for, revoked_rsn, vacuumed_rsn, wished_as, wants_record, is_recalled}
+use Rattle.ct_rules.specs.Form.{HasShape, least_of, sent_for, revoked_rsn, vacuumed_rsn, wished_as, wishes_record, is_recalled}
 use Rattle.ct_frame.specs.declared.header.RecCopy.{RecCopy}
 use Rattle.ct_deleg.specs.Tracked.{Tracked}
 use Rattle.ct_vacuum.specs.Vacuum.{Vacuuming}
@@ -83,7 +84,7 @@ unfolding Formed end_vacuum keeps rsn_of least_of sent_for revoked_rsn vacuumed_
 end_vacuum_formed at o h = grind arith
 
 pub unwished_formed : (at : Place) (o : Moving) → Formed at o → Formed at (keeps (record o.state { wish = None }) o)
-unfolding Formed keeps wants_record rsn_of least_of sent_for revoked_rsn vacuumed_rsn wished_as
+unfolding Formed keeps wishes_record rsn_of least_of sent_for revoked_rsn vacuumed_rsn wished_as
 unwished_formed at o h = grind arith
 
 pub waiting_formed : (at : Place) (ws : List RecallNote) (o : Moving) → list_all is_recalled ws ≡ true → Formed at o → Formed at (keeps (record o.state { waiting = ws }) o)
@@ -108,7 +109,7 @@ unfolding yield_record is_free
 yield_formed at o free still h = grind (arith, give_formed, revoke_formed)
 
 read_here_formed : (at : Place) (request : ℕ) (o : Moving) (w : Option Wish) → Formed at o → Formed at (read_here at request o w)
-unfolding Formed read_here keeps reply performs wants_record wished_as
+unfolding Formed read_here keeps reply performs wishes_record wished_as
 read_here_formed at request o None h = h
 read_here_formed at request o (Some w) h = grind arith
 

@@ -4,6 +4,8 @@ use Rattle.std.proofs.lemmas.Bool.{cond_both, and_parts, and_from}
 use Rattle.std.proofs.lemmas.List.Folds.{list_all-append}
 use Rattle.std.specs.List.{list_all}
 use Rattle.std.specs.Prelude.{is_none, nat_eq, nat_le, nat_lt}
+use Rattle.ct_bytes.specs.Words.{is_nil}
+use Rattle.ct_msg.specs.Client.{is_read}
 use Rattle.ct_call.specs.Rules.{Rules}
 use Rattle.ct_deleg.specs.Tracked.{Revocation}
 use Rattle.ct_frame.specs.declared.frame.CallKind.{CallKind}
@@ -15,7 +17,7 @@ use Rattle.ct_msg.specs.declared.client.ClientOp.{ClientOp}
 use Rattle.ct_vacuum.specs.declared.vacuum.VacuumPhase.{VacuumPhase}
 use Rattle.ct_vacuum.specs.declared.vacuum.VacuumPhase.TheVariants.{Storing, Deleting}
 use Rattle.ct_vacuum.specs.Vacuum.{Vacuuming, vacuum_begun, stored, deleted}
-use Rattle.ct_rules.specs.State.{plain, for_reading, rank, is_given, kind_of, a_copy, is_nil, rsn_of, is_mastered, is_free, risen, is_read_op, is_for_reading, value_of}
+use Rattle.ct_rules.specs.State.{plain, for_reading, rank, is_given, kind_of, a_copy, rsn_of, is_mastered, is_free, risen, is_for_reading, value_of}
 use Rattle.ct_rules.specs.Parts.{Moving, performs, send, keeps, reaches, opened, open_of, end_vacuum, next, next_of, keep, call_for, wait_for_copies, want_of, opened_at_home, want}
 use Rattle.ct_rules.specs.Messages.{pass_again, enqueue, on_call_of, called, on_call, wait, handle, recalled, on_recall, hand_on, on_give_of, on_give, becomes, accept, refuse, on_pass, on_refuse_of, on_refuse, read_granted, on_grant, on_done_of, on_done, called_in, acknowledge, renew, on_revoke_of, on_revoke, acknowledged, on_revokeack, stored_copy, deleted_copy, on_vstore, on_vdelete, finish, greater, on_vstored_of, on_vstored, on_vdeleted_of, on_vdeleted}
 use Rattle.ct_rules.specs.Moves.{store, release, unlock, phase_message, begin_vacuum, vacuum_at_home, vacuum, call_again_of, call_again, revoke_again_of, revoke_again, at_home, from_home, arrive, move, begins}
@@ -291,7 +293,7 @@ wait_for_sent at call asked o h = (let k = own_wish_sent at call asked o h in if
 
 want_of_sent : (at : Place) (rules : Rules) (call : ℕ) (asked : ClientOp) (o : Moving) → Sent at o → Sent at (want_of at rules call asked o)
 unfolding want_of
-want_of_sent at rules call asked o h = if_sent at (is_read_op asked && (is_mastered at.me o.state.copy || is_for_reading o.state.copy)) _ _
+want_of_sent at rules call asked o h = if_sent at (is_read asked && (is_mastered at.me o.state.copy || is_for_reading o.state.copy)) _ _
     (reply_sent at call (answer.Read (value_of o.state.copy)) o h)
     (if_sent at (is_mastered at.me o.state.copy) _ _
     (if_sent at (is_nil o.state.tracking.tracked) _ _ (satisfy_sent at rules call asked o h) (wait_for_sent at call asked o h))

@@ -2,6 +2,8 @@
 use Rattle.std.proofs.Common.{◌≡◌, ℕ, ◌+◌, Bool, true, false, cond, List, [], ◌∷◌, Option, Some, None, refl, ap, arith, Ok, Err, ◌&&◌, ◌||◌}
 use Rattle.std.proofs.lemmas.Bool.{cond_both, and_parts, eqb-true}
 use Rattle.std.specs.Prelude.{is_none, nat_eq, Result}
+use Rattle.ct_bytes.specs.Words.{is_nil}
+use Rattle.ct_msg.specs.Client.{is_read}
 use Rattle.ct_call.specs.Rules.{Rules}
 use Rattle.ct_call.specs.declared.fault.CallFault.{CallFault}
 use Rattle.ct_call.specs.declared.fault.CallFault.TheVariants as fault
@@ -14,7 +16,7 @@ use Rattle.ct_msg.specs.declared.client.Answer.TheVariants as answer
 use Rattle.ct_msg.specs.declared.client.ClientOp.{ClientOp}
 use Rattle.ct_msg.specs.declared.client.ClientOp.TheVariants as op
 use Rattle.ct_vacuum.specs.Vacuum.{Vacuuming, vacuum_begun, stored, deleted}
-use Rattle.ct_rules.specs.State.{is_nil, rsn_of, is_mastered, is_free, given, with_flags, with_value, risen, is_read_op, is_for_reading, value_of}
+use Rattle.ct_rules.specs.State.{rsn_of, is_mastered, is_free, given, with_flags, with_value, risen, is_for_reading, value_of}
 use Rattle.ct_rules.specs.Parts.{Moving, performs, send, send_all, reply, keeps, reaches, opened, open_of, end_vacuum, give, applies, satisfy, revoke, read_here, delegate, grant, yield_record, drain, drained, satisfy_own, raise, end_revocation, next, next_of, keep, call_for, wait_for_copies, want_of, opened_at_home, want}
 use Rattle.ct_rules.specs.Messages.{pass_again, enqueue, on_call_of, called, on_call, wait, handle, recalled, on_recall, hand_on, on_give_of, on_give, satisfy_wish, becomes, accept, refuse, on_pass, on_refuse_of, on_refuse, read_granted, on_grant, on_done_of, on_done, called_in, acknowledge, renew, on_revoke_of, on_revoke, acknowledged, on_revokeack, stored_copy, deleted_copy, on_vstore, on_vdelete, finish, on_vstored_of, on_vstored, on_vdeleted_of, on_vdeleted}
 use Rattle.ct_rules.specs.Moves.{store, release, unlock, is_vacuumed, begin_vacuum, vacuum_at_home, vacuum, call_again_of, call_again, revoke_again_of, revoke_again, at_home, from_home, arrive, move}
@@ -288,7 +290,7 @@ reply_tracks at call a o h = h
 
 want_of_tracks : (at : Place) (rules : Rules) (call : ℕ) (asked : ClientOp) (o : Moving) → Tracks at o → Tracks at (want_of at rules call asked o)
 unfolding want_of
-want_of_tracks at rules call asked o h = if_tracks at (is_read_op asked && (is_mastered at.me o.state.copy || is_for_reading o.state.copy)) _ _
+want_of_tracks at rules call asked o h = if_tracks at (is_read asked && (is_mastered at.me o.state.copy || is_for_reading o.state.copy)) _ _
     (reply_tracks at call (answer.Read (value_of o.state.copy)) o h)
     (if_tracks at (is_mastered at.me o.state.copy) _ _
     (if_tracks at (is_nil o.state.tracking.tracked) _ _ (satisfy_tracks at rules call asked o h) (wait_for_tracks at call asked o h))

@@ -2,6 +2,8 @@
 use Rattle.std.specs.Prelude.{◌≡◌, ◌≢◌, ℕ, ◌<◌, ◌≤◌, ◌^◌, Bool, true, false, ◌&&◌, List, Option, None, Some, is_none, is_some}
 use Rattle.std.specs.List.{list_all}
 use Rattle.std.specs.List.Sorted.{IsStrictlyIncreasing}
+use Rattle.ct_bytes.specs.Words.{is_nil}
+use Rattle.ct_msg.specs.Client.{is_read, wants_record}
 use Rattle.ct_msg.specs.declared.client.ClientOp.{ClientOp}
 use Rattle.ct_msg.specs.declared.client.ClientOp.TheVariants as op
 use Rattle.ct_frame.specs.Fields.{is_from_one, is_below_limit, is_message}
@@ -10,7 +12,7 @@ use Rattle.ct_frame.specs.declared.frame.Msg.TheVariants as msg
 use Rattle.ct_frame.specs.declared.header.RecCopy.{RecCopy}
 use Rattle.ct_deleg.specs.Tracked.{Tracked, Revocation}
 use Rattle.ct_vacuum.specs.Vacuum.{Vacuuming}
-use Rattle.ct_rules.specs.State.{is_nil, rsn_of, is_mastered, is_quiet, is_read_op}
+use Rattle.ct_rules.specs.State.{rsn_of, is_mastered, is_quiet}
 use Rattle.ct_rules.specs.Parts.{Moving}
 use Rattle.ct_rules.specs.declared.event.MoveEvent.{MoveEvent}
 use Rattle.ct_rules.specs.declared.event.MoveEvent.TheVariants as event
@@ -56,18 +58,10 @@ unfoldable pub vacuumed_rsn : Option Vacuuming → ℕ
 vacuumed_rsn None = 0
 vacuumed_rsn (Some v) = v.rsn
 
--- the operations that want a record: a lock, a read, a write and a function
-unfoldable pub is_wanting : ClientOp → Bool
-is_wanting (op.Lock db key) = true
-is_wanting (op.Read db key) = true
-is_wanting (op.Write db key v) = true
-is_wanting (op.Apply db key f arg) = true
-is_wanting _ = false
-
 -- does the operation of a wish want the record? So it is where there is no wish
-unfoldable pub wants_record : Option Wish → Bool
-wants_record None = true
-wants_record (Some w) = is_wanting w.op
+unfoldable pub wishes_record : Option Wish → Bool
+wishes_record None = true
+wishes_record (Some w) = wants_record w.op
 
 -- a request that waits has a number from 1 to below 2^62
 unfoldable pub is_asked : Waiter → Bool
@@ -104,7 +98,7 @@ pub record HasShape (at : Place) (copy : Option RecCopy) (entry : Option Entry) 
   -- and with no revocation
   pub vacuum_quiet : is_none vacuum ≡ false → is_quiet tracking ≡ true
   -- the operation of a wish is a lock, a read, a write or a function
-  pub wish_wants : wants_record wish ≡ true
+  pub wish_wants : wishes_record wish ≡ true
   -- the requests that wait are at least 1 and below 2^62
   pub queue_asked : list_all is_asked queue ≡ true
   -- so are those of the recalls that wait, whose leasts are below 2^62
@@ -163,7 +157,7 @@ is_of_record _ = false
 -- under the lock; only who has the lock stores and unlocks; a message speaks of a record and keeps the rules of its
 -- fields; the nodes that a vacuum asks ascend
 abbrev pub MayCome : RecState → MoveEvent → Type 0
-MayCome s (event.Want call asked) = (is_wanting asked ≡ true) × (s.wish ≡ None) × (is_read_op asked ≡ false → s.locked ≡ None)
+MayCome s (event.Want call asked) = (wants_record asked ≡ true) × (s.wish ≡ None) × (is_read asked ≡ false → s.locked ≡ None)
 MayCome s (event.Store call v) = is_some s.locked ≡ true
 MayCome s (event.Unlock call) = is_some s.locked ≡ true
 MayCome s (event.Arrive sender m) = (is_of_record m ≡ true) × (is_message sender m ≡ true)

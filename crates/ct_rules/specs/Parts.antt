@@ -1,5 +1,7 @@
 -- The parts that the rules of one record are made of: each is a function from the middle of a step to the middle of a step.
 use Rattle.std.specs.Prelude.{ℕ, ◌+◌, ◌^◌, ◌==◌, nat_eq, nat_le, Bool, ◌&&◌, ◌||◌, if◌then◌else◌, List, [], ◌∷◌, ◌++◌, Option, None, Some, is_none, Result, Ok, Err}
+use Rattle.ct_bytes.specs.Words.{is_nil}
+use Rattle.ct_msg.specs.Client.{is_read}
 use Rattle.ct_msg.specs.declared.client.Answer.{Answer}
 use Rattle.ct_msg.specs.declared.client.Answer.TheVariants as answer
 use Rattle.ct_msg.specs.declared.client.ClientOp.{ClientOp}
@@ -13,7 +15,7 @@ use Rattle.ct_call.specs.Table.{applied}
 use Rattle.ct_call.specs.declared.fault.CallFault.{CallFault}
 use Rattle.ct_call.specs.declared.fault.CallFault.TheVariants as fault
 use Rattle.ct_deleg.specs.Tracked.{untracked, added, revocation_begun}
-use Rattle.ct_rules.specs.State.{is_nil, plain, delegated, being_revoked, a_copy, rsn_of, value_of, is_mastered, is_for_reading, with_value, with_flags, risen, given, is_quiet, is_free, is_read_op, is_read_kind, kind_of, is_wished}
+use Rattle.ct_rules.specs.State.{plain, delegated, being_revoked, a_copy, rsn_of, value_of, is_mastered, is_for_reading, with_value, with_flags, risen, given, is_quiet, is_free, is_read_kind, kind_of, is_wished}
 use Rattle.ct_rules.specs.declared.state.Entry.{Entry}
 use Rattle.ct_rules.specs.declared.state.RecState.{RecState}
 use Rattle.ct_rules.specs.declared.state.RecallNote.{RecallNote}
@@ -197,7 +199,7 @@ wait_for_copies at call asked o =
 -- Want, once the location master has an entry
 unfoldable pub want_of : Place → Rules → ℕ → ClientOp → Moving → Moving
 want_of at rules call asked o =
-    if is_read_op asked && (is_mastered at.me o.state.copy || is_for_reading o.state.copy)
+    if is_read asked && (is_mastered at.me o.state.copy || is_for_reading o.state.copy)
     then reply call (answer.Read (value_of o.state.copy)) o
     else (if is_mastered at.me o.state.copy
     then (if is_nil o.state.tracking.tracked then satisfy rules call asked o else wait_for_copies at call asked o)

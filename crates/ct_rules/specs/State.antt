@@ -1,5 +1,6 @@
 -- A state in which nothing is kept, and the small words that the rules use of a state.
 use Rattle.std.specs.Prelude.{ℕ, ◌+◌, ◌==◌, nat_eq, Bool, true, false, ◌&&◌, List, [], ◌∷◌, Option, None, Some, is_none}
+use Rattle.ct_bytes.specs.Words.{is_nil}
 use Rattle.ct_deleg.specs.Tracked.{Tracked, untracked}
 use Rattle.ct_msg.specs.declared.client.ClientOp.{ClientOp}
 use Rattle.ct_msg.specs.declared.client.ClientOp.TheVariants as op
@@ -12,11 +13,6 @@ use Rattle.ct_rules.specs.declared.state.Wish.{Wish}
 -- State of a key: nothing is kept of the record
 abbrev pub nothing_kept : RecState
 nothing_kept = record { copy = None; entry = None; queue = []; waiting = []; tracking = untracked; vacuum = None; locked = None; wish = None }
-
--- is the list empty?
-abbrev pub is_nil : {X : Type 0} → List X → Bool
-is_nil [] = true
-is_nil (x ∷ xs) = false
 
 -- State of a key: is it blank, with no copy, entry, queue, waiting recall, wish, lock and vacuum?
 abbrev pub is_blank : RecState → Bool
@@ -103,11 +99,6 @@ is_quiet t = is_none t.revoking
 -- is the node free: holder, the record unlocked, and no revocation running?
 unfoldable pub is_free : ℕ → RecState → Bool
 is_free me s = is_mastered me s.copy && is_none s.locked && is_quiet s.tracking
-
--- is the call a read?
-unfoldable pub is_read_op : ClientOp → Bool
-is_read_op (op.Read db key) = true
-is_read_op _ = false
 
 -- is the kind Read?
 unfoldable pub is_read_kind : CallKind → Bool

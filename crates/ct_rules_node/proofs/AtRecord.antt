@@ -3,6 +3,8 @@ use Rattle.std.proofs.Common.{◌≡◌, ◌≢◌, ℕ, zero, suc, ◌<◌, ◌
 use Rattle.std.proofs.lemmas.Bool.{cond_both, ltb-true, ltb-false}
 use Rattle.std.specs.Prelude.{slice_get, nat_lt, is_none}
 use Rattle.std.specs.List.{AllByRecursion}
+use Rattle.ct_bytes.proofs.Words.{nil_is}
+use Rattle.ct_bytes.specs.Words.{is_nil}
 use Rattle.ct_msg.specs.declared.config.Config.{Config}
 use Rattle.ct_deleg.specs.Tracked.{Tracked, untracked}
 use Rattle.ct_frame.specs.declared.header.RecCopy.{RecCopy}
@@ -11,7 +13,7 @@ use Rattle.ct_store.proofs.Maps.{empty_ascends}
 use Rattle.ct_rules.specs.Form.{IsInForm}
 use Rattle.ct_rules.specs.Laws.{TracksAsHolder}
 use Rattle.ct_rules.specs.Parts.{Moving}
-use Rattle.ct_rules.specs.State.{is_nil, is_mastered, is_quiet, is_blank}
+use Rattle.ct_rules.specs.State.{is_mastered, is_quiet, is_blank}
 use Rattle.ct_rules.specs.declared.event.Place.{Place}
 use Rattle.ct_rules.specs.declared.state.RecState.{RecState}
 use Rattle.ct_rules_node.specs.Node.{Database, untouched, or_nothing, or_untouched, db_at, with_db, state_at}

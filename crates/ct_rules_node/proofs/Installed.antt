@@ -5,17 +5,17 @@ use Rattle.std.specs.Prelude.{map, nat_eq}
 use Rattle.std.specs.declared.cmp.Ordering.TheVariants.{Less}
 use Rattle.std.specs.Ordering.{is_eq, is_lt, nat_cmp}
 use Rattle.std.specs.Cmp.{nat_cmp_total, tied_then, tied_itself}
-use Rattle.std.specs.Cmp.Lexicographic.{slice_cmp}
 use Rattle.std.specs.FinMap.{nat_cmp-IsAntisymmetric}
 use Rattle.std.specs.List.{AllByRecursion}
 use Rattle.std.specs.List.Sorted.{IsStrictlySortedBy}
+use Rattle.ct_bytes.specs.Key.{key_cmp}
 use Rattle.ct_frame.specs.declared.frame.TableRow.{TableRow}
 use Rattle.ct_frame.specs.Fields.{ascends, row_before}
 use Rattle.ct_merge.specs.Held.{is_row_at}
 use Rattle.ct_merge.specs.Rule.{row_at}
 use Rattle.ct_merge.proofs.Ordered.{in_order, is_lt_then, first, second, both}
 use Rattle.ct_merge.proofs.Rules.{place_cmp, place_total}
-use Rattle.ct_store.specs.Map.{Pairs, Ascends, key_cmp, look, write}
+use Rattle.ct_store.specs.Map.{Pairs, Ascends, look, write}
 use Rattle.ct_store.proofs.Maps.{one_key, equal, key_total, written, not_written, write_ascends}
 use Rattle.ct_rules.specs.declared.state.RecState.{RecState}
 use Rattle.ct_rules_node.specs.Node.{master_of, or_nothing}
@@ -29,7 +29,7 @@ abbrev pub place : TableRow → (ℕ × List ℕ)
 place row = (row.db, row.key)
 
 pub row_is : (a b : TableRow) → row_before a b ≡ is_lt (place_cmp (place a) (place b))
-row_is a b = sym (is_lt_then (nat_lt a.db b.db) (a.db == b.db) (slice_cmp nat_cmp a.key b.key))
+row_is a b = sym (is_lt_then (nat_lt a.db b.db) (a.db == b.db) (key_cmp a.key b.key))
 
 pub in_places : (rows : List TableRow) → ascends row_before rows ≡ true → IsStrictlySortedBy place_cmp (map place rows)
 in_places rows h = in_order place_cmp place_total row_before place row_is rows h
@@ -71,7 +71,7 @@ row_put me db members row m key false false e f = refl
 none_at : (db : ℕ) (key : List ℕ) (rows : List TableRow) → AllByRecursion (λ p. place_cmp (db, key) p ≡ Less) (map place rows) → row_at db key rows ≡ None
 none_at db key [] h = refl
 none_at db key (row ∷ rows) h =
-    ap (λ b. cond b (Some row) (row_at db key rows)) (tied_then (nat_cmp db row.db) (slice_cmp nat_cmp key row.key) ∙ ap is_eq h.0) ∙ none_at db key rows h.1
+    ap (λ b. cond b (Some row) (row_at db key rows)) (tied_then (nat_cmp db row.db) (key_cmp key row.key) ∙ ap is_eq h.0) ∙ none_at db key rows h.1
 
 above_place : (db : ℕ) (key : List ℕ) (row : TableRow) (rows : List TableRow) → is_row_at db key row ≡ true → AllByRecursion (λ p. place_cmp (place row) p ≡ Less) (map place rows) → AllByRecursion (λ p. place_cmp (db, key) p ≡ Less) (map place rows)
 above_place db key row rows t h =

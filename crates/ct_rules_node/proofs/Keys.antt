@@ -6,7 +6,8 @@ use Rattle.std.specs.Ordering.{is_eq}
 use Rattle.std.specs.List.{AllByRecursion}
 use Rattle.std.specs.List.Sorted.{IsStrictlySortedBy}
 use Rattle.std.specs.Map.{keys_of}
-use Rattle.ct_store.specs.Map.{Pairs, Ascends, key_cmp, look, write, erase}
+use Rattle.ct_bytes.specs.Key.{key_cmp}
+use Rattle.ct_store.specs.Map.{Pairs, Ascends, look, write, erase}
 use Rattle.ct_store.proofs.Maps.{one_key, equal, written, not_written, erased, not_erased, write_ascends, erase_ascends}
 use Rattle.ct_rules.specs.State.{is_blank}
 use Rattle.ct_rules.specs.declared.state.RecState.{RecState}

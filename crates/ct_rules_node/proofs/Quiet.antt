@@ -2,6 +2,7 @@
 use Rattle.std.proofs.Common.{◌≡◌, ℕ, Bool, true, false, cond, not, ◌&&◌, ◌||◌, List, [], ◌++◌, map, Option, Some, None, refl, ap, ◌∙◌, append-nil}
 use Rattle.std.proofs.lemmas.Bool.{or_left}
 use Rattle.std.specs.Prelude.{is_none, is_some, nat_eq}
+use Rattle.ct_msg.specs.Client.{db_of, is_read, key_of}
 use Rattle.ct_msg.specs.declared.client.Answer.TheVariants as answer
 use Rattle.ct_msg.specs.declared.client.ClientOp.{ClientOp}
 use Rattle.ct_msg.specs.declared.client.ClientOp.TheVariants as op
@@ -14,14 +15,14 @@ use Rattle.ct_frame.specs.declared.frame.Frame.{Frame}
 use Rattle.ct_frame.specs.declared.frame.Msg.{Msg}
 use Rattle.ct_frame.specs.declared.frame.Msg.TheVariants as msg
 use Rattle.ct_call.specs.Rules.{Rules}
-use Rattle.ct_rules.specs.State.{is_mastered, is_for_reading, value_of, is_read_op}
+use Rattle.ct_rules.specs.State.{is_mastered, is_for_reading, value_of}
 use Rattle.ct_rules.specs.Parts.{Moving, performs, reply, keeps, opened_at_home, want_of, want}
 use Rattle.ct_rules.specs.Moves.{store, release}
 use Rattle.ct_rules.specs.declared.event.Place.{Place}
 use Rattle.ct_rules_node.specs.Node.{Node, Phase, Idle, Serving, Installed, Freezing, Frozen, is_serving, is_present, is_present_in, is_freezing, is_persistent, has_records, kind_at, state_at}
 use Rattle.ct_rules_node.specs.Turn.{Turn, makes}
 use Rattle.ct_rules_node.specs.Records.{out_of, acted, at_record, place_of, view}
-use Rattle.ct_rules_node.specs.Clients.{db_of, key_of, is_read, is_under_lock, is_locked, may_finish, not_serving, refusal, unlocks, reads, serves, serves_or, client}
+use Rattle.ct_rules_node.specs.Clients.{is_under_lock, is_locked, may_finish, not_serving, refusal, unlocks, reads, serves, serves_or, client}
 use Rattle.ct_rules_node.specs.Rounds.{on_thaw}
 use Rattle.ct_rules_node.specs.Retries.{retry_records, retry}
 use Rattle.ct_rules_node.specs.Steps.{on_record_of, if_persistent, if_sound, if_taken_over, arrives, vacuums, happens}
@@ -62,7 +63,7 @@ not_both false b e = refl
 
 -- a read of a locked record at its holder is answered
 read_locked : (at : Place) (rules : Rules) (call db : ℕ) (key : List ℕ) (o : Moving) → is_none o.state.locked ≡ false → is_mastered at.me o.state.copy ≡ true → want at rules call (op.Read db key) o ≡ reply call (answer.Read (value_of o.state.copy)) o
-unfolding want opened_at_home want_of is_read_op
+unfolding want opened_at_home want_of is_read
 read_locked at rules call db key o l h =
     ap (want_of at rules call (op.Read db key)) (skipped (nat_eq at.me at.lmaster && is_none o.state.locked) o _ (not_both _ _ l))
     ∙ taken (is_mastered at.me o.state.copy || is_for_reading o.state.copy) _ (reply call (answer.Read (value_of o.state.copy)) o) (or_left _ _ h)
@@ -128,7 +129,7 @@ both_quiet t u v true p q = p
 both_quiet t u v false p q = q
 
 serves_quiet : (c : Config) (rules : Rules) (me call : ℕ) (u : Turn) (o : ClientOp) → HoldsLocks me u.node → may_finish u.node o ≡ true → Quiet u (serves c rules me call u o)
-unfolding serves reads may_finish is_read is_under_lock is_locked db_of key_of HoldsLocks
+unfolding serves reads may_finish is_read is_under_lock is_locked HoldsLocks
 serves_quiet c rules me call u (op.Read db key) h e = both_quiet u _ _ (is_persistent (kind_at c db)) (read_pair_steady call db key same).quiet (let l = third (is_freezing u.node.phase) _ _ e in read_quiet c rules me call db key u l (h db key l))
 serves_quiet c rules me call u (op.Store db key v) h e = store_quiet c me call db key v u
 serves_quiet c rules me call u (op.Unlock db key) h e = unlocks_quiet c me call db key u u.node.phase (first _ _ _ e)

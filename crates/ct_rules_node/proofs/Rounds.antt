@@ -4,6 +4,7 @@ use Rattle.std.proofs.lemmas.Bool.{or_parts}
 use Rattle.std.specs.Prelude.{slice_get, is_some}
 use Rattle.std.specs.Ordering.{is_eq}
 use Rattle.std.specs.List.Sorted.{IsStrictlySortedBy}
+use Rattle.ct_bytes.specs.Key.{key_cmp}
 use Rattle.ct_bytes.specs.declared.address.Address.{Address}
 use Rattle.ct_msg.specs.declared.config.Config.{Config}
 use Rattle.ct_frame.specs.declared.event.Event.TheVariants as event
@@ -14,7 +15,7 @@ use Rattle.ct_frame.specs.declared.frame.Msg.TheVariants as msg
 use Rattle.ct_frame.specs.declared.frame.PTable.{PTable}
 use Rattle.ct_frame.specs.declared.frame.TableRow.{TableRow}
 use Rattle.ct_call.specs.Rules.{Rules}
-use Rattle.ct_store.specs.Map.{Pairs, Ascends, key_cmp, look}
+use Rattle.ct_store.specs.Map.{Pairs, Ascends, look}
 use Rattle.ct_store.proofs.Maps.{one_key, equal}
 use Rattle.ct_rules.specs.declared.state.RecState.{RecState}
 use Rattle.ct_rules_node.specs.Node.{Node, Database, untouched, or_untouched, or_nothing, db_at, state_at, is_frozen_in, is_present_in, restarted_db, restarted}

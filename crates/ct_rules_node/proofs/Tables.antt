@@ -6,11 +6,11 @@ use Rattle.std.specs.declared.cmp.Ordering.{Ordering}
 use Rattle.std.specs.declared.cmp.Ordering.TheVariants.{Less, Equal, Greater}
 use Rattle.std.specs.Ordering.{is_eq, nat_cmp, ordering_then}
 use Rattle.std.specs.Cmp.{nat_cmp_total, tied_itself}
-use Rattle.std.specs.Cmp.Lexicographic.{slice_cmp}
 use Rattle.std.specs.FinMap.{nat_cmp-IsAntisymmetric}
 use Rattle.std.specs.List.{AllByRecursion}
 use Rattle.std.specs.List.Sorted.{IsStrictlySortedBy}
 use Rattle.std.specs.Map.{keys_of}
+use Rattle.ct_bytes.specs.Key.{key_cmp}
 use Rattle.ct_frame.specs.declared.frame.TableRow.{TableRow}
 use Rattle.ct_frame.specs.declared.header.RecCopy.{RecCopy}
 use Rattle.ct_frame.specs.Fields.{ascends, row_before}
@@ -18,7 +18,7 @@ use Rattle.ct_merge.specs.Held.{is_row_at}
 use Rattle.ct_merge.specs.Rule.{row_at}
 use Rattle.ct_merge.proofs.Ordered.{chained}
 use Rattle.ct_merge.proofs.Rules.{place_cmp}
-use Rattle.ct_store.specs.Map.{Pairs, Ascends, key_cmp, look}
+use Rattle.ct_store.specs.Map.{Pairs, Ascends, look}
 use Rattle.ct_store.proofs.Maps.{one_key, equal}
 use Rattle.ct_rules.specs.State.{is_mastered}
 use Rattle.ct_rules.specs.declared.state.RecState.{RecState}
@@ -129,13 +129,13 @@ AllAfter x rows = AllByRecursion (λ y. table_order x y ≡ Less) rows
 
 before_by_key : (x y : TableRow) (db : ℕ) (k q : List ℕ) → x.db ≡ db → x.key ≡ k → y.db ≡ db → y.key ≡ q → key_cmp k q ≡ Less → table_order x y ≡ Less
 before_by_key x y db k q a b c d l =
-    (λ i. ordering_then (nat_cmp (a i) (c i)) (slice_cmp nat_cmp (b i) (d i))) ∙ (λ i. ordering_then (tied_itself nat_cmp_total db i) (l i))
+    (λ i. ordering_then (nat_cmp (a i) (c i)) (key_cmp (b i) (d i))) ∙ (λ i. ordering_then (tied_itself nat_cmp_total db i) (l i))
 
 less_number : (a b : ℕ) → a < b → nat_cmp a b ≡ Less
 less_number a b l = ap (λ (t : Bool). cond t Less (cond (a == b) Equal Greater)) (lt-ltb a b l)
 
 before_by_db : (x y : TableRow) → x.db < y.db → table_order x y ≡ Less
-before_by_db x y l = ap (λ (o : Ordering). ordering_then o (slice_cmp nat_cmp x.key y.key)) (less_number x.db y.db l)
+before_by_db x y l = ap (λ (o : Ordering). ordering_then o (key_cmp x.key y.key)) (less_number x.db y.db l)
 
 all_of_both : {X : Type 0} (P : X → Type 0) (xs ys : List X) → AllByRecursion P xs → AllByRecursion P ys → AllByRecursion P (xs ++ ys)
 all_of_both P [] ys h k = k

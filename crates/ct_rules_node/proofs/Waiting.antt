@@ -5,7 +5,8 @@ use Rattle.std.specs.Ordering.{is_eq, nat_cmp}
 use Rattle.std.specs.List.{filter}
 use Rattle.std.proofs.lemmas.List.Elements.{filter-append}
 use Rattle.std.specs.List.Sorted.{IsStrictlySortedBy}
-use Rattle.ct_store.specs.Map.{Pairs, Ascends, key_cmp, look}
+use Rattle.ct_bytes.specs.Key.{key_cmp}
+use Rattle.ct_store.specs.Map.{Pairs, Ascends, look}
 use Rattle.ct_store.proofs.Maps.{one_key, equal}
 use Rattle.ct_rules.specs.declared.state.RecState.{RecState}
 use Rattle.ct_rules.specs.declared.state.Wish.{Wish}

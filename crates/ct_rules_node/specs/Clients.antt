@@ -2,6 +2,7 @@
 use Rattle.std.specs.Prelude.{ℕ, ◌+◌, ◌==◌, nat_eq, Bool, true, false, not, ◌&&◌, ◌||◌, if◌then◌else◌, List, [], ◌∷◌, Option, None, Some, is_none, is_some}
 use Rattle.std.specs.List.{list_any}
 use Rattle.std.specs.Cmp.Lexicographic.{pointwise}
+use Rattle.ct_msg.specs.Client.{db_of, is_read, key_of, wants_record}
 use Rattle.ct_msg.specs.declared.client.Answer.TheVariants as answer
 use Rattle.ct_msg.specs.declared.client.ClientOp.{ClientOp}
 use Rattle.ct_msg.specs.declared.client.ClientOp.TheVariants as op
@@ -24,35 +25,10 @@ use Rattle.ct_rules_node.specs.Databases.{commit, read_pair}
 
 -- ---- what a call asks for
 
--- the database that a call speaks of
-unfoldable pub db_of : ClientOp → ℕ
-db_of (op.Lock db key) = db
-db_of (op.Read db key) = db
-db_of (op.Write db key v) = db
-db_of (op.Apply db key f arg) = db
-db_of (op.Store db key v) = db
-db_of (op.Unlock db key) = db
-db_of (op.Commit db writes) = db
-
--- the key that a call speaks of; a commit speaks of no single one
-unfoldable pub key_of : ClientOp → List ℕ
-key_of (op.Lock db key) = key
-key_of (op.Read db key) = key
-key_of (op.Write db key v) = key
-key_of (op.Apply db key f arg) = key
-key_of (op.Store db key v) = key
-key_of (op.Unlock db key) = key
-key_of (op.Commit db writes) = []
-
 -- is the call a commit?
 unfoldable pub is_commit : ClientOp → Bool
 is_commit (op.Commit db writes) = true
 is_commit _ = false
-
--- is the call a read?
-unfoldable pub is_read : ClientOp → Bool
-is_read (op.Read db key) = true
-is_read _ = false
 
 -- is the call an unlock?
 unfoldable pub is_unlock : ClientOp → Bool
@@ -65,10 +41,6 @@ wants_change (op.Lock db key) = true
 wants_change (op.Write db key v) = true
 wants_change (op.Apply db key f arg) = true
 wants_change _ = false
-
--- is the call a lock, a read, a write or a function, which wants the record?
-unfoldable pub wants_record : ClientOp → Bool
-wants_record o = wants_change o || is_read o
 
 -- is the call a store or an unlock, which is made under the lock?
 unfoldable pub is_under_lock : ClientOp → Bool

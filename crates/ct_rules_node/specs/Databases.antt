@@ -1,6 +1,6 @@
 -- Persistent databases: every member has the whole of each, and a commit is stored at all before it is acknowledged.
 use Rattle.std.specs.Prelude.{ℕ, ◌+◌, nat_le, if◌then◌else◌, List, [], ◌∷◌, Option, None, Some}
-use Rattle.ct_bytes.specs.Words.{others}
+use Rattle.ct_bytes.specs.Words.{others, or_empty}
 use Rattle.ct_msg.specs.declared.client.Answer.TheVariants as answer
 use Rattle.ct_msg.specs.declared.client.Pair.{Pair}
 use Rattle.ct_frame.specs.declared.frame.Msg.TheVariants as msg
@@ -51,11 +51,6 @@ on_pack_of n db seq t (Some c) =
 -- PAck: an acknowledgement of the commit that waits
 unfoldable pub on_pack : ℕ → ℕ → ℕ → Turn → Turn
 on_pack n db seq t = on_pack_of n db seq t (db_at db t.node).commit
-
--- the value, and the empty one where there is none
-unfoldable pub or_empty : Option (List ℕ) → List ℕ
-or_empty None = []
-or_empty (Some v) = v
 
 -- Read of a pair: its value is answered at once
 unfoldable pub read_pair : ℕ → ℕ → List ℕ → Turn → Turn

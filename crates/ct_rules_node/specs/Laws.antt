@@ -3,6 +3,7 @@ use Rattle.std.specs.Prelude.{◌≡◌, ◌≢◌, ℕ, ◌≤◌, ◌<◌, Boo
 use Rattle.std.specs.BTreeMap.{is_at}
 use Rattle.std.specs.Ordering.{nat_cmp}
 use Rattle.std.specs.List.{AllByRecursion, filter}
+use Rattle.ct_bytes.specs.Key.{key_cmp}
 use Rattle.ct_msg.specs.declared.config.Config.{Config}
 use Rattle.ct_frame.specs.Fields.{ascends, row_before}
 use Rattle.ct_frame.specs.declared.event.Event.{Event}
@@ -17,7 +18,7 @@ use Rattle.ct_frame.specs.declared.frame.TableRow.{TableRow}
 use Rattle.ct_call.specs.Rules.{Rules}
 use Rattle.ct_deleg.specs.Tracked.{untracked}
 use Rattle.ct_merge.specs.Rule.{row_at}
-use Rattle.ct_store.specs.Map.{Pairs, Ascends, key_cmp, look}
+use Rattle.ct_store.specs.Map.{Pairs, Ascends, look}
 use Rattle.ct_rules.specs.Form.{IsInForm, is_of_record}
 use Rattle.ct_rules.specs.Laws.{TracksAsHolder, IsFront}
 use Rattle.ct_rules.specs.Parts.{Moving}

@@ -1,7 +1,7 @@
 -- Rounds of recovery: a leader freezes the members, pulls what they hold, pushes what is made of it, and thaws them.
 use Rattle.std.specs.Prelude.{ℕ, ◌+◌, nat_eq, nat_lt, Bool, true, false, not, ◌&&◌, ◌||◌, if◌then◌else◌, List, [], ◌∷◌, ◌++◌, map, Option, None, Some}
 use Rattle.std.specs.List.{filter}
-use Rattle.ct_bytes.specs.Words.{others}
+use Rattle.ct_bytes.specs.Words.{others, is_this_node}
 use Rattle.ct_bytes.specs.declared.address.Address.{Address}
 use Rattle.ct_msg.specs.declared.client.Answer.TheVariants as answer
 use Rattle.ct_msg.specs.declared.config.Config.{Config}
@@ -236,14 +236,9 @@ unfoldable pub installed_dbs : ℕ → ℕ → List ℕ → List TableRow → Li
 installed_dbs me i members table ptables [] = []
 installed_dbs me i members table ptables (d ∷ ds) = installed_db me i members table ptables d ∷ installed_dbs me (i + 1) members table ptables ds
 
--- is it this node?
-unfoldable pub is_at : ℕ → Option ℕ → Bool
-is_at n None = false
-is_at n (Some m) = nat_eq m n
-
 -- is the address assigned to this node?
 unfoldable pub is_own : ℕ → List Assigned → Address → Bool
-is_own me assigned a = is_at me (holder_in a assigned)
+is_own me assigned a = is_this_node me (holder_in a assigned)
 
 -- Released is noted for each of these addresses
 unfoldable pub releases : List Address → Turn → Turn

@@ -1,23 +1,22 @@
 -- Takeover runs: the leader of a completed round places the addresses anew; all members release before any takes.
 use Rattle.std.specs.Prelude.{ℕ, ◌+◌, nat_eq, nat_lt, Bool, not, ◌&&◌, if◌then◌else◌, List, [], ◌∷◌, is_some}
 use Rattle.std.specs.List.{filter, list_any}
-use Rattle.ct_bytes.specs.Words.{others}
+use Rattle.ct_bytes.specs.Address.{address_before, same_address}
+use Rattle.ct_bytes.specs.Words.{others, is_this_node}
 use Rattle.ct_bytes.specs.declared.address.Address.{Address}
 use Rattle.ct_msg.specs.declared.config.Config.{Config}
-use Rattle.ct_msg.specs.Config.{same_address}
 use Rattle.ct_frame.specs.declared.event.Note.TheVariants as note
 use Rattle.ct_frame.specs.declared.frame.Assigned.{Assigned}
 use Rattle.ct_frame.specs.declared.frame.Msg.TheVariants as msg
-use Rattle.ct_frame.specs.Fields.{address_before}
 use Rattle.ct_lcp2.specs.Placing.{placed}
 use Rattle.ct_rules_node.specs.Node.{Lead, Completed, Takeover, Run, Releasing, Taking, is_serving, is_among, assigned_all}
 use Rattle.ct_rules_node.specs.Turn.{Turn, with_node, with_lead, makes, notes, posts, posts_all}
-use Rattle.ct_rules_node.specs.Rounds.{is_at, releases}
+use Rattle.ct_rules_node.specs.Rounds.{releases}
 
 -- the addresses that a placement gives to a node
 unfoldable pub share : ℕ → List Assigned → List Address
 share n [] = []
-share n (x ∷ xs) = if is_at n x.node then x.address ∷ share n xs else share n xs
+share n (x ∷ xs) = if is_this_node n x.node then x.address ∷ share n xs else share n xs
 
 -- the addresses that have a node in a placement
 unfoldable pub assigned_in : List Assigned → List Assigned

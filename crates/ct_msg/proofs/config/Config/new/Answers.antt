@@ -1,8 +1,8 @@
 use Rattle.std.proofs.Common.{refl, sym, ◌∙◌, subst, ap, arith}
-use Rattle.ct_bytes.specs.Address.{address_cmp}
-use Rattle.ct_msg.specs.Config.{repeated_address, same_address}
+use Rattle.ct_bytes.proofs.AddressOrder.{sorted_ascend, same_equiv}
+use Rattle.ct_bytes.specs.Address.{address_cmp, same_address}
+use Rattle.ct_msg.specs.Config.{repeated_address}
 use Rattle.std.specs.List.Sorted.{IsPermutation, IsStrictlySortedBy}
-use Rattle.ct_msg.proofs.Addresses.{sorted_ascend, same_equiv}
 use Rattle.ct_msg.proofs.Repeats.{all_distinct, no_place}
 use Rattle.ct_msg.proofs.config.Config.new.Goals as goal
 
