@@ -69,7 +69,7 @@ with_form at next copy entry wish unsent wants rsn least low counters = record {
   counters = counters;
 }
 
-with_formed : (s : Scene) (n next : ℕ) (copy : Option RecCopy) (entry : Option Entry) (wish : Option Wish) → 1 ≤ next → next < 2 ^ 62 → sent_for entry ≡ 0 → wishes_record wish ≡ true → rsn_of copy < 2 ^ 62 → least_of entry < 2 ^ 62 → wished_as wish < 2 ^ 62 →
+pub with_formed : (s : Scene) (n next : ℕ) (copy : Option RecCopy) (entry : Option Entry) (wish : Option Wish) → 1 ≤ next → next < 2 ^ 62 → sent_for entry ≡ 0 → wishes_record wish ≡ true → rsn_of copy < 2 ^ 62 → least_of entry < 2 ^ 62 → wished_as wish < 2 ^ 62 →
     Is_formed s n (record { state = kept_with copy entry wish; next = next; floor = 0 })
 with_formed s n next copy entry wish some few unsent wants rsn least low = record {
   form = with_form (place s n (record { state = kept_with copy entry wish; next = next; floor = 0 })) next copy entry wish unsent wants rsn least low (record { from_one = some; next_limit = few; floor_limit = omega arith });
@@ -89,7 +89,7 @@ none_low : 0 < 2 ^ 62
 none_low = omega arith
 
 -- no copy and no entry, and perhaps a call
-bare_formed : (s : Scene) (n next : ℕ) (wish : Option Wish) → 1 ≤ next → next < 2 ^ 62 → wishes_record wish ≡ true → wished_as wish < 2 ^ 62 → Is_formed s n (record { state = kept_with None None wish; next = next; floor = 0 })
+pub bare_formed : (s : Scene) (n next : ℕ) (wish : Option Wish) → 1 ≤ next → next < 2 ^ 62 → wishes_record wish ≡ true → wished_as wish < 2 ^ 62 → Is_formed s n (record { state = kept_with None None wish; next = next; floor = 0 })
 unfolding sent_for rsn_of least_of
 bare_formed s n next wish some few wants low = with_formed s n next None None wish some few refl wants none_low none_low low
 

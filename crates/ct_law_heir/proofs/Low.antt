@@ -1,8 +1,6 @@
 -- The rows that a round pushes are in order, and their RSNs are below 2^62, as they are those of copies in the parent.
 use Rattle.std.proofs.Common.{◌≡◌, ◌≢◌, ℕ, ◌<◌, ◌^◌, Bool, true, false, ◌&&◌, ◌||◌, List, [], ◌∷◌, map, Option, Some, None, inl, inr, ⊎_elim, refl, sym, ap, ◌∙◌, subst, arith}
 use Rattle.std.specs.Prelude.{nat_eq, nat_lt}
-use Rattle.std.specs.Cmp.{tied_itself, nat_cmp_total}
-use Rattle.std.specs.Ordering.{is_eq}
 use Rattle.std.specs.List.{list_all}
 use Rattle.std.specs.Option.{option_map}
 use Rattle.std.proofs.lemmas.Bool.{cases_eq, lt-ltb}
@@ -23,7 +21,7 @@ use Rattle.ct_merge.proofs.Ordered.{rows_ascend}
 use Rattle.ct_merge.proofs.Rules.{rows_one}
 use Rattle.ct_rules.specs.State.{rsn_of}
 use Rattle.ct_rules_node.specs.Rounds.{mastered, body_of}
-use Rattle.ct_rules_node.proofs.Installed.{own_key}
+use Rattle.ct_rules_node.proofs.Installed.{own_place}
 use Rattle.ct_cluster.specs.Cluster.{Cluster}
 use Rattle.ct_register.specs.Lines.{Lines}
 use Rattle.ct_law_line.proofs.Lives.{Lives, IsTicket, IsGatheredOf}
@@ -33,15 +31,7 @@ use Rattle.ct_law_line.proofs.Begotten.{replied, parent, in_order, told_is, born
 
 -- ---- a table in order
 
--- a row is at its own place
-own_place : (row : TableRow) → is_row_at row.db row.key row ≡ true
-own_place row = both _ _ (ap is_eq (tied_itself nat_cmp_total row.db)) (own_key row.key)
-  where
-    both : (a b : Bool) → a ≡ true → b ≡ true → (a && b) ≡ true
-    both true b e k = k
-    both false b e k = absurd (cc)
-
--- and is found there in a table that ascends
+-- a row is found at its place in a table that ascends
 pub own_row : (table : List TableRow) (row : TableRow) → ascends row_before table ≡ true → In row table → row_at row.db row.key table ≡ Some row
 own_row table row sorted i =
     let y = found (is_row_at row.db row.key) table row i (own_place row) in

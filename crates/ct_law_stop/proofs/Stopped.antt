@@ -58,7 +58,7 @@ use Rattle.ct_law_stop.proofs.Quiet.{after_taken}
 -- ---- small words
 
 -- a line that was had is had still
-had_stays : (n l : ℕ) (had : ℕ → ℕ → ℕ → Bool) (g m j : ℕ) → had g m j ≡ true → also_had n l had g m j ≡ true
+pub had_stays : (n l : ℕ) (had : ℕ → ℕ → ℕ → Bool) (g m j : ℕ) → had g m j ≡ true → also_had n l had g m j ≡ true
 unfolding also_had
 had_stays n l had g m = at_each (λ m (row : ℕ → Bool). (j : ℕ) → had g m j ≡ true → row j ≡ true) n (at l true (had g n)) (had g)
     (at_each (λ j (b : Bool). had g n j ≡ true → b ≡ true) l true (had g n) (λ _. refl) (λ j _ e. e))

@@ -1,0 +1,4 @@
+pub mod Made
+pub mod Viewed
+pub mod Pushed
+pub mod Pushes
