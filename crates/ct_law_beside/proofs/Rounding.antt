@@ -107,7 +107,7 @@ pushack_beside c me n k g t (Installs h members missing b) e =
 -- ---- messages of a run
 
 -- Release: what is not kept is released
-release_beside : (me h number : ℕ) (keep : List Address) (g : ℕ) (t : Turn) → t.node.generation ≡ g → Beside g me t (on_release me h number keep t)
+pub release_beside : (me h number : ℕ) (keep : List Address) (g : ℕ) (t : Turn) → t.node.generation ≡ g → Beside g me t (on_release me h number keep t)
 unfolding on_release record_in
 release_beside me h number keep g t is =
     let free = filter (λ a. not (has_address keep a)) t.node.held in
@@ -129,7 +129,7 @@ all_released_beside me g members x placement t [] =
     (beside_posts_all g me g members (msg.Take x.number (assigned_in placement)) u (omega arith) refl)
 all_released_beside me g members x placement t (m ∷ ms) = beside_leads g me (Completed g members (record x { run = Releasing placement (m ∷ ms) })) t (eq-eqb g g refl)
 
-released_by_beside : (me n g : ℕ) (members : List ℕ) (x : Takeover) (t : Turn) (r : Run) → Beside g me t (released_by me n g members x t r)
+pub released_by_beside : (me n g : ℕ) (members : List ℕ) (x : Takeover) (t : Turn) (r : Run) → Beside g me t (released_by me n g members x t r)
 unfolding released_by
 released_by_beside me n g members x t NoRun = beside_none g me t
 released_by_beside me n g members x t (Taking placement) = beside_none g me t
@@ -152,7 +152,7 @@ releaseack_beside me n k number g t (Completed h members x) e =
     (λ _. beside_none g me t)
 
 -- Take: what the placement gives to the node is taken
-take_beside : (c : Config) (me number : ℕ) (assigned : List Assigned) (g : ℕ) (t : Turn) → Beside g me t (on_take c me number assigned t)
+pub take_beside : (c : Config) (me number : ℕ) (assigned : List Assigned) (g : ℕ) (t : Turn) → Beside g me t (on_take c me number assigned t)
 unfolding on_take
 take_beside c me number assigned g t =
     let new = filter (λ a. not (has_address t.node.held a)) (share me assigned) in
@@ -168,7 +168,7 @@ sound_beside : (c : Config) (f : Frame) (g me : ℕ) (t done : Turn) → Beside 
 unfolding if_sound
 sound_beside c f g me t done b = cond_both (is_sound c f) done t (λ (u : Turn). Beside g me t u) (λ _. b) (λ _. beside_none g me t)
 
-run_beside : (c : Config) (f : Frame) (g me : ℕ) (t done : Turn) → Beside g me t done → Beside g me t (if_taken_over c f done t)
+pub run_beside : (c : Config) (f : Frame) (g me : ℕ) (t done : Turn) → Beside g me t done → Beside g me t (if_taken_over c f done t)
 unfolding if_taken_over
 run_beside c f g me t done b = cond_both (is_sound c f && is_current f t.node) done t (λ (u : Turn). Beside g me t u) (λ _. b) (λ _. beside_none g me t)
 

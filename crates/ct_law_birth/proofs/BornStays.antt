@@ -31,7 +31,7 @@ born_node config era rules row w still h n t = (let b = h.born n t in record {
   present = b.present;
   knows = b.knows;
   promise = b.promise;
-  lead = b.lead;
+  lead = λ _. b.lead;
   size = b.dbs;
   known = born_known config era.number era.members row w h n;
   waits = born_waits config era row w h n t;

@@ -24,7 +24,7 @@ use Rattle.ct_law_shown.specs.Shown.{Era, scene, view, is_it, mail_of, mails, pr
 
 -- the generation, followed from this cluster on
 abbrev pub era_from : ℕ → List ℕ → Cluster → Era
-era_from g members w = record { number = g; members = members; thawed = false; start = λ db key. project g db key w }
+era_from g members w = record { number = g; members = members; thawed = false; alone = true; start = λ db key. project g db key w }
 
 -- the next request number of each node
 abbrev pub numbers_in : Cluster → ℕ → ℕ

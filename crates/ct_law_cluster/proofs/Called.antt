@@ -13,7 +13,7 @@ use Rattle.ct_cluster.specs.Steps.{put}
 use Rattle.ct_law_world.specs.World as law
 use Rattle.ct_law_shown.specs.Shown.{Era, labels_of, Schedules}
 use Rattle.ct_law_node.proofs.Pending.{Callers}
-use Rattle.ct_law_node.proofs.Delivering.{begun, has_place}
+use Rattle.ct_law_node.proofs.Delivering.{projected, project_shown, begun, has_place}
 use Rattle.ct_law_node.proofs.Calling.{own_pending, Calls_at, Goes}
 use Rattle.ct_law_cluster.proofs.Clusters.{ClusterStays}
 use Rattle.ct_law_cluster.proofs.Coming.{Cluster_goes}
@@ -36,7 +36,7 @@ counted_schedules c era rules w labels es h = h
 -- the call comes to a record of a node that runs
 pub calls_at : (c : Config) (era : Era) (rules : Rules) (who : Callers) (w : Cluster) (n db : ℕ) (key : List ℕ) (asked : ClientOp) (labels : List Label) (es : ℕ → List ℕ → List law.Event) → IsEra c era →
     ((d : ℕ) → d < length c.dbs → is_db d ≡ true) → ClusterStays c era rules who w → Schedules c era rules w labels es → is_up n w ≡ true → has_records (kind_at c db) ≡ true → db_of asked ≡ db → key_of asked ≡ key →
-    Calls_at c era rules (called_by n asked w who) (w.calls + 1) n db (w.calls + 1) key asked (counted w)
+    Calls_at c era rules (called_by n asked w who) (w.calls + 1) n db (w.calls + 1) key asked (counted w) (projected era.number (counted w))
 calls_at c era rules who w n db key asked labels es real small h sched up kind of_db of_key = record {
   real = real;
   small = small db (has_place c db kind);
@@ -47,12 +47,13 @@ calls_at c era rules who w n db key asked labels es real small h sched up kind o
   counted = omega arith;
   of_db = of_db;
   of_key = of_key;
+  shown = project_shown era.number n (counted w);
   lawful = asks_here c era rules (counted w) labels es real (counted_schedules c era rules w labels es sched) db key;
 }
 
 -- and where the node goes on so, the cluster does
 pub call_goes : (c : Config) (era : Era) (rules : Rules) (who : Callers) (w : Cluster) (n : ℕ) (asked : ClientOp) (u : Turn) (labels : List Label) (es : ℕ → List ℕ → List law.Event) → ClusterStays c era rules who w → Schedules c era rules w labels es → is_up n w ≡ true →
-    Goes c era rules (called_by n asked w who) (w.calls + 1) n (w.calls + 1) asked (counted w) u →
+    Goes c era rules (called_by n asked w who) (w.calls + 1) n (w.calls + 1) asked (counted w) (projected era.number (counted w)) u →
     Cluster_goes c era rules (called_by n asked w who) (put n u [] (counted w)).cluster (labels ++ labels_of n (own_pending n (w.calls + 1) asked ∷ pending (counted w)) u.outs)
 unfolding makes
 call_goes c era rules who w n asked u labels es h sched up g =

@@ -17,6 +17,7 @@ use Rattle.ct_law_world.specs.World as law
 use Rattle.ct_law_world.specs.World.{may_want}
 use Rattle.ct_law_shown.specs.Shown.{Era, labels_of, Schedules}
 use Rattle.ct_law_node.proofs.Pending.{Callers}
+use Rattle.ct_law_node.proofs.Delivering.{projected}
 use Rattle.ct_law_node.proofs.Calling.{own_pending, Goes, wants_follows}
 use Rattle.ct_law_cluster.proofs.Clusters.{ClusterStays}
 use Rattle.ct_law_cluster.proofs.Coming.{Cluster_goes}
@@ -34,5 +35,5 @@ pub wants_go : (c : Config) (era : Era) (rules : Rules) (who : Callers) (w : Clu
 wants_go c era rules who w n db key asked labels es real small h sched up kind of_db of_key free may serve spent =
     let is = client_serves c rules n (w.calls + 1) asked (node_at n (counted w)) free ∙ serve in
     call_goes c era rules who w n asked (client c rules n (w.calls + 1) asked (begins (node_at n (counted w)))) labels es h sched up
-    (subst (λ (u : Turn). Goes c era rules (called_by n asked w who) (w.calls + 1) n (w.calls + 1) asked (counted w) u) (sym is)
-    (wants_follows c era rules (called_by n asked w who) (w.calls + 1) n db (w.calls + 1) key asked (counted w) (calls_at c era rules who w n db key asked labels es real small h sched up kind of_db of_key) may (sym (ap (λ (u : Turn). u.spent) is) ∙ spent)))
+    (subst (λ (u : Turn). Goes c era rules (called_by n asked w who) (w.calls + 1) n (w.calls + 1) asked (counted w) (projected era.number (counted w)) u) (sym is)
+    (wants_follows c era rules (called_by n asked w who) (w.calls + 1) n db (w.calls + 1) key asked (counted w) (projected era.number (counted w)) (calls_at c era rules who w n db key asked labels es real small h sched up kind of_db of_key) may (sym (ap (λ (u : Turn). u.spent) is) ∙ spent)))

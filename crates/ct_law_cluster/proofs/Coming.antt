@@ -21,7 +21,7 @@ use Rattle.ct_law_node.proofs.Plain.{plain_at}
 use Rattle.ct_law_node.proofs.Staying.{NodeStays}
 use Rattle.ct_law_node.proofs.Events.{arrives_not}
 use Rattle.ct_law_node.proofs.Following.{Goes_on, IsEra, asks_here}
-use Rattle.ct_law_node.proofs.Delivering.{begun, delivers}
+use Rattle.ct_law_node.proofs.Delivering.{projected, project_shown, begun, delivers}
 use Rattle.ct_law_node.proofs.Putting.{extends, fate_hidden}
 use Rattle.ct_law_cluster.proofs.Clusters.{ClusterStays, inside, all_known, fate_stays, put_stays}
 
@@ -57,7 +57,7 @@ comes_on c era rules who w k s r labels es real small h sched at up is spent =
     let turn = begins (node_at n w) in
     put_goes c era rules who w n (arrives c rules n s.frame turn s.frame.msg) labels es t h sched (⊎_elim
     (λ (ok : (is_current s.frame (node_at n w) && has_records (kind_at c r.0)) ≡ true).
-    delivers c era rules who w k s r.0 r.1 real small t (h.nodes n t) (all_known c era rules who w h) at is (plain_at era.number w.sent k s at h.sent) ok (asks_here c era rules w labels es real sched r.0 r.1) spent)
+    delivers c era rules who w k s r.0 r.1 (projected era.number w) (project_shown era.number n w) real small t (h.nodes n t) (all_known c era rules who w h) at is (plain_at era.number w.sent k s at h.sent) ok (asks_here c era rules w labels es real sched r.0 r.1) spent)
     (λ (out : (is_current s.frame (node_at n w) && has_records (kind_at c r.0)) ≡ false).
     subst (λ (u : Turn). Goes_on c era rules who w.calls n (pending w) (λ db key. project era.number db key w) turn u) (sym (arrives_not c rules n s.frame turn r.0 r.1 is out))
     (goes_nowhere c era rules who w.calls n (pending w) (λ db key. project era.number db key w) turn (h.nodes n t)))

@@ -72,7 +72,7 @@ numbers_ascend i (suc k) = after_numbers i (i + 1) k (omega arith)
 
 -- the first generation
 abbrev pub first_era : Config → Era
-first_era c = record { number = 1; members = everyone c; thawed = true; start = λ db key. law.opening }
+first_era c = record { number = 1; members = everyone c; thawed = true; alone = true; start = λ db key. law.opening }
 
 pub first_is_era : (c : Config) → list_all is_node (everyone c) ≡ true → IsEra c (first_era c)
 unfolding everyone
@@ -128,7 +128,7 @@ opened_form c rules n db key = record {
   waits = refl;
 }
 
-absent_known : (who : Callers) (calls n : ℕ) → NodeKnown who calls n cluster.absent
+pub absent_known : (who : Callers) (calls n : ℕ) → NodeKnown who calls n cluster.absent
 unfolding cluster.absent node.db_at node.or_untouched node.untouched CommitFits AllAscend
 absent_known who calls n = record { order = tt; dbs = λ db. record { records = λ key. none_known who calls n db key; commit = tt } }
 
@@ -142,7 +142,7 @@ opened_node c rules who calls n = record {
   present = refl;
   knows = refl;
   promise = refl;
-  lead = refl;
+  lead = λ _. refl;
   size = (starts_in_order c (everyone c)).0;
   known = record { order = (starts_in_order c (everyone c)).1; dbs = λ db. opened_known c who calls n db };
   waits = λ db key. subst (λ (v : View). Wishful (Of_records c db key) v.state.wish) (sym (opened_view c db key)) tt;

@@ -13,6 +13,7 @@ use Rattle.ct_cluster.specs.Labels.{Answered}
 use Rattle.ct_cluster.specs.Steps.{frames_of}
 use Rattle.ct_law_shown.specs.Waiting.{answered}
 use Rattle.ct_law_world.specs.Labels as law
+use Rattle.ct_law_world.specs.World.{World}
 use Rattle.ct_law_shown.specs.Shown.{Era, is_it, mails, is_telling, told_of, told_by, told_by_all, heard, labels_of}
 use Rattle.ct_law_node.proofs.Pending.{Callers}
 use Rattle.ct_law_node.proofs.Staying.{NodeStays}
@@ -23,10 +24,10 @@ unfolding told_of
 untold db key n asked w true e f = absurd (cc)
 untold db key n asked w false e f = refl
 
-pub refused_follows : (c : Config) (era : Era) (rules : Rules) (who : Callers) (calls n call : ℕ) (asked : ClientOp) (w : Cluster) (reason : Why) → NodeStays c era rules who calls n (node_at n w) → is_telling (answer.Refused reason) ≡ false →
-    Goes c era rules who calls n call asked w (answers call (answer.Refused reason) (makes call (begins (node_at n w))))
+pub refused_follows : (c : Config) (era : Era) (rules : Rules) (who : Callers) (calls n call : ℕ) (asked : ClientOp) (w : Cluster) (ws : ℕ → List ℕ → World) (reason : Why) → NodeStays c era rules who calls n (node_at n w) → is_telling (answer.Refused reason) ≡ false →
+    Goes c era rules who calls n call asked w ws (answers call (answer.Refused reason) (makes call (begins (node_at n w))))
 unfolding answers does makes frames_of mails labels_of answered told_by_all told_by heard
-refused_follows c era rules who calls n call asked w reason h e = (
+refused_follows c era rules who calls n call asked w ws reason h e = (
   h,
   (λ db key. (
     [],

@@ -39,14 +39,14 @@ use Rattle.ct_law_shown.specs.Waiting.{answered}
 use Rattle.ct_cluster.specs.declared.step.PendingCall.{PendingCall}
 use Rattle.ct_law_world.specs.World.{Scene, View, World, Vacuums, happens, put, last, trace, place, starts, own_call, waiting_call}
 use Rattle.ct_law_world.specs.World as law
-use Rattle.ct_law_shown.specs.Shown.{Era, scene, view, heard, told_by_all, labels_of, project, amid, Finds, Follows, Schedules}
+use Rattle.ct_law_shown.specs.Shown.{Era, scene, view, heard, told_by_all, labels_of, amid, Finds, Follows, Schedules}
 use Rattle.ct_law_shown.proofs.Weave.{true_or_false}
 use Rattle.ct_law_wish.proofs.Wishing.{Wishful, vacuum_wish}
 use Rattle.ct_law_shown.proofs.Hearing.{heard_more, list_more}
 use Rattle.ct_law_node.proofs.Pending.{Callers, Known, KnownAt}
 use Rattle.ct_law_node.proofs.Staying.{NodeStays, Of_records, AllWishes, wishes_at}
 use Rattle.ct_law_shown.proofs.Amid.{self, place_is}
-use Rattle.ct_law_node.proofs.Delivering.{begun, whole_part}
+use Rattle.ct_law_node.proofs.Delivering.{IsShown, projected, project_shown, shown_begins, whole_part}
 use Rattle.ct_law_node.proofs.Following.{last_more, trace_more, Asks, asks_on, asks_here, Goes_on, follows, finds_waiting, IsEra, Comes_to}
 use Rattle.ct_law_cluster.proofs.Clusters.{ClusterStays, all_known}
 use Rattle.ct_law_cluster.proofs.Fed.{fed_is}
@@ -221,20 +221,19 @@ unfolding db_at vacuum_all untouched
 no_records c n db t e = ap (λ (d : Database). vacuum_all c n db d.records t) (past_db t.node.dbs db e)
 
 -- A vacuum of a database: the node stays as it was, and the world of every record follows.
-pub vacuums_follow : (c : Config) (era : Era) (rules : Rules) (who : Callers) (w : Cluster) (n db : ℕ) → IsEra c era → ((d : ℕ) → d < length c.dbs → is_db d ≡ true) → is_among n era.members ≡ true →
-    NodeStays c era rules who w.calls n (node_at n w) → ((db : ℕ) (key : List ℕ) → Finds db key n (pending w) (waiting_call (state_at db key (node_at n w)).wish)) → ((key : List ℕ) → Asks (scene c era rules db key) (project era.number db key w)) →
+pub vacuums_follow : (c : Config) (era : Era) (rules : Rules) (who : Callers) (w : Cluster) (n db : ℕ) (ws : ℕ → List ℕ → World) → IsShown era.number n w ws → IsEra c era → ((d : ℕ) → d < length c.dbs → is_db d ≡ true) → is_among n era.members ≡ true →
+    NodeStays c era rules who w.calls n (node_at n w) → ((db : ℕ) (key : List ℕ) → Finds db key n (pending w) (waiting_call (state_at db key (node_at n w)).wish)) → ((key : List ℕ) → Asks (scene c era rules db key) (ws db key)) →
     (vacuums c n db (begins (node_at n w))).spent ≡ false →
-    Goes_on c era rules who w.calls n (pending w) (λ db key. project era.number db key w) (begins (node_at n w)) (vacuums c n db (begins (node_at n w)))
+    Goes_on c era rules who w.calls n (pending w) ws (begins (node_at n w)) (vacuums c n db (begins (node_at n w)))
 unfolding vacuums
-vacuums_follow c era rules who w n db real small member h finds asks spent =
+vacuums_follow c era rules who w n db ws shown real small member h finds asks spent =
     let t = begins (node_at n w) in
-    let ws : ℕ → List ℕ → World = λ db key. project era.number db key w in
     let same = goes_nowhere c era rules who w.calls n (pending w) ws t h in
     cond_both (is_serving t.node.phase) (vacuum_all c n db (db_at db t.node).records t) t (λ (u : Turn). u.spent ≡ false → Goes_on c era rules who w.calls n (pending w) ws t u)
     (λ _ whole. ⊎_elim
     (λ (is : nat_lt db (length t.node.dbs) ≡ true). (let inside : db < length c.dbs = subst (λ (l : ℕ). db < l) h.size (ltb-true db (length t.node.dbs) is) in
     all_go c era rules who w.calls n db (db_at db t.node).records (pending w) ws t t real member (small db inside) inside
-    (λ key. subst (λ (v : World). Asks (scene c era rules db key) v) (begun era.number db key n w) (asks key)) (λ db key. finds_waited db key n (pending w) (state_at db key t.node).wish (finds db key)) same whole))
+    (λ key. subst (λ (v : World). Asks (scene c era rules db key) v) (shown_begins era.number db key n w ws shown) (asks key)) (λ db key. finds_waited db key n (pending w) (state_at db key t.node).wish (finds db key)) same whole))
     (λ (not_so : nat_lt db (length t.node.dbs) ≡ false). subst (λ (u : Turn). Goes_on c era rules who w.calls n (pending w) ws t u) (sym (no_records c n db t not_so)) same)
     (true_or_false (nat_lt db (length t.node.dbs))))
     (λ _ whole. same) spent
@@ -246,7 +245,7 @@ pub vacuums_goes : (c : Config) (era : Era) (rules : Rules) (who : Callers) (w :
 vacuums_goes c era rules who w n db labels es real small h sched up spent =
     let t = h.up n up in
     put_goes c era rules who w n (vacuums c n db (begins (node_at n w))) labels es t h sched
-    (vacuums_follow c era rules who w n db real small t (h.nodes n t) (λ db key. finds_waiting who w.calls n db key w (all_known c era rules who w h)) (λ key. asks_here c era rules w labels es real sched db key) spent)
+    (vacuums_follow c era rules who w n db (projected era.number w) (project_shown era.number n w) real small t (h.nodes n t) (λ db key. finds_waiting who w.calls n db key w (all_known c era rules who w h)) (λ key. asks_here c era rules w labels es real sched db key) spent)
 
 -- the vacuum is given to a node that runs, and the step is taken
 pub vacuum_fed : (c : Config) (era : Era) (rules : Rules) (who : Callers) (w : Cluster) (n db : ℕ) (labels : List Label) (es : ℕ → List ℕ → List law.Event) (x : steps.Stepped) → IsEra c era → ((d : ℕ) → d < length c.dbs → is_db d ≡ true) →

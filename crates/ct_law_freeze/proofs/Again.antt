@@ -42,14 +42,14 @@ pub record Says_more (c : Config) (w : Cluster) (r : Lines) (a : Ages) (n : ℕ)
   pub outs : u.outs ≡ t.outs ++ sends frames
   pub all : AllByRecursion (Says_round c w r a n) frames
 
-says_none : (c : Config) (w : Cluster) (r : Lines) (a : Ages) (n : ℕ) (t : Turn) → Says_more c w r a n t t
+pub says_none : (c : Config) (w : Cluster) (r : Lines) (a : Ages) (n : ℕ) (t : Turn) → Says_more c w r a n t t
 says_none c w r a n t = record { frames = []; node = refl; outs = sym (append-nil t.outs); all = tt }
 
 sends_more : (fs gs : List Frame) → sends (fs ++ gs) ≡ sends fs ++ sends gs
 sends_more [] gs = refl
 sends_more (f ∷ fs) gs = ap (λ (l : List Out). out.Send f ∷ l) (sends_more fs gs)
 
-says_then : (c : Config) (w : Cluster) (r : Lines) (a : Ages) (n : ℕ) (t u v : Turn) → Says_more c w r a n t u → Says_more c w r a n u v → Says_more c w r a n t v
+pub says_then : (c : Config) (w : Cluster) (r : Lines) (a : Ages) (n : ℕ) (t u v : Turn) → Says_more c w r a n t u → Says_more c w r a n u v → Says_more c w r a n t v
 says_then c w r a n t u v p q = record {
   frames = p.frames ++ q.frames;
   node = q.node ∙ p.node;
@@ -61,7 +61,7 @@ says_one : (c : Config) (w : Cluster) (r : Lines) (a : Ages) (n g k : ℕ) (m : 
 unfolding posts does
 says_one c w r a n g k m t h = record { frames = record { generation = g; sender = n; receiver = k; msg = m } ∷ []; node = refl; outs = refl; all = (h, tt) }
 
-says_all : (c : Config) (w : Cluster) (r : Lines) (a : Ages) (n g : ℕ) (ks : List ℕ) (m : Msg) (t : Turn) → ((k : ℕ) → Says_round c w r a n (record { generation = g; sender = n; receiver = k; msg = m })) → Says_more c w r a n t (posts_all g n ks m t)
+pub says_all : (c : Config) (w : Cluster) (r : Lines) (a : Ages) (n g : ℕ) (ks : List ℕ) (m : Msg) (t : Turn) → ((k : ℕ) → Says_round c w r a n (record { generation = g; sender = n; receiver = k; msg = m })) → Says_more c w r a n t (posts_all g n ks m t)
 says_all c w r a n g ks m t h = record { frames = to_all g n ks m; node = posts_node g n ks m t; outs = posts_outs g n ks m t; all = all_say c w r a n g ks m h }
 
 -- ---- each message

@@ -21,7 +21,7 @@ use Rattle.ct_law_shown.proofs.Weave.{true_or_false}
 use Rattle.ct_law_line.proofs.Ages.{Ages}
 use Rattle.ct_law_line.proofs.Lives.{Lives, MailSays, RoundSays, ReplySays, LeadSays, IsTicket, WasSent}
 use Rattle.ct_law_line.proofs.Faces.{Turned}
-use Rattle.ct_law_freeze.proofs.Freezing.{HasCome, CommitsPersist}
+use Rattle.ct_law_freeze.proofs.Freezing.{HasCome}
 use Rattle.ct_rules_node.specs.Node.{Nothing}
 use Rattle.ct_law_freeze.proofs.Turning.{was_said}
 use Rattle.std.specs.Prelude.{nat_eq, nat_lt}
@@ -71,10 +71,10 @@ freeze_again_turned c rules w r h n f members there is old = lead_turned c rules
     either false d e k = idle_led c w r h.ages n (h.nodes n there).lead
 
 -- every Freeze that was sent to the node, at every node
-pub freezes_turned : (c : Config) (rules : Rules) (w : Cluster) (r : Lines) (h : Lives c rules w r) (n : ℕ) (f : Frame) (members : List ℕ) → IsConfig c → nat_lt n c.nodes ≡ true → f.msg ≡ msg.Freeze members → HasCome w n f → CommitsPersist c (node_at n w) →
+pub freezes_turned : (c : Config) (rules : Rules) (w : Cluster) (r : Lines) (h : Lives c rules w r) (n : ℕ) (f : Frame) (members : List ℕ) → IsConfig c → nat_lt n c.nodes ≡ true → f.msg ≡ msg.Freeze members → HasCome w n f →
     Turned c rules h.who w r h.ages n (pending w) (happens c rules n (begins (node_at n w)) (event.Arrive f))
-freezes_turned c rules w r h n f members config there is come persist = ⊎_elim
-    (λ (e : (is_sound c f && nat_lt (node_at n w).promise f.generation) ≡ true). (let p = and_parts _ _ e in freeze_turned c rules w r h n f members config is come p.0 p.1 persist))
+freezes_turned c rules w r h n f members config there is come = ⊎_elim
+    (λ (e : (is_sound c f && nat_lt (node_at n w).promise f.generation) ≡ true). (let p = and_parts _ _ e in freeze_turned c rules w r h n f members config is come p.0 p.1 (h.nodes n there).persist))
     (λ (e : (is_sound c f && nat_lt (node_at n w).promise f.generation) ≡ false). freeze_again_turned c rules w r h n f members there is e)
     (true_or_false (is_sound c f && nat_lt (node_at n w).promise f.generation))
 

@@ -334,6 +334,7 @@ module _ (c : Config) (rules : Rules) (w : Cluster) (r : Lines) (h : Lives c rul
     waits = λ d k. held_each (λ d k z. Wishful (Of_records c d k) z.wish) x y db key st g l t.node (subst (λ (o : Option Wish). Wishful (Of_records c db key) o) (sym t.wish) (own.waits db key)) (λ d k f. own.waits d k) d k;
     formed = formed_all;
     commits = λ d k i. absurd (let z : None ≡ Some k = sym (t.node.commit d ∙ calm d) ∙ i in cc);
+    persist = λ d k i. absurd (let z : None ≡ Some k = sym (t.node.commit d ∙ calm d) ∙ i in cc);
     phase = phase_held c rules who v s b n g l y t.node.phase rest;
     lead = subst (λ (k : Lead). LeadSays c v s b n k) (sym t.node.lead) (lead_later c w v r a s b n x.lead later (λ q i. i) (λ q k. sent_still w v (frames_of u.outs) q sent_is k) own.lead);
     replies = all_replies;

@@ -103,6 +103,7 @@ node_lead c rules who w v r a n x l e lead replies k = record {
   waits = k.waits;
   formed = k.formed;
   commits = k.commits;
+  persist = k.persist;
   phase = phase_lead c rules who w v r a n x l x.phase e k.phase;
   lead = lead;
   replies = all_weaken (λ s. ReplySays r a n x s.frame s.frame.msg) (λ s. ReplySays r a n (record x { lead = l }) s.frame s.frame.msg) (λ s i. reply_lead r a n x l s.frame s.frame.msg i) v.sent replies;

@@ -53,7 +53,7 @@ pub record Says_round (c : Config) (w : Cluster) (r : Lines) (a : Ages) (n : ℕ
   pub none : record_in f.msg ≡ None
   pub reply : ReplySays r a n (node_at n w) f f.msg
 
-sent_untold : (c : Config) (n g : ℕ) (m : Msg) → record_labels c (sent_label n g m) ≡ []
+pub sent_untold : (c : Config) (n g : ℕ) (m : Msg) → record_labels c (sent_label n g m) ≡ []
 unfolding sent_label speaks_of_records
 sent_untold c n g (msg.Push members table ptables assigned) = refl
 sent_untold c n g (msg.Take number assigned) = refl
@@ -78,7 +78,7 @@ unfolding frames_of
 sends_all P [] h = tt
 sends_all P (f ∷ fs) h = (h.0, sends_all P fs h.1)
 
-foreign : (r : Lines) (a : Ages) (n k : ℕ) (x : Node) (f : Frame) (m : Msg) → f.sender ≡ n → k ≢ n → ReplySays r a k x f m
+pub foreign : (r : Lines) (a : Ages) (n k : ℕ) (x : Node) (f : Frame) (m : Msg) → f.sender ≡ n → k ≢ n → ReplySays r a k x f m
 unfolding ReplySays
 foreign r a n k x f (msg.PullReply vbase pbase table ptables addresses) own ne = λ e. absurd (ne (sym e ∙ own))
 foreign r a n k x f m own ne = tt

@@ -307,6 +307,7 @@ module _ (c : Config) (rules : Rules) (w : Cluster) (r : Lines) (h : Lives c rul
     waits = λ db key. subst (λ (o : Option Wish). Wishful (Of_records c db key) o) (sym (wish_is db key)) (own.waits db key);
     formed = λ db key. subst (λ (t : View). Is_formed (scene c (era_of r a (r.line n)) rules db key) n t) (sym (view_after c f.generation f.sender db key x y turn.node)) (frozen_formed (scene c (era_of r a (r.line n)) rules db key) n (view db key x) (is_ended c 0 x.dbs db key) (own.formed db key));
     commits = λ db k e. absurd (let z : None ≡ Some k = sym (turn.node.commit db) ∙ e in cc);
+    persist = λ db k e. absurd (let z : None ≡ Some k = sym (turn.node.commit db) ∙ e in cc);
     phase = phase_after c rules h.who v s b n f.generation f.sender x y turn.node rest;
     lead = subst (λ (l : Lead). LeadSays c v s b n l) (sym turn.node.lead) (lead_later c w v r a s b n (lead_from f.generation x.lead) later (λ g e. e) (λ q k. sent_still w v (frames_of u.outs) q sent_is k) (lead_left c w r a n f.generation x.lead own.lead));
     replies = all_replies;

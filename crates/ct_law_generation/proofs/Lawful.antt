@@ -38,7 +38,7 @@ use Rattle.ct_law_generation.proofs.Running.{IsGeneration, Lives, restart, runs_
 -- ---- from the opening
 
 first_is_generation : (c : Config) → IsConfig c → IsGeneration c (first_era c)
-first_is_generation c is = record { real = all_real c is; ascend = (first_is_era c (all_real c is)).ascend; positive = omega arith; small = all_small c is }
+first_is_generation c is = record { alone = refl; real = all_real c is; ascend = (first_is_era c (all_real c is)).ascend; positive = omega arith; small = all_small c is }
 
 -- nothing is known of any call
 no_callers : Callers
@@ -70,7 +70,7 @@ law_of_one_generation config rules steps is all =
 -- ---- from a generation that began with rows
 
 born_is_generation : (config : Config) (g : ℕ) (members : List ℕ) (row : Rows) (w : Cluster) → IsConfig config → IsBornWith config g members row w → IsGeneration config (era_from g members w)
-born_is_generation config g members row w is h = record { real = born_real config g members row w is h; ascend = h.ascend; positive = h.real; small = all_small config is }
+born_is_generation config g members row w is h = record { alone = refl; real = born_real config g members row w is h; ascend = h.ascend; positive = h.real; small = all_small config is }
 
 -- the world of each record is in order with its register and some ghost
 born_ghosts : (config : Config) (g : ℕ) (members : List ℕ) (rules : Rules) (row : Rows) (w : Cluster) (r : Lines.Lines) → IsConfig config → IsBornWith config g members row w → BornRegisters config w g members row r → (db : ℕ) (key : List ℕ) →

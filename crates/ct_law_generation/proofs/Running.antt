@@ -121,8 +121,10 @@ step_held c rules w s one other = ⊎_elim
 
 -- ---- what holds at every step
 
--- a generation is numbered from 1 on, and its members ascend; these have numbers of nodes, and databases such of databases
+-- a generation is numbered from 1 on, no other is begun beside it, and its members ascend; these have numbers of nodes, and
+-- databases such of databases
 pub record IsGeneration (c : Config) (era : Era) : Type 0 where
+  pub alone : era.alone ≡ true
   pub real : list_all is_node era.members ≡ true
   pub ascend : ascends nat_lt era.members ≡ true
   pub positive : 1 ≤ era.number
@@ -166,7 +168,7 @@ restart c era rules who w start h = record {
 }
 
 -- the invariant of a world looks at no rules of functions
-other_rules : (s : Scene) (rules : Rules) (w : World) (r : Register) (g : Ghost) → WorldInv s w r g → WorldInv (record s { rules = rules }) w r g
+pub other_rules : (s : Scene) (rules : Rules) (w : World) (r : Register) (g : Ghost) → WorldInv s w r g → WorldInv (record s { rules = rules }) w r g
 other_rules s rules w r g h = record { frames = h.frames; register = h.register; all = h.all; nodes = h.nodes; master = h.master; outside = h.outside; senders = h.senders }
 
 -- so each record is one register
@@ -183,6 +185,7 @@ starts_here c era rules w r ghosts is h = record {
     positive = is.positive;
     asks = λ others db key. asks_by_law (scene c era others db key) (project era.number db key w) (r.records era.number db key) (leads_here c era rules others w r ghosts is.real h.followed db key);
   };
+  alone = is.alone;
   line = h.line.inside;
   ready = h.line.ready;
   small = is.small;

@@ -20,7 +20,6 @@ use Rattle.ct_rules_node.specs.Rounds.{row_of}
 use Rattle.ct_store.specs.Map.{Pairs, look}
 use Rattle.ct_cluster.specs.Cluster.{Cluster, Sent}
 use Rattle.ct_register.specs.Lines.{Lines}
-use Rattle.ct_promise.specs.Born.{has_pushed}
 use Rattle.ct_law_world.specs.World as law
 use Rattle.ct_law_world.specs.World.{Scene, View}
 use Rattle.ct_law_shown.specs.Shown.{scene, view}
@@ -147,7 +146,7 @@ module _ (c : Config) (rules : Rules) (who them : Callers) (w v : Cluster) (r : 
       present = subst (λ (j : ℕ). node.is_present_in j (record x { lead = Nothing }) ≡ true) (sym away.line) h.present;
       knows = h.knows ∙ ms;
       promise = h.promise ∙ sym away.line;
-      lead = subst (λ (j : ℕ). has_pushed j Nothing ≡ true) (sym away.line) h.lead;
+      lead = λ a. absurd (cc);
       size = h.size;
       known = record { order = known.order; dbs = known.dbs };
       waits = h.waits;
@@ -230,6 +229,7 @@ module _ (c : Config) (rules : Rules) (who them : Callers) (w v : Cluster) (r : 
       waits = h.waits;
       formed = formed_away h;
       commits = h.commits;
+      persist = h.persist;
       phase = phase_away x.phase refl h.phase;
       lead = lead_away x.lead refl h.lead;
       replies = replies;

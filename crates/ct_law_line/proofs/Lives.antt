@@ -1,5 +1,5 @@
 -- What holds of every cluster, said line by line, node by node and message by message.
-use Rattle.std.specs.Prelude.{◌≡◌, ◌≢◌, ◌⊎◌, ℕ, ◌+◌, ◌<◌, ◌≤◌, nat_eq, nat_lt, ◌||◌, Bool, true, false, List, [], ◌∷◌, length, map, Option, None, Some, is_some}
+use Rattle.std.specs.Prelude.{◌≡◌, ◌≢◌, ◌⊎◌, ℕ, ◌<◌, ◌≤◌, nat_eq, nat_lt, ◌||◌, true, false, List, [], length, map, None, Some, is_some}
 use Rattle.std.specs.List.{AllByRecursion, list_all}
 use Rattle.ct_msg.specs.declared.config.Config.{Config}
 use Rattle.ct_frame.specs.Fields.{ascends, row_before, is_node}
@@ -13,13 +13,13 @@ use Rattle.ct_merge.specs.Gathered.{Gathered, nothing, gathered_all}
 use Rattle.ct_merge.specs.Rule.{row_at}
 use Rattle.ct_merge.proofs.Among.{In}
 use Rattle.ct_rules.specs.State.{nothing_kept}
-use Rattle.ct_rules_node.specs.Node.{Node, Phase, Idle, Serving, Installed, Freezing, Frozen, Committing, Lead, Nothing, Freezes, Pulls, Installs, Completed, is_among, is_present, is_frozen_in, name_of, db_at, state_at}
+use Rattle.ct_rules_node.specs.Node.{is_persistent, kind_at, Node, Phase, Idle, Freezing, Frozen, Committing, Lead, Nothing, Freezes, Pulls, Installs, Completed, is_among, is_present, name_of, db_at, state_at}
+use Rattle.ct_rules_node.specs.Laws.{first_row}
 use Rattle.ct_rules_node.specs.Rounds.{row_of}
 use Rattle.ct_rules_node.specs.Admission.{record_in}
 use Rattle.ct_cluster.specs.Cluster.{Cluster, is_up, node_at}
 use Rattle.ct_register.specs.Formed.{IsFormed}
 use Rattle.ct_register.specs.Lines.{Lines}
-use Rattle.ct_law_world.specs.World.{World}
 use Rattle.ct_law_shown.specs.Shown.{scene, view}
 use Rattle.ct_law_node.proofs.Pending.{Callers, NodeKnown}
 use Rattle.ct_law_node.proofs.Staying.{NodeStays, AllWishes, Of_records}
@@ -134,8 +134,9 @@ pub record NodeLives (c : Config) (rules : Rules) (who : Callers) (w : Cluster) 
   -- calls wait for records alone, and each record's state is in form, whatever the phase
   pub waits : AllWishes (Of_records c) x
   pub formed : (db : ℕ) (key : List ℕ) → Is_formed (scene c (era_of r a (r.line n)) rules db key) n (view db key x)
-  -- a commit waits under its lock
+  -- a commit waits under its lock, and is of a persistent database
   pub commits : (db : ℕ) (k : Committing) → (db_at db x).commit ≡ Some k → is_some (state_at 0 (name_of c db) x).locked ≡ true
+  pub persist : (db : ℕ) (k : Committing) → (db_at db x).commit ≡ Some k → is_persistent (kind_at c db) ≡ true
   pub phase : PhaseSays c rules who w r a n x x.phase
   pub lead : LeadSays c w r a n x.lead
   pub replies : AllByRecursion (λ s. ReplySays r a n x s.frame s.frame.msg) w.sent

@@ -24,14 +24,14 @@ use Rattle.ct_cluster.specs.Labels.{Answered}
 use Rattle.ct_law_shown.specs.Waiting.{answered}
 use Rattle.ct_cluster.specs.declared.step.PendingCall.{PendingCall}
 use Rattle.ct_law_world.specs.World.{World, Event, Wants, Stores, Unlocks, happens, put, place, own_call, may_want}
-use Rattle.ct_law_shown.specs.Shown.{Era, scene, view, project, amid, Finds}
+use Rattle.ct_law_shown.specs.Shown.{Era, scene, view, amid, Finds}
 use Rattle.ct_law_wish.proofs.Wishing.{Wishful, want_wish, store_wish, unlock_wish}
 use Rattle.ct_law_node.proofs.Pending.{Callers, Known, KnownAt}
 use Rattle.ct_law_node.proofs.Forming.{may_want_comes}
 use Rattle.ct_law_node.proofs.Staying.{NodeStays, Of_records}
 use Rattle.ct_law_node.proofs.Events.{wants_happen, stores_happen, unlocks_happen}
 use Rattle.ct_law_node.proofs.Following.{Asks, IsEra, Goes_on, follows, Comes_to}
-use Rattle.ct_law_node.proofs.Delivering.{begun, whole_part, has_place}
+use Rattle.ct_law_node.proofs.Delivering.{IsShown, shown_begins, whole_part, has_place}
 
 -- the call that comes, before those that wait
 abbrev pub own_pending : ℕ → ℕ → ClientOp → PendingCall
@@ -50,7 +50,7 @@ finds_own n db call key asked calls d k = record {
 }
 
 -- what is known when a call comes to a record of the node: it is the call of its number
-pub record Calls_at (c : Config) (era : Era) (rules : Rules) (who : Callers) (calls n db call : ℕ) (key : List ℕ) (asked : ClientOp) (w : Cluster) : Type 0 where
+pub record Calls_at (c : Config) (era : Era) (rules : Rules) (who : Callers) (calls n db call : ℕ) (key : List ℕ) (asked : ClientOp) (w : Cluster) (ws : ℕ → List ℕ → World) : Type 0 where
   pub real : IsEra c era
   pub small : is_db db ≡ true
   pub member : is_among n era.members ≡ true
@@ -60,28 +60,29 @@ pub record Calls_at (c : Config) (era : Era) (rules : Rules) (who : Callers) (ca
   pub counted : call ≤ calls
   pub of_db : db_of asked ≡ db
   pub of_key : key_of asked ≡ key
-  pub lawful : Asks (scene c era rules db key) (project era.number db key w)
+  pub shown : IsShown era.number n w ws
+  pub lawful : Asks (scene c era rules db key) (ws db key)
 
 -- the node stays as it was, and the world of every record follows
-abbrev pub Goes : Config → Era → Rules → Callers → ℕ → ℕ → ℕ → ClientOp → Cluster → Turn → Type 0
-Goes c era rules who calls n call asked w u =
-    Goes_on c era rules who calls n (own_pending n call asked ∷ pending w) (λ db key. project era.number db key w) (makes call (begins (node_at n w))) u
+abbrev pub Goes : Config → Era → Rules → Callers → ℕ → ℕ → ℕ → ClientOp → Cluster → (ℕ → List ℕ → World) → Turn → Type 0
+Goes c era rules who calls n call asked w ws u =
+    Goes_on c era rules who calls n (own_pending n call asked ∷ pending w) ws (makes call (begins (node_at n w))) u
 
-wished_before : (c : Config) (era : Era) (rules : Rules) (who : Callers) (calls n db call : ℕ) (key : List ℕ) (asked : ClientOp) (w : Cluster) → Calls_at c era rules who calls n db call key asked w → Wishful (Known who calls n db key) (state_at db key (node_at n w)).wish
+wished_before : (c : Config) (era : Era) (rules : Rules) (who : Callers) (calls n db call : ℕ) (key : List ℕ) (asked : ClientOp) (w : Cluster) (ws : ℕ → List ℕ → World) → Calls_at c era rules who calls n db call key asked w ws → Wishful (Known who calls n db key) (state_at db key (node_at n w)).wish
 unfolding KnownAt state_at
-wished_before c era rules who calls n db call key asked w h = (h.stays.known.dbs db).records key
+wished_before c era rules who calls n db call key asked w ws h = (h.stays.known.dbs db).records key
 
 -- ---- a call comes to its record
 
 -- the call is an event at the record
-call_comes : (c : Config) (era : Era) (rules : Rules) (who : Callers) (calls n db call : ℕ) (key : List ℕ) (asked : ClientOp) (w : Cluster) (e : MoveEvent) (ev : Event) → Calls_at c era rules who calls n db call key asked w →
+call_comes : (c : Config) (era : Era) (rules : Rules) (who : Callers) (calls n db call : ℕ) (key : List ℕ) (asked : ClientOp) (w : Cluster) (ws : ℕ → List ℕ → World) (e : MoveEvent) (ev : Event) → Calls_at c era rules who calls n db call key asked w ws →
     MayCome (state_at db key (node_at n w)) e → is_from_node e ≡ true →
     Wishful (Known who calls n db key) (left_by c n db key (λ at o. move at rules e o) (begins (node_at n w))).state.wish → Wishful (Of_records c db key) (left_by c n db key (λ at o. move at rules e o) (begins (node_at n w))).state.wish →
-    happens (scene c era rules db key) (amid era.number db key n (project era.number db key w) (begins (node_at n w))) ev ≡ put (scene c era rules db key) (amid era.number db key n (project era.number db key w) (begins (node_at n w))) n (own_call call asked) (left_by c n db key (λ at o. move at rules e o) (begins (node_at n w))) →
+    happens (scene c era rules db key) (amid era.number db key n (ws db key) (begins (node_at n w))) ev ≡ put (scene c era rules db key) (amid era.number db key n (ws db key) (begins (node_at n w))) n (own_call call asked) (left_by c n db key (λ at o. move at rules e o) (begins (node_at n w))) →
     (at_record c n db key (λ at o. move at rules e o) (makes call (begins (node_at n w)))).spent ≡ false →
-    Comes_to c era rules who calls n db key e (makes call (begins (node_at n w))) (own_pending n call asked ∷ pending w) (own_call call asked) (project era.number db key w) ev
+    Comes_to c era rules who calls n db key e (makes call (begins (node_at n w))) (own_pending n call asked ∷ pending w) (own_call call asked) (ws db key) ev
 unfolding makes
-call_comes c era rules who calls n db call key asked w e ev h may from known waits is spent = record {
+call_comes c era rules who calls n db call key asked w ws e ev h may from known waits is spent = record {
   has = h.small;
   there = subst (λ (l : ℕ). db < l) (sym h.stays.size) (has_place c db h.kind);
   may = may;
@@ -90,70 +91,70 @@ call_comes c era rules who calls n db call key asked w e ev h may from known wai
   known = known;
   waits = waits;
   finds = finds_own n db call key asked (pending w) h.of_db h.of_key;
-  lawful = subst (λ (v : World). Asks (scene c era rules db key) v) (begun era.number db key n w) h.lawful;
+  lawful = subst (λ (v : World). Asks (scene c era rules db key) v) (shown_begins era.number db key n w ws h.shown) h.lawful;
   is_event = is;
 }
 
 -- a lock, a read, a write or a function
-pub wants_come : (c : Config) (era : Era) (rules : Rules) (who : Callers) (calls n db call : ℕ) (key : List ℕ) (asked : ClientOp) (w : Cluster) → Calls_at c era rules who calls n db call key asked w →
+pub wants_come : (c : Config) (era : Era) (rules : Rules) (who : Callers) (calls n db call : ℕ) (key : List ℕ) (asked : ClientOp) (w : Cluster) (ws : ℕ → List ℕ → World) → Calls_at c era rules who calls n db call key asked w ws →
     may_want (state_at db key (node_at n w)) asked ≡ true → (at_record c n db key (λ at o. want at rules call asked o) (makes call (begins (node_at n w)))).spent ≡ false →
-    Comes_to c era rules who calls n db key (event.Want call asked) (makes call (begins (node_at n w))) (own_pending n call asked ∷ pending w) (own_call call asked) (project era.number db key w) (Wants n call asked)
+    Comes_to c era rules who calls n db key (event.Want call asked) (makes call (begins (node_at n w))) (own_pending n call asked ∷ pending w) (own_call call asked) (ws db key) (Wants n call asked)
 unfolding node.view Known
-wants_come c era rules who calls n db call key asked w h may spent =
-    call_comes c era rules who calls n db call key asked w (event.Want call asked) (Wants n call asked) h (may_want_comes (scene c era rules db key) n call (view db key (node_at n w)) asked may) refl
-    (want_wish (Known who calls n db key) (place_of c n db key (node_at n w)) rules call asked (node.view db key (node_at n w)) (h.own, h.counted, h.of_db, h.of_key) (wished_before c era rules who calls n db call key asked w h))
+wants_come c era rules who calls n db call key asked w ws h may spent =
+    call_comes c era rules who calls n db call key asked w ws (event.Want call asked) (Wants n call asked) h (may_want_comes (scene c era rules db key) n call (view db key (node_at n w)) asked may) refl
+    (want_wish (Known who calls n db key) (place_of c n db key (node_at n w)) rules call asked (node.view db key (node_at n w)) (h.own, h.counted, h.of_db, h.of_key) (wished_before c era rules who calls n db call key asked w ws h))
     (want_wish (Of_records c db key) (place_of c n db key (node_at n w)) rules call asked (node.view db key (node_at n w)) h.kind (h.stays.waits db key))
-    (wants_happen c era rules n db call key asked (begins (node_at n w)) (project era.number db key w) h.stays.knows may) spent
+    (wants_happen c era rules n db call key asked (begins (node_at n w)) (ws db key) h.stays.knows may) spent
 
 -- a store
-pub stores_come : (c : Config) (era : Era) (rules : Rules) (who : Callers) (calls n db call : ℕ) (key v : List ℕ) (w : Cluster) → Calls_at c era rules who calls n db call key (op.Store db key v) w →
+pub stores_come : (c : Config) (era : Era) (rules : Rules) (who : Callers) (calls n db call : ℕ) (key v : List ℕ) (w : Cluster) (ws : ℕ → List ℕ → World) → Calls_at c era rules who calls n db call key (op.Store db key v) w ws →
     is_some (state_at db key (node_at n w)).locked ≡ true → (at_record c n db key (λ at o. store call v o) (makes call (begins (node_at n w)))).spent ≡ false →
-    Comes_to c era rules who calls n db key (event.Store call v) (makes call (begins (node_at n w))) (own_pending n call (op.Store db key v) ∷ pending w) (own_call call (op.Store db key v)) (project era.number db key w) (Stores n call v)
+    Comes_to c era rules who calls n db key (event.Store call v) (makes call (begins (node_at n w))) (own_pending n call (op.Store db key v) ∷ pending w) (own_call call (op.Store db key v)) (ws db key) (Stores n call v)
 unfolding node.view
-stores_come c era rules who calls n db call key v w h locked spent =
-    call_comes c era rules who calls n db call key (op.Store db key v) w (event.Store call v) (Stores n call v) h locked refl
-    (store_wish (Known who calls n db key) call v (node.view db key (node_at n w)) (wished_before c era rules who calls n db call key (op.Store db key v) w h))
+stores_come c era rules who calls n db call key v w ws h locked spent =
+    call_comes c era rules who calls n db call key (op.Store db key v) w ws (event.Store call v) (Stores n call v) h locked refl
+    (store_wish (Known who calls n db key) call v (node.view db key (node_at n w)) (wished_before c era rules who calls n db call key (op.Store db key v) w ws h))
     (store_wish (Of_records c db key) call v (node.view db key (node_at n w)) (h.stays.waits db key))
-    (stores_happen c era rules n db call key v (begins (node_at n w)) (project era.number db key w) h.stays.knows locked) spent
+    (stores_happen c era rules n db call key v (begins (node_at n w)) (ws db key) h.stays.knows locked) spent
 
 -- an unlock
-pub unlocks_come : (c : Config) (era : Era) (rules : Rules) (who : Callers) (calls n db call : ℕ) (key : List ℕ) (w : Cluster) → Calls_at c era rules who calls n db call key (op.Unlock db key) w →
+pub unlocks_come : (c : Config) (era : Era) (rules : Rules) (who : Callers) (calls n db call : ℕ) (key : List ℕ) (w : Cluster) (ws : ℕ → List ℕ → World) → Calls_at c era rules who calls n db call key (op.Unlock db key) w ws →
     is_some (state_at db key (node_at n w)).locked ≡ true → (at_record c n db key (λ at o. unlock at call o) (makes call (begins (node_at n w)))).spent ≡ false →
-    Comes_to c era rules who calls n db key (event.Unlock call) (makes call (begins (node_at n w))) (own_pending n call (op.Unlock db key) ∷ pending w) (own_call call (op.Unlock db key)) (project era.number db key w) (Unlocks n call)
+    Comes_to c era rules who calls n db key (event.Unlock call) (makes call (begins (node_at n w))) (own_pending n call (op.Unlock db key) ∷ pending w) (own_call call (op.Unlock db key)) (ws db key) (Unlocks n call)
 unfolding node.view
-unlocks_come c era rules who calls n db call key w h locked spent =
-    call_comes c era rules who calls n db call key (op.Unlock db key) w (event.Unlock call) (Unlocks n call) h locked refl
-    (unlock_wish (Known who calls n db key) (place_of c n db key (node_at n w)) call (node.view db key (node_at n w)) (wished_before c era rules who calls n db call key (op.Unlock db key) w h))
+unlocks_come c era rules who calls n db call key w ws h locked spent =
+    call_comes c era rules who calls n db call key (op.Unlock db key) w ws (event.Unlock call) (Unlocks n call) h locked refl
+    (unlock_wish (Known who calls n db key) (place_of c n db key (node_at n w)) call (node.view db key (node_at n w)) (wished_before c era rules who calls n db call key (op.Unlock db key) w ws h))
     (unlock_wish (Of_records c db key) (place_of c n db key (node_at n w)) call (node.view db key (node_at n w)) (h.stays.waits db key))
-    (unlocks_happen c era rules n db call key (begins (node_at n w)) (project era.number db key w) h.stays.knows locked) spent
+    (unlocks_happen c era rules n db call key (begins (node_at n w)) (ws db key) h.stays.knows locked) spent
 
 -- ---- the node and the worlds follow
 
 -- where the call is an event at the record, the node stays as it was, and the world of every record follows
-call_follows : (c : Config) (era : Era) (rules : Rules) (who : Callers) (calls n db call : ℕ) (key : List ℕ) (asked : ClientOp) (w : Cluster) (e : MoveEvent) (ev : Event) → Calls_at c era rules who calls n db call key asked w →
-    Comes_to c era rules who calls n db key e (makes call (begins (node_at n w))) (own_pending n call asked ∷ pending w) (own_call call asked) (project era.number db key w) ev →
-    Goes c era rules who calls n call asked w (at_record c n db key (λ at o. move at rules e o) (makes call (begins (node_at n w))))
+call_follows : (c : Config) (era : Era) (rules : Rules) (who : Callers) (calls n db call : ℕ) (key : List ℕ) (asked : ClientOp) (w : Cluster) (ws : ℕ → List ℕ → World) (e : MoveEvent) (ev : Event) → Calls_at c era rules who calls n db call key asked w ws →
+    Comes_to c era rules who calls n db key e (makes call (begins (node_at n w))) (own_pending n call asked ∷ pending w) (own_call call asked) (ws db key) ev →
+    Goes c era rules who calls n call asked w ws (at_record c n db key (λ at o. move at rules e o) (makes call (begins (node_at n w))))
 unfolding makes
-call_follows c era rules who calls n db call key asked w e ev h comes =
-    follows c era rules who calls n db key e (makes call (begins (node_at n w))) (own_pending n call asked ∷ pending w) (own_call call asked) (λ db key. project era.number db key w) ev h.real h.member h.stays comes
+call_follows c era rules who calls n db call key asked w ws e ev h comes =
+    follows c era rules who calls n db key e (makes call (begins (node_at n w))) (own_pending n call asked ∷ pending w) (own_call call asked) ws ev h.real h.member h.stays comes
 
 -- a lock, a read, a write or a function
-pub wants_follows : (c : Config) (era : Era) (rules : Rules) (who : Callers) (calls n db call : ℕ) (key : List ℕ) (asked : ClientOp) (w : Cluster) → Calls_at c era rules who calls n db call key asked w →
+pub wants_follows : (c : Config) (era : Era) (rules : Rules) (who : Callers) (calls n db call : ℕ) (key : List ℕ) (asked : ClientOp) (w : Cluster) (ws : ℕ → List ℕ → World) → Calls_at c era rules who calls n db call key asked w ws →
     may_want (state_at db key (node_at n w)) asked ≡ true → (at_record c n db key (λ at o. want at rules call asked o) (makes call (begins (node_at n w)))).spent ≡ false →
-    Goes c era rules who calls n call asked w (at_record c n db key (λ at o. want at rules call asked o) (makes call (begins (node_at n w))))
-wants_follows c era rules who calls n db call key asked w h may spent =
-    call_follows c era rules who calls n db call key asked w (event.Want call asked) (Wants n call asked) h (wants_come c era rules who calls n db call key asked w h may spent)
+    Goes c era rules who calls n call asked w ws (at_record c n db key (λ at o. want at rules call asked o) (makes call (begins (node_at n w))))
+wants_follows c era rules who calls n db call key asked w ws h may spent =
+    call_follows c era rules who calls n db call key asked w ws (event.Want call asked) (Wants n call asked) h (wants_come c era rules who calls n db call key asked w ws h may spent)
 
 -- a store
-pub stores_follows : (c : Config) (era : Era) (rules : Rules) (who : Callers) (calls n db call : ℕ) (key v : List ℕ) (w : Cluster) → Calls_at c era rules who calls n db call key (op.Store db key v) w →
+pub stores_follows : (c : Config) (era : Era) (rules : Rules) (who : Callers) (calls n db call : ℕ) (key v : List ℕ) (w : Cluster) (ws : ℕ → List ℕ → World) → Calls_at c era rules who calls n db call key (op.Store db key v) w ws →
     is_some (state_at db key (node_at n w)).locked ≡ true → (at_record c n db key (λ at o. store call v o) (makes call (begins (node_at n w)))).spent ≡ false →
-    Goes c era rules who calls n call (op.Store db key v) w (at_record c n db key (λ at o. store call v o) (makes call (begins (node_at n w))))
-stores_follows c era rules who calls n db call key v w h locked spent =
-    call_follows c era rules who calls n db call key (op.Store db key v) w (event.Store call v) (Stores n call v) h (stores_come c era rules who calls n db call key v w h locked spent)
+    Goes c era rules who calls n call (op.Store db key v) w ws (at_record c n db key (λ at o. store call v o) (makes call (begins (node_at n w))))
+stores_follows c era rules who calls n db call key v w ws h locked spent =
+    call_follows c era rules who calls n db call key (op.Store db key v) w ws (event.Store call v) (Stores n call v) h (stores_come c era rules who calls n db call key v w ws h locked spent)
 
 -- an unlock
-pub unlocks_follows : (c : Config) (era : Era) (rules : Rules) (who : Callers) (calls n db call : ℕ) (key : List ℕ) (w : Cluster) → Calls_at c era rules who calls n db call key (op.Unlock db key) w →
+pub unlocks_follows : (c : Config) (era : Era) (rules : Rules) (who : Callers) (calls n db call : ℕ) (key : List ℕ) (w : Cluster) (ws : ℕ → List ℕ → World) → Calls_at c era rules who calls n db call key (op.Unlock db key) w ws →
     is_some (state_at db key (node_at n w)).locked ≡ true → (at_record c n db key (λ at o. unlock at call o) (makes call (begins (node_at n w)))).spent ≡ false →
-    Goes c era rules who calls n call (op.Unlock db key) w (at_record c n db key (λ at o. unlock at call o) (makes call (begins (node_at n w))))
-unlocks_follows c era rules who calls n db call key w h locked spent =
-    call_follows c era rules who calls n db call key (op.Unlock db key) w (event.Unlock call) (Unlocks n call) h (unlocks_come c era rules who calls n db call key w h locked spent)
+    Goes c era rules who calls n call (op.Unlock db key) w ws (at_record c n db key (λ at o. unlock at call o) (makes call (begins (node_at n w))))
+unlocks_follows c era rules who calls n db call key w ws h locked spent =
+    call_follows c era rules who calls n db call key (op.Unlock db key) w ws (event.Unlock call) (Unlocks n call) h (unlocks_come c era rules who calls n db call key w ws h locked spent)

@@ -59,14 +59,39 @@ mail_there g db key (x ∷ xs) (suc k) s e now r = further (mail_of g db key x.f
 
 -- ---- a step begins
 
-begun_node : (db : ℕ) (key : List ℕ) (n : ℕ) (w : Cluster) (k : ℕ) → view db key (node_at k w) ≡ cond (nat_eq k n) (view db key (node_at n w)) (view db key (node_at k w))
-begun_node db key n w k = cond_both (nat_eq k n) _ _ (λ (v : View). view db key (node_at k w) ≡ v) (λ t. ap (λ (j : ℕ). view db key (node_at j w)) (eqb-true k n t)) (λ _. refl)
+-- the worlds of a generation show what a node has, which has joined, and have all mail of the generation
+pub record IsShown (g n : ℕ) (w : Cluster) (ws : ℕ → List ℕ → World) : Type 0 where
+  pub own : (db : ℕ) (key : List ℕ) → (ws db key).nodes n ≡ view db key (node_at n w)
+  pub joined : (db : ℕ) (key : List ℕ) → (ws db key).joined n ≡ true
+  pub mail : (db : ℕ) (key : List ℕ) → (ws db key).mail ≡ mails g db key w.sent
 
--- amid a step that has just begun the world is that of the cluster
-pub begun : (g : ℕ) (db : ℕ) (key : List ℕ) (n : ℕ) (w : Cluster) → project g db key w ≡ amid g db key n (project g db key w) (begins (node_at n w))
+-- the worlds of all records, as the cluster shows them
+abbrev pub projected : ℕ → Cluster → ℕ → List ℕ → World
+projected g w db key = project g db key w
+
+-- they show every node
+pub project_shown : (g n : ℕ) (w : Cluster) → IsShown g n w (projected g w)
+project_shown g n w = record { own = λ db key. refl; joined = λ db key. refl; mail = λ db key. refl }
+
+begun_node : (n : ℕ) (v : View) (nodes : ℕ → View) → nodes n ≡ v → (k : ℕ) → nodes k ≡ cond (nat_eq k n) v (nodes k)
+begun_node n v nodes e k = cond_both (nat_eq k n) _ _ (λ (x : View). nodes k ≡ x) (λ t. ap nodes (eqb-true k n t) ∙ e) (λ _. refl)
+
+begun_joined : (n : ℕ) (joined : ℕ → Bool) → joined n ≡ true → (k : ℕ) → joined k ≡ (joined k || nat_eq k n)
+begun_joined n joined e k = either (joined k) (nat_eq k n) (λ t. ap joined (eqb-true k n t) ∙ e)
+  where
+    either : (a b : Bool) → (b ≡ true → a ≡ true) → a ≡ (a || b)
+    either true b f = refl
+    either false true f = f refl
+    either false false f = refl
+
+-- amid a step that has just begun such a world is what it was
+pub shown_begins : (g db : ℕ) (key : List ℕ) (n : ℕ) (w : Cluster) (ws : ℕ → List ℕ → World) → IsShown g n w ws → ws db key ≡ amid g db key n (ws db key) (begins (node_at n w))
 unfolding frames_of mails
-begun g db key n w = (let mail : mails g db key w.sent ≡ mails g db key w.sent ++ [] = sym (append-nil (mails g db key w.sent)) in
-    λ i. record { nodes = λ k. begun_node db key n w k i; joined = λ _. true; mail = mail i })
+shown_begins g db key n w ws s = (let mail : (ws db key).mail ≡ (ws db key).mail ++ [] = sym (append-nil (ws db key).mail) in
+    λ i. record { nodes = λ k. begun_node n (view db key (node_at n w)) (ws db key).nodes (s.own db key) k i; joined = λ k. begun_joined n (ws db key).joined (s.joined db key) k i; mail = mail i })
+
+pub begun : (g : ℕ) (db : ℕ) (key : List ℕ) (n : ℕ) (w : Cluster) → project g db key w ≡ amid g db key n (project g db key w) (begins (node_at n w))
+begun g db key n w = shown_begins g db key n w (projected g w) (project_shown g n w)
 
 -- ---- the database of the record
 
@@ -99,12 +124,12 @@ current_here c era rules who calls n f x h e =
     sym (number_of f.generation x (and_parts (is_present_in f.generation x) (is_among f.sender x.members) both.0).0) ∙ of_era c era rules who calls n x h
 
 -- the message is an event at its record
-pub delivery_comes : (c : Config) (era : Era) (rules : Rules) (who : Callers) (w : Cluster) (k : ℕ) (s : Sent) (db : ℕ) (key : List ℕ) → ((d : ℕ) → d < length c.dbs → is_db d ≡ true) → NodeStays c era rules who w.calls s.frame.receiver (node_at s.frame.receiver w) → ((m : ℕ) → NodeKnown who w.calls m (node_at m w)) →
-    slice_get w.sent k ≡ Some s → record_in s.frame.msg ≡ Some (db, key) → IsPlain era.number s.frame → s.frame.generation ≡ era.number → has_records (kind_at c db) ≡ true → Asks (scene c era rules db key) (project era.number db key w) →
+pub delivery_comes : (c : Config) (era : Era) (rules : Rules) (who : Callers) (w : Cluster) (k : ℕ) (s : Sent) (db : ℕ) (key : List ℕ) (ws : ℕ → List ℕ → World) → IsShown era.number s.frame.receiver w ws → ((d : ℕ) → d < length c.dbs → is_db d ≡ true) → NodeStays c era rules who w.calls s.frame.receiver (node_at s.frame.receiver w) → ((m : ℕ) → NodeKnown who w.calls m (node_at m w)) →
+    slice_get w.sent k ≡ Some s → record_in s.frame.msg ≡ Some (db, key) → IsPlain era.number s.frame → s.frame.generation ≡ era.number → has_records (kind_at c db) ≡ true → Asks (scene c era rules db key) (ws db key) →
     (at_record c s.frame.receiver db key (λ at o. arrive at rules s.frame.sender s.frame.msg o) (begins (node_at s.frame.receiver w))).spent ≡ false →
-    (ev : Event) × Comes_to c era rules who w.calls s.frame.receiver db key (event.Arrive s.frame.sender s.frame.msg) (begins (node_at s.frame.receiver w)) (pending w) (waiting_call (state_at db key (node_at s.frame.receiver w)).wish) (project era.number db key w) ev
+    (ev : Event) × Comes_to c era rules who w.calls s.frame.receiver db key (event.Arrive s.frame.sender s.frame.msg) (begins (node_at s.frame.receiver w)) (pending w) (waiting_call (state_at db key (node_at s.frame.receiver w)).wish) (ws db key) ev
 unfolding KnownAt state_at node.view
-delivery_comes c era rules who w k s db key small h all at r plain now kind asks spent =
+delivery_comes c era rules who w k s db key ws shown small h all at r plain now kind asks spent =
     let n = s.frame.receiver in
     let t = begins (node_at n w) in
     let inside = has_place c db kind in
@@ -120,24 +145,25 @@ delivery_comes c era rules who w k s db key small h all at r plain now kind asks
         known = arrive_wish (Known who w.calls n db key) (place_of c n db key (node_at n w)) rules s.frame.sender s.frame.msg (node.view db key (node_at n w)) ((h.known.dbs db).records key);
         waits = arrive_wish (Of_records c db key) (place_of c n db key (node_at n w)) rules s.frame.sender s.frame.msg (node.view db key (node_at n w)) (h.waits db key);
         finds = finds_waiting who w.calls n db key w all;
-        lawful = subst (λ (v : World). Asks (scene c era rules db key) v) (begun era.number db key n w) asks;
-        is_event = comes_happen c era rules n db mail.0 s.frame.sender key s.frame.msg t (project era.number db key w) h.knows (longer (mails era.number db key w.sent) _ mail.0 _ mail.1);
+        lawful = subst (λ (v : World). Asks (scene c era rules db key) v) (shown_begins era.number db key n w ws shown) asks;
+        is_event = comes_happen c era rules n db mail.0 s.frame.sender key s.frame.msg t (ws db key) h.knows
+            (longer (ws db key).mail _ mail.0 _ (subst (λ (l : List Mail). slice_get l mail.0 ≡ Some (record { sender = s.frame.sender; receiver = n; msg = s.frame.msg })) (sym (shown.mail db key)) mail.1));
       },
     )
 
 -- A message of a record that was sent comes to its receiver, which follows it: the receiver stays as it was, and the world of
 -- every record follows.
-pub delivers : (c : Config) (era : Era) (rules : Rules) (who : Callers) (w : Cluster) (k : ℕ) (s : Sent) (db0 : ℕ) (key0 : List ℕ) → IsEra c era → ((db : ℕ) → db < length c.dbs → is_db db ≡ true) →
+pub delivers : (c : Config) (era : Era) (rules : Rules) (who : Callers) (w : Cluster) (k : ℕ) (s : Sent) (db0 : ℕ) (key0 : List ℕ) (ws : ℕ → List ℕ → World) → IsShown era.number s.frame.receiver w ws → IsEra c era → ((db : ℕ) → db < length c.dbs → is_db db ≡ true) →
     is_among s.frame.receiver era.members ≡ true → NodeStays c era rules who w.calls s.frame.receiver (node_at s.frame.receiver w) → ((m : ℕ) → NodeKnown who w.calls m (node_at m w)) →
     slice_get w.sent k ≡ Some s → record_in s.frame.msg ≡ Some (db0, key0) → IsPlain era.number s.frame →
-    (is_current s.frame (node_at s.frame.receiver w) && has_records (kind_at c db0)) ≡ true → Asks (scene c era rules db0 key0) (project era.number db0 key0 w) →
+    (is_current s.frame (node_at s.frame.receiver w) && has_records (kind_at c db0)) ≡ true → Asks (scene c era rules db0 key0) (ws db0 key0) →
     (arrives c rules s.frame.receiver s.frame (begins (node_at s.frame.receiver w)) s.frame.msg).spent ≡ false →
-    Goes_on c era rules who w.calls s.frame.receiver (pending w) (λ db key. project era.number db key w) (begins (node_at s.frame.receiver w)) (arrives c rules s.frame.receiver s.frame (begins (node_at s.frame.receiver w)) s.frame.msg)
-delivers c era rules who w k s db0 key0 real small member h all at r plain ok asks spent =
+    Goes_on c era rules who w.calls s.frame.receiver (pending w) ws (begins (node_at s.frame.receiver w)) (arrives c rules s.frame.receiver s.frame (begins (node_at s.frame.receiver w)) s.frame.msg)
+delivers c era rules who w k s db0 key0 ws shown real small member h all at r plain ok asks spent =
     let n = s.frame.receiver in
     let t = begins (node_at n w) in
     let is = arrives_at c rules n s.frame t db0 key0 r ok in
     let parts = and_parts (is_current s.frame (node_at n w)) (has_records (kind_at c db0)) ok in
-    let comes = delivery_comes c era rules who w k s db0 key0 small h all at r plain (current_here c era rules who w.calls n s.frame (node_at n w) h parts.0) parts.1 asks (sym (ap (λ (u : Turn). u.spent) is) ∙ spent) in
-    subst (λ (u : Turn). Goes_on c era rules who w.calls n (pending w) (λ db key. project era.number db key w) t u) (sym is)
-    (follows c era rules who w.calls n db0 key0 (event.Arrive s.frame.sender s.frame.msg) t (pending w) (waiting_call (state_at db0 key0 (node_at n w)).wish) (λ db key. project era.number db key w) comes.0 real member h comes.1)
+    let comes = delivery_comes c era rules who w k s db0 key0 ws shown small h all at r plain (current_here c era rules who w.calls n s.frame (node_at n w) h parts.0) parts.1 asks (sym (ap (λ (u : Turn). u.spent) is) ∙ spent) in
+    subst (λ (u : Turn). Goes_on c era rules who w.calls n (pending w) ws t u) (sym is)
+    (follows c era rules who w.calls n db0 key0 (event.Arrive s.frame.sender s.frame.msg) t (pending w) (waiting_call (state_at db0 key0 (node_at n w)).wish) ws comes.0 real member h comes.1)

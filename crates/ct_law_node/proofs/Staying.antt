@@ -41,7 +41,8 @@ pub record NodeStays (c : Config) (era : Era) (rules : Rules) (who : Callers) (c
   pub present : is_present_in era.number x ≡ true
   pub knows : x.members ≡ era.members
   pub promise : x.promise ≡ era.number
-  pub lead : has_pushed era.number x.lead ≡ true
+  -- where no other generation is begun, it leads no round whose push is still to come
+  pub lead : era.alone ≡ true → has_pushed era.number x.lead ≡ true
   pub size : length x.dbs ≡ length c.dbs
   pub known : NodeKnown who calls n x
   -- calls wait only for records of databases that have records

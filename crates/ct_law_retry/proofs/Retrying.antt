@@ -129,15 +129,15 @@ adds_follow s g n w pend t u v a f =
     λ i. record { nodes = λ k. cond (nat_eq k n) (view s.db s.key (node i)) (w.nodes k); joined = λ k. w.joined k || nat_eq k n; mail = w.mail ++ mail i }) in
     (f.0, record { world = f.1.world ∙ same; labels = a.untold s.db s.key ∙ f.1.labels })
 
-pub retry_goes : (c : Config) (era : Era) (rules : Rules) (who : Callers) (calls n : ℕ) (pend : List PendingCall) (ws : ℕ → List ℕ → World) (t : Turn) → is_among n era.members ≡ true → Retries_at c n → NodeStays c era rules who calls n t.node →
+pub retry_goes : (c : Config) (era : Era) (rules : Rules) (who : Callers) (calls n : ℕ) (pend : List PendingCall) (ws : ℕ → List ℕ → World) (t : Turn) → era.alone ≡ true → is_among n era.members ≡ true → Retries_at c n → NodeStays c era rules who calls n t.node →
     Goes_on c era rules who calls n pend ws t (retry c n t)
-retry_goes c era rules who calls n pend ws t member r h =
+retry_goes c era rules who calls n pend ws t alone member r h =
     let u = resends_of c n t in
     let g = resends_go c era rules who calls n pend ws t member r h in
     let v = update_in n 0 t.node.dbs u in
     let a = updates_add era.number n pend 0 t.node.dbs u (let e = of_era c era rules who calls n u.node g.0 in omega arith) in
     let stays : NodeStays c era rules who calls n v.node = subst (λ (x : Node). NodeStays c era rules who calls n x) (sym a.node) g.0 in
-    let b = adds_more era.number n pend u v (retry_lead n v v.node.lead) a (lead_adds era.number n pend v v.node.lead stays.lead) in
+    let b = adds_more era.number n pend u v (retry_lead n v v.node.lead) a (lead_adds era.number n pend v v.node.lead (stays.lead alone)) in
     subst (λ (x : Turn). Goes_on c era rules who calls n pend ws t x) (sym (retry_is c n t (phase_of era.number t.node h.present))) (
       subst (λ (x : Node). NodeStays c era rules who calls n x) (sym b.node) g.0,
       (λ db key. adds_follow (scene c era rules db key) era.number n (ws db key) pend t u (retry_lead n v v.node.lead) b (g.1 db key)),
@@ -145,10 +145,10 @@ retry_goes c era rules who calls n pend ws t member r h =
     )
 
 -- so the cluster goes on
-pub retry_cluster : (c : Config) (era : Era) (rules : Rules) (who : Callers) (w : Cluster) (n : ℕ) (labels : List Label) (es : ℕ → List ℕ → List Event) → IsEra c era → ((db : ℕ) → db < length c.dbs → is_db db ≡ true) →
+pub retry_cluster : (c : Config) (era : Era) (rules : Rules) (who : Callers) (w : Cluster) (n : ℕ) (labels : List Label) (es : ℕ → List ℕ → List Event) → era.alone ≡ true → IsEra c era → ((db : ℕ) → db < length c.dbs → is_db db ≡ true) →
     is_up n w ≡ true → ClusterStays c era rules who w → Schedules c era rules w labels es →
     Cluster_goes c era rules who (put n (retry c n (begins (node_at n w))) [] w).cluster (labels ++ labels_of n (pending w) (retry c n (begins (node_at n w))).outs)
-retry_cluster c era rules who w n labels es real small up h sched =
+retry_cluster c era rules who w n labels es alone real small up h sched =
     let member = h.up n up in
     put_goes c era rules who w n (retry c n (begins (node_at n w))) labels es member h sched
-    (retry_goes c era rules who w.calls n (pending w) (λ db key. project era.number db key w) (begins (node_at n w)) member (record { real = node_of n era.members real.real member; small = small }) (h.nodes n member))
+    (retry_goes c era rules who w.calls n (pending w) (λ db key. project era.number db key w) (begins (node_at n w)) alone member (record { real = node_of n era.members real.real member; small = small }) (h.nodes n member))

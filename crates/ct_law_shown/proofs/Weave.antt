@@ -91,9 +91,13 @@ vacuum_accepted g config n db key r t real line kind h = ((λ zero. absurd (omeg
 abbrev pub Each : ℕ → Rules → Lines → List Label → (ℕ → List ℕ → Register) → Type 0
 Each g rules r labels t = (db : ℕ) (key : List ℕ) → AcceptsAll rules (r.records g db key) (told_by_all db key labels) (t db key)
 
+-- the registers of the other lines stay
+abbrev pub OthersStay : ℕ → Lines → Lines → Type 0
+OthersStay g r s = (h : ℕ) → h ≢ g → s.records h ≡ r.records h
+
 -- all registers accept the labels, and come to these of line g; all else stays
 abbrev pub Woven : ℕ → Config → Rules → Lines → List Label → (ℕ → List ℕ → Register) → Type 0
-Woven g config rules r labels t = (s : Lines) × AcceptsLabels config rules r labels s × ((db : ℕ) (key : List ℕ) → s.records g db key ≡ t db key) × (s ≡ record r { records = s.records })
+Woven g config rules r labels t = (s : Lines) × AcceptsLabels config rules r labels s × ((db : ℕ) (key : List ℕ) → s.records g db key ≡ t db key) × (s ≡ record r { records = s.records }) × OthersStay g r s
 
 -- the register after the first label, where that tells one thing of the record
 first_mid : (rules : Rules) (b : Bool) (x : law.Label) (xs : List law.Label) (r t : Register) → b ≡ true → AcceptsAll rules r (told_of b x ++ xs) t →
@@ -122,7 +126,10 @@ rest_each g rules l db0 key0 x mid r labels t e h m db key = ⊎_elim
 
 -- what the registers come to after one label
 abbrev pub Goes_on : ℕ → Config → Rules → Lines → Label → List Label → (ℕ → List ℕ → Register) → Type 0
-Goes_on g config rules r x labels t = (s : Lines) × AcceptsLabel config rules r x s × Each g rules s labels t × (s ≡ record r { records = s.records })
+Goes_on g config rules r x labels t = (s : Lines) × AcceptsLabel config rules r x s × Each g rules s labels t × (s ≡ record r { records = s.records }) × OthersStay g r s
+
+other_lines : (g : ℕ) (l db : ℕ) (key : List ℕ) (t : Register) (r : Lines) → l ≡ g → OthersStay g r (with_record l db key t r)
+other_lines g l db key t r e h ne = at_other l h _ r.records (λ is. ne (is ∙ e))
 
 telling_alone : (a b : Bool) → a ≡ true → (a && b) ≡ b
 telling_alone true b e = refl
@@ -143,6 +150,7 @@ told_answer g config rules n asked a labels r t real e line kind h =
       answer_accepted g config rules n asked a r p.0 real e line kind p.1,
       rest_each g rules (r.line n) (db_of asked) (key_of asked) (law.Told n asked a) p.0 r labels t line every p.2,
       refl,
+      other_lines g (r.line n) (db_of asked) (key_of asked) p.0 r line,
     )
 
 silent_answer : (g : ℕ) (config : Config) (rules : Rules) (n : ℕ) (asked : ClientOp) (a : Answer) (labels : List Label) (r : Lines) (t : ℕ → List ℕ → Register) → is_telling a ≡ false →
@@ -153,6 +161,7 @@ silent_answer g config rules n asked a labels r t e h = (
   silent config rules n asked a r e,
   λ db key. first_none rules _ (law.Told n asked a) (told_by_all db key labels) (r.records g db key) (t db key) (silent_alone (is_telling a) _ e) (h db key),
   refl,
+  λ l ne. refl,
 )
 
 told_vacuum : (g : ℕ) (config : Config) (rules : Rules) (n db : ℕ) (key : List ℕ) (labels : List Label) (r : Lines) (t : ℕ → List ℕ → Register) → 1 ≤ g →
@@ -164,6 +173,7 @@ told_vacuum g config rules n db key labels r t real line kind h =
       vacuum_accepted g config n db key r p.0 real line kind p.1,
       rest_each g rules (r.line n) db key (law.Vacuumed n) p.0 r labels t line h p.2,
       refl,
+      other_lines g (r.line n) db key p.0 r line,
     )
 
 -- a node that serves in line g, which all have installed, is accepted and changes nothing
@@ -195,15 +205,15 @@ one_label g config rules (Answered n asked a) labels r t real own h = ⊎_elim
     (λ (e : is_telling a ≡ false). silent_answer g config rules n asked a labels r t e h)
     (true_or_false (is_telling a))
 one_label g config rules (Noted n (note.Vacuumed db key)) labels r t real own h = told_vacuum g config rules n db key labels r t real own.0 own.1 h
-one_label g config rules (Noted n (note.Thawed h)) labels r t real own each = (r, thaw_accepted g h n r real own, each, refl)
+one_label g config rules (Noted n (note.Thawed h)) labels r t real own each = (r, thaw_accepted g h n r real own, each, refl, λ l ne. refl)
 one_label g config rules _ labels r t real own h = absurd own
 
 -- where each record's register accepts what the labels tell of the record, all registers accept them
 pub weave : (g : ℕ) (config : Config) (rules : Rules) (labels : List Label) (r : Lines) (t : ℕ → List ℕ → Register) → 1 ≤ g → AllByRecursion (IsOfLine config g r) labels →
     Each g rules r labels t → Woven g config rules r labels t
 unfolding told_by_all
-weave g config rules [] r t real own h = (r, refl, (λ db key. sym (h db key)), refl)
+weave g config rules [] r t real own h = (r, refl, (λ db key. sym (h db key)), refl, λ l ne. refl)
 weave g config rules (x ∷ labels) r t real own h =
     let p = one_label g config rules x labels r t real own.0 h in
     let q = weave g config rules labels p.0 t real (subst (λ (l : Lines). AllByRecursion (IsOfLine config g l) labels) (sym p.3) (all_of_line g config r (p.0).records labels own.1)) p.2 in
-    (q.0, (p.0, p.1, q.1), q.2, q.3 ∙ ap (λ (l : Lines). record l { records = (q.0).records }) p.3)
+    (q.0, (p.0, p.1, q.1), q.2, q.3 ∙ ap (λ (l : Lines). record l { records = (q.0).records }) p.3, λ l ne. q.4 l ne ∙ p.4 l ne)

@@ -24,12 +24,13 @@ use Rattle.ct_rules_node.specs.Turn.{Turn}
 use Rattle.ct_cluster.specs.Steps.{frames_of}
 use Rattle.ct_law_world.specs.World.{Scene, View, Mail, World, Event, last, trace}
 
--- A generation: its number, its members, whether they all serve in it, and the world of each record from which on it is
--- followed.
+-- A generation: its number, its members, whether they all serve in it, whether no other generation is begun beside it, and
+-- the world of each record from which on it is followed.
 pub record Era : Type 0 where
   pub number : ℕ
   pub members : List ℕ
   pub thawed : Bool
+  pub alone : Bool
   pub start : ℕ → List ℕ → World
 
 -- the record in the generation

@@ -63,10 +63,21 @@ pub record Run_goes (c : Config) (era : Era) (rules : Rules) (reg : Lines) (labe
 -- from these registers on: only what was asked is answered in the generation, each member is in the line, and where not all
 -- members serve in the generation, they all have installed it
 pub record Starts (c : Config) (era : Era) (rules : Rules) (reg : Lines) : Type 0 where
+  pub alone : era.alone ≡ true
   pub era_is : IsEra c era
   pub line : (n : ℕ) → is_among n era.members ≡ true → reg.line n ≡ era.number
   pub ready : era.thawed ≡ false → AllInstalled era.number reg
   pub small : (db : ℕ) → db < length c.dbs → is_db db ≡ true
+
+-- of one member: only what was asked is answered in the generation, and the member is in the line
+pub record Starts_at (c : Config) (era : Era) (rules : Rules) (reg : Lines) (n : ℕ) : Type 0 where
+  pub era_is : IsEra c era
+  pub member : is_among n era.members ≡ true
+  pub line : reg.line n ≡ era.number
+  pub small : (db : ℕ) → db < length c.dbs → is_db db ≡ true
+
+pub starts_at : (c : Config) (era : Era) (rules : Rules) (reg : Lines) (n : ℕ) → Starts c era rules reg → is_among n era.members ≡ true → Starts_at c era rules reg n
+starts_at c era rules reg n is inside = record { era_is = is.era_is; member = inside; line = is.line n inside; small = is.small }
 
 -- ---- one step
 
@@ -176,7 +187,7 @@ retry_taken c era rules reg w ls n is kept h x ok e =
     let f = fed_is c rules n event.Retry [] w x e in
     turn_tells c era rules reg h.who ls w w (step.Retry n) n (retry c n (begins (node_at n w))) x h.own kept refl f.1
     (subst (λ (y : Stepped). Cluster_goes c era rules h.who y.cluster (ls ++ labels_of n (pending w) (retry c n (begins (node_at n w))).outs)) (sym f.1)
-    (retry_cluster c era rules h.who w n ls h.goes.1 is.era_is is.small (runs w n _ _ ok) h.goes.0 h.goes.2))
+    (retry_cluster c era rules h.who w n ls h.goes.1 is.alone is.era_is is.small (runs w n _ _ ok) h.goes.0 h.goes.2))
 
 -- ---- calls
 

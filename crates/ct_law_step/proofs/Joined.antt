@@ -39,6 +39,7 @@ use Rattle.ct_law_node.proofs.Pending.{Callers}
 use Rattle.ct_law_cluster.proofs.Clusters.{ClusterStays}
 use Rattle.ct_law_cluster.proofs.Coming.{Cluster_goes}
 use Rattle.ct_law_cluster.proofs.Counting.{own_caller, more_calls}
+use Rattle.ct_law_node.proofs.Delivering.{projected}
 use Rattle.ct_law_node.proofs.Calling.{own_pending, Goes}
 use Rattle.ct_law_cluster.proofs.Called.{counted, called_by, call_goes}
 use Rattle.ct_law_cluster.proofs.Admitted.{admits}
@@ -151,8 +152,8 @@ refused_goes c era rules who w ls n o reason es why h sched up =
     told_same c era rules (called_by n o w who) (put n (client_turn c rules w n o) [] (counted w)).cluster ls (labels_of n (own_pending n (w.calls + 1) o ∷ pending (counted w)) (client_turn c rules w n o).outs) (told_by_call c rules w n o)
     (λ db key. subst (λ (l : List Label). told_by_all db key l ≡ told_by_all db key (record_labels c l)) (sym told) (silent_told db key n o reason (speaks_of_records c (Answered n o (answer.Refused reason))) silent))
     (call_goes c era rules who w n o (client_turn c rules w n o) ls es h sched up
-    (subst (λ (u : Turn). Goes c era rules (called_by n o w who) (w.calls + 1) n (w.calls + 1) o (counted w) u) (sym (refused_turn c rules w n o reason why))
-    (refused_follows c era rules (called_by n o w who) (w.calls + 1) n (w.calls + 1) o (counted w) reason ((more_calls c era rules who (n, o) w h).nodes n (h.up n up)) silent)))
+    (subst (λ (u : Turn). Goes c era rules (called_by n o w who) (w.calls + 1) n (w.calls + 1) o (counted w) (projected era.number (counted w)) u) (sym (refused_turn c rules w n o reason why))
+    (refused_follows c era rules (called_by n o w who) (w.calls + 1) n (w.calls + 1) o (counted w) (projected era.number (counted w)) reason ((more_calls c era rules who (n, o) w h).nodes n (h.up n up)) silent)))
 
 -- a call that is refused
 pub refused_taken : (c : Config) (era : Era) (rules : Rules) (reg : Lines) (w : Cluster) (ls : List Label) (n : ℕ) (o : ClientOp) (reason : Why) → refusal c rules (node_at n (counted w)) o ≡ Some reason → Run_goes c era rules reg ls w → Taken_goes c era rules reg w ls (step.Client n o)

@@ -13,7 +13,7 @@ use Rattle.ct_rules.specs.Moves.{move}
 use Rattle.ct_rules.specs.Parts.{want}
 use Rattle.ct_rules.specs.declared.event.MoveEvent.{MoveEvent}
 use Rattle.ct_rules.specs.declared.event.MoveEvent.TheVariants as event
-use Rattle.ct_rules_node.specs.Node.{state_at, has_records, is_persistent, kind_at, is_among}
+use Rattle.ct_rules_node.specs.Node.{state_at, has_records, is_persistent, kind_at}
 use Rattle.ct_rules_node.specs.Turn.{Turn, begins, makes}
 use Rattle.ct_rules_node.specs.Records.{out_of, acted, at_record, place_of}
 use Rattle.ct_rules_node.specs.Clients as clients
@@ -32,6 +32,7 @@ use Rattle.ct_law_shown.proofs.Hearing.{labels_more}
 use Rattle.ct_law_node.proofs.Pending.{Callers}
 use Rattle.ct_law_node.proofs.Staying.{NodeStays, phase_of}
 use Rattle.ct_law_node.proofs.Following.{Comes_to, fair}
+use Rattle.ct_law_node.proofs.Delivering.{projected}
 use Rattle.ct_law_node.proofs.Calling.{own_pending, Calls_at, wants_come, stores_come, unlocks_come}
 use Rattle.ct_law_cluster.proofs.Called.{counted, called_by, calls_at}
 use Rattle.ct_law_cluster.proofs.Admitted.{admits, may_lock, may_read, may_write, may_apply, may_store, may_unlock}
@@ -39,7 +40,7 @@ use Rattle.ct_law_cluster.proofs.Served.{client_serves, call_kind, serves_lock, 
 use Rattle.ct_law_beside.proofs.Committed.{commit_kind}
 use Rattle.ct_law_node.proofs.Lining.{Is_fit, kept_fit, labels_kept}
 use Rattle.ct_law_cluster.proofs.Fed.{fed_is}
-use Rattle.ct_law_step.proofs.Assembled.{Starts, Run_goes, Tells, client_turn}
+use Rattle.ct_law_step.proofs.Assembled.{Starts, Starts_at, starts_at, Run_goes, Tells, client_turn}
 use Rattle.ct_law_cluster.proofs.Faulting.{runs}
 use Rattle.ct_register.specs.Lines.{Lines}
 use Rattle.ct_lcp2.proofs.Choices.{all_append}
@@ -51,14 +52,14 @@ pub tells_more : (c : Config) (era : Era) (reg : Lines) (n : ℕ) (pend : List P
 tells_more c era reg n pend xs ys h k = subst (λ (l : List Label). AllByRecursion (Is_fit c era.number reg) l) (sym (labels_more n pend xs ys)) (all_append (Is_fit c era.number reg) (labels_of n pend xs) (labels_of n pend ys) h k)
 
 -- what the node tells stays of records of the line over an event at a record
-pub event_kept : (c : Config) (era : Era) (rules : Rules) (reg : Lines) (who : Callers) (calls n db : ℕ) (key : List ℕ) (e : MoveEvent) (t : Turn) (pend : List PendingCall) (asks : ℕ → Option ClientOp) (w : World) (ev : Event) → Starts c era rules reg → is_among n era.members ≡ true → has_records (kind_at c db) ≡ true →
+pub event_kept : (c : Config) (era : Era) (rules : Rules) (reg : Lines) (who : Callers) (calls n db : ℕ) (key : List ℕ) (e : MoveEvent) (t : Turn) (pend : List PendingCall) (asks : ℕ → Option ClientOp) (w : World) (ev : Event) → Starts_at c era rules reg n → has_records (kind_at c db) ≡ true →
     NodeStays c era rules who calls n t.node → Comes_to c era rules who calls n db key e t pend asks w ev → Tells c era reg n pend t → Tells c era reg n pend (at_record c n db key (λ at o. move at rules e o) t)
 unfolding at_record acted place_of
-event_kept c era rules reg who calls n db key e t pend asks w ev is inside kind h k before =
-    let f = fair c era rules who calls n db key e t pend asks w ev inside h k in
+event_kept c era rules reg who calls n db key e t pend asks w ev is kind h k before =
+    let f = fair c era rules who calls n db key e t pend asks w ev is.member h k in
     let o = left_by c n db key (λ at o. move at rules e o) t in
     tells_more c era reg n pend t.outs (map (out_of t.node.generation n db key) o.acts) before
-    (kept_fit c era.number reg _ (labels_kept c era.number reg (place_of c n db key t.node) t.node.generation n pend asks o.acts (is.line n inside) kind f.sends f.finds f.asked))
+    (kept_fit c era.number reg _ (labels_kept c era.number reg (place_of c n db key t.node) t.node.generation n pend asks o.acts is.line kind f.sends f.finds f.asked))
 
 -- ---- what the call tells
 
@@ -72,19 +73,19 @@ calls_with w n o = own_pending n (w.calls + 1) o ∷ pending (counted w)
 
 -- the call comes to a node that runs
 called_at : (c : Config) (era : Era) (rules : Rules) (reg : Lines) (w : Cluster) (ls : List Label) (n db : ℕ) (key : List ℕ) (asked : ClientOp) → Starts c era rules reg → has_records (kind_at c db) ≡ true → (h : Run_goes c era rules reg ls w) → is_up n w ≡ true → db_of asked ≡ db → key_of asked ≡ key →
-    Calls_at c era rules (called_by n asked w h.who) (w.calls + 1) n db (w.calls + 1) key asked (counted w)
+    Calls_at c era rules (called_by n asked w h.who) (w.calls + 1) n db (w.calls + 1) key asked (counted w) (projected era.number (counted w))
 called_at c era rules reg w ls n db key asked is kind h up of_db of_key = calls_at c era rules h.who w n db key asked ls h.goes.1 is.era_is is.small h.goes.0 h.goes.2 up kind of_db of_key
 
 -- what it tells is of records of the line, where its turn is an event at the record
 turn_kept : (c : Config) (era : Era) (rules : Rules) (reg : Lines) (w : Cluster) (ls : List Label) (n db : ℕ) (key : List ℕ) (asked : ClientOp) (e : MoveEvent) (ev : Event) → Starts c era rules reg → has_records (kind_at c db) ≡ true → (h : Run_goes c era rules reg ls w) → is_up n w ≡ true →
-    Calls_at c era rules (called_by n asked w h.who) (w.calls + 1) n db (w.calls + 1) key asked (counted w) →
+    Calls_at c era rules (called_by n asked w h.who) (w.calls + 1) n db (w.calls + 1) key asked (counted w) (projected era.number (counted w)) →
     client_turn c rules w n asked ≡ at_record c n db key (λ at o. move at rules e o) (call_begins w n) →
     Comes_to c era rules (called_by n asked w h.who) (w.calls + 1) n db key e (call_begins w n) (calls_with w n asked) (own_call (w.calls + 1) asked) (project era.number db key (counted w)) ev →
     Tells c era reg n (calls_with w n asked) (client_turn c rules w n asked)
 unfolding makes labels_of
 turn_kept c era rules reg w ls n db key asked e ev is kind h up at turn comes =
     subst (λ (u : Turn). Tells c era reg n (calls_with w n asked) u) (sym turn)
-    (event_kept c era rules reg (called_by n asked w h.who) (w.calls + 1) n db key e (call_begins w n) (calls_with w n asked) (own_call (w.calls + 1) asked) (project era.number db key (counted w)) ev is (h.goes.0.up n up) kind at.stays comes tt)
+    (event_kept c era rules reg (called_by n asked w h.who) (w.calls + 1) n db key e (call_begins w n) (calls_with w n asked) (own_call (w.calls + 1) asked) (project era.number db key (counted w)) ev (starts_at c era rules reg n is (h.goes.0.up n up)) kind at.stays comes tt)
 
 want_kept : (c : Config) (era : Era) (rules : Rules) (reg : Lines) (w : Cluster) (ls : List Label) (n db : ℕ) (key : List ℕ) (asked : ClientOp) → Starts c era rules reg → has_records (kind_at c db) ≡ true → (h : Run_goes c era rules reg ls w) → is_up n w ≡ true → db_of asked ≡ db → key_of asked ≡ key →
     refusal c rules (node_at n (counted w)) asked ≡ None → may_want (state_at db key (node_at n (counted w))) asked ≡ true →
@@ -94,7 +95,7 @@ want_kept c era rules reg w ls n db key asked is kind h up of_db of_key free may
     let turn = client_serves c rules n (w.calls + 1) asked (node_at n (counted w)) free ∙ serve in
     let at = called_at c era rules reg w ls n db key asked is kind h up of_db of_key in
     turn_kept c era rules reg w ls n db key asked (event.Want (w.calls + 1) asked) (Wants n (w.calls + 1) asked) is kind h up at turn
-    (wants_come c era rules (called_by n asked w h.who) (w.calls + 1) n db (w.calls + 1) key asked (counted w) at may (sym (ap (λ (u : Turn). u.spent) turn) ∙ spent))
+    (wants_come c era rules (called_by n asked w h.who) (w.calls + 1) n db (w.calls + 1) key asked (counted w) (projected era.number (counted w)) at may (sym (ap (λ (u : Turn). u.spent) turn) ∙ spent))
 
 store_kept : (c : Config) (era : Era) (rules : Rules) (reg : Lines) (w : Cluster) (ls : List Label) (n db : ℕ) (key v : List ℕ) → Starts c era rules reg → has_records (kind_at c db) ≡ true → (h : Run_goes c era rules reg ls w) → is_up n w ≡ true →
     refusal c rules (node_at n (counted w)) (op.Store db key v) ≡ None → (client_turn c rules w n (op.Store db key v)).spent ≡ false → Tells c era reg n (calls_with w n (op.Store db key v)) (client_turn c rules w n (op.Store db key v))
@@ -103,7 +104,7 @@ store_kept c era rules reg w ls n db key v is kind h up free spent =
     let turn = client_serves c rules n (w.calls + 1) asked (node_at n (counted w)) free ∙ serves_store c rules n (w.calls + 1) db key v (call_begins w n) in
     let at = called_at c era rules reg w ls n db key asked is kind h up refl refl in
     turn_kept c era rules reg w ls n db key asked (event.Store (w.calls + 1) v) (Stores n (w.calls + 1) v) is kind h up at turn
-    (stores_come c era rules (called_by n asked w h.who) (w.calls + 1) n db (w.calls + 1) key v (counted w) at (may_store c (node_at n (counted w)) db key v (admits c rules (node_at n (counted w)) asked free)) (sym (ap (λ (u : Turn). u.spent) turn) ∙ spent))
+    (stores_come c era rules (called_by n asked w h.who) (w.calls + 1) n db (w.calls + 1) key v (counted w) (projected era.number (counted w)) at (may_store c (node_at n (counted w)) db key v (admits c rules (node_at n (counted w)) asked free)) (sym (ap (λ (u : Turn). u.spent) turn) ∙ spent))
 
 unlock_kept : (c : Config) (era : Era) (rules : Rules) (reg : Lines) (w : Cluster) (ls : List Label) (n db : ℕ) (key : List ℕ) → Starts c era rules reg → has_records (kind_at c db) ≡ true → (h : Run_goes c era rules reg ls w) → is_up n w ≡ true →
     refusal c rules (node_at n (counted w)) (op.Unlock db key) ≡ None → (client_turn c rules w n (op.Unlock db key)).spent ≡ false → Tells c era reg n (calls_with w n (op.Unlock db key)) (client_turn c rules w n (op.Unlock db key))
@@ -113,7 +114,7 @@ unlock_kept c era rules reg w ls n db key is kind h up free spent =
     let at = called_at c era rules reg w ls n db key asked is kind h up refl refl in
     let turn = client_serves c rules n (w.calls + 1) asked (node_at n (counted w)) free ∙ serves_unlock c rules n (w.calls + 1) db key (call_begins w n) (phase_of era.number (node_at n (counted w)) at.stays.present) in
     turn_kept c era rules reg w ls n db key asked (event.Unlock (w.calls + 1)) (Unlocks n (w.calls + 1)) is kind h up at turn
-    (unlocks_come c era rules (called_by n asked w h.who) (w.calls + 1) n db (w.calls + 1) key (counted w) at (may_unlock c (node_at n (counted w)) db key (admits c rules (node_at n (counted w)) asked free)) (sym (ap (λ (u : Turn). u.spent) turn) ∙ spent))
+    (unlocks_come c era rules (called_by n asked w h.who) (w.calls + 1) n db (w.calls + 1) key (counted w) (projected era.number (counted w)) at (may_unlock c (node_at n (counted w)) db key (admits c rules (node_at n (counted w)) asked free)) (sym (ap (λ (u : Turn). u.spent) turn) ∙ spent))
 
 -- ---- every call on a record
 

@@ -73,7 +73,7 @@ message_taken c era rules reg w v ls k m s x is h at up calls none e = either (r
         (λ (commit : is_of_commit m.frame.msg ≡ true). beside_taken c era rules reg ls w v s m.frame.receiver u x h up (commit_comes c era rules reg ls v m.frame.receiver m.frame m.frame.msg h up commit) calls none taken.1)
         (λ (other : (is_beside_records m.frame.msg ≡ true) ⊎ (m.frame.msg ≡ msg.Thaw)). ⊎_elim
         (λ (round : is_beside_records m.frame.msg ≡ true). beside_taken c era rules reg ls w v s m.frame.receiver u x h up
-        (round_comes c era rules reg ls v m.frame.receiver m.frame m.frame.msg h up (not_newer era.number m.frame (plain_at era.number v.sent k m at h.goes.0.sent)) round) calls none taken.1)
+        (round_comes c era rules reg ls v m.frame.receiver m.frame m.frame.msg is.alone h up (not_newer era.number m.frame (plain_at era.number v.sent k m at h.goes.0.sent)) round) calls none taken.1)
         (λ (thaw : m.frame.msg ≡ msg.Thaw). (let same = ap (λ (q : Msg). arrives c rules m.frame.receiver m.frame (begins (node_at m.frame.receiver v)) q) thaw in
         thaw_taken c era rules reg ls w v s m.frame.receiver m.frame x is h up (sym (ap (λ (q : Turn). q.spent) same) ∙ taken.0) calls none (taken.1 ∙ ap (λ (q : Turn). put m.frame.receiver q [] v) same))) other)
         (which m.frame.msg of)

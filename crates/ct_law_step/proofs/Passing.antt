@@ -1,6 +1,6 @@
 -- Messages of commits, of rounds and of runs, but for a Thaw, and the begin of a run: no record is touched, so the run goes on.
 use Rattle.std.proofs.Common.{◌≡◌, ℕ, Bool, true, false, List, [], ◌++◌, refl, sym, subst, ◌≤◌, ◌∙◌, ap, length}
-use Rattle.std.specs.Prelude.{◌&&◌, slice_get}
+use Rattle.std.specs.Prelude.{nat_eq, ◌&&◌, slice_get}
 use Rattle.std.specs.List.{AllByRecursion}
 use Rattle.std.proofs.lemmas.Bool.{cond_both, and_parts}
 use Rattle.ct_msg.specs.declared.client.ClientOp.TheVariants as op
@@ -35,7 +35,7 @@ use Rattle.ct_law_beside.proofs.Committed.{beside_none, not_after, pupdate_besid
 use Rattle.ct_law_step.proofs.Assembled.{Run_goes, Taken_goes, turn_taken}
 use Rattle.ct_law_cluster.proofs.Faulting.{runs}
 use Rattle.ct_register.specs.Lines.{Lines}
-use Rattle.ct_law_beside.proofs.Asides.{Beside, beside_views, Settled, beside_mail, beside_settled, beside_keeps, beside_labels}
+use Rattle.ct_law_beside.proofs.Asides.{Beside, beside_views, Settled, beside_mail, beside_keeps, beside_labels}
 use Rattle.ct_law_node.proofs.Plain.{IsPlain}
 use Rattle.ct_rules_node.specs.Node.{Node, db_at, Database, or_untouched}
 use Rattle.ct_cluster.specs.Faults.{fault_of}
@@ -98,23 +98,23 @@ same_known who calls n x y e h = record {
   dbs = λ db. subst (λ (ds : List Database). DatabaseKnown who calls n db (or_untouched (slice_get ds db))) (sym e) (h.dbs db);
 }
 
-settled : (c : Config) (era : Era) (rules : Rules) (who : Callers) (calls n : ℕ) (x : Node) → NodeStays c era rules who calls n x → Settled era.number x
-settled c era rules who calls n x h = record { present = h.present; promise = h.promise; lead = h.lead }
+settled : (c : Config) (era : Era) (rules : Rules) (who : Callers) (calls n : ℕ) (x : Node) → era.alone ≡ true → NodeStays c era rules who calls n x → Settled era.number x
+settled c era rules who calls n x alone h = record { present = h.present; promise = h.promise; lead = h.lead alone }
 
 -- a member stays as it was where no record is touched
-stays_beside : (c : Config) (era : Era) (rules : Rules) (who : Callers) (calls n : ℕ) (t u : Turn) → Beside era.number n t u → NodeStays c era rules who calls n t.node → NodeStays c era rules who calls n u.node
-stays_beside c era rules who calls n t u b h =
-    let s = beside_settled era.number n t u b (settled c era rules who calls n t.node h) in record {
-      present = s.present;
-      knows = b.members ∙ h.knows;
-      promise = s.promise;
-      lead = s.lead;
-      size = ap (λ (ds : List Database). length ds) b.dbs ∙ h.size;
-      known = same_known who calls n t.node u.node b.dbs h.known;
-      waits = λ db key. subst (λ (v : View). Wishful (Of_records c db key) v.state.wish) (sym (beside_views era.number n db key t u b)) (h.waits db key);
-      serves = λ warm. b.phase ∙ h.serves warm;
-      formed = λ db key. subst (λ (v : View). Is_formed (scene c era rules db key) n v) (sym (beside_views era.number n db key t u b)) (h.formed db key);
-    }
+pub stays_beside : (c : Config) (era : Era) (rules : Rules) (who : Callers) (calls n : ℕ) (t u : Turn) → Beside era.number n t u → NodeStays c era rules who calls n t.node → NodeStays c era rules who calls n u.node
+unfolding node.is_present_in
+stays_beside c era rules who calls n t u b h = record {
+  present = ap (λ p. node.is_present p && nat_eq u.node.generation era.number) b.phase ∙ ap (λ k. node.is_present t.node.phase && nat_eq k era.number) b.generation ∙ h.present;
+  knows = b.members ∙ h.knows;
+  promise = b.promise ∙ h.promise;
+  lead = λ alone. b.lead (h.lead alone);
+  size = ap (λ (ds : List Database). length ds) b.dbs ∙ h.size;
+  known = same_known who calls n t.node u.node b.dbs h.known;
+  waits = λ db key. subst (λ (v : View). Wishful (Of_records c db key) v.state.wish) (sym (beside_views era.number n db key t u b)) (h.waits db key);
+  serves = λ warm. b.phase ∙ h.serves warm;
+  formed = λ db key. subst (λ (v : View). Is_formed (scene c era rules db key) n v) (sym (beside_views era.number n db key t u b)) (h.formed db key);
+}
 
 -- so the step goes on beside the records
 goes_beside : (c : Config) (era : Era) (rules : Rules) (who : Callers) (calls n : ℕ) (pend : List PendingCall) (t u : Turn) → Beside era.number n t u → Goes_beside c era rules who calls n pend t u
@@ -128,21 +128,21 @@ goes_beside c era rules who calls n pend t u b = record {
 }
 
 -- a message of a round or a run that comes, but for a Thaw
-pub round_comes : (c : Config) (era : Era) (rules : Rules) (reg : Lines) (ls : List Label) (w : Cluster) (n : ℕ) (f : Frame) (m : Msg) → (h : Run_goes c era rules reg ls w) → is_up n w ≡ true → f.generation ≤ era.number → is_beside_records m ≡ true →
+pub round_comes : (c : Config) (era : Era) (rules : Rules) (reg : Lines) (ls : List Label) (w : Cluster) (n : ℕ) (f : Frame) (m : Msg) → era.alone ≡ true → (h : Run_goes c era rules reg ls w) → is_up n w ≡ true → f.generation ≤ era.number → is_beside_records m ≡ true →
     Goes_beside c era rules h.who w.calls n (pending w) (begins (node_at n w)) (arrives c rules n f (begins (node_at n w)) m)
-round_comes c era rules reg ls w n f m h up old e =
+round_comes c era rules reg ls w n f m alone h up old e =
     let t = begins (node_at n w) in
     goes_beside c era rules h.who w.calls n (pending w) t (arrives c rules n f t m)
-    (arrives_beside c rules n era.number f t m (settled c era rules h.who w.calls n (node_at n w) (h.goes.0.nodes n (h.goes.0.up n up))) old e)
+    (arrives_beside c rules n era.number f t m (settled c era rules h.who w.calls n (node_at n w) alone (h.goes.0.nodes n (h.goes.0.up n up))) old e)
 
 -- ---- the begin of a run
 
-pub takeover_taken : (c : Config) (era : Era) (rules : Rules) (reg : Lines) (w : Cluster) (ls : List Label) (n : ℕ) → Run_goes c era rules reg ls w → Taken_goes c era rules reg w ls (step.Takeover n)
+pub takeover_taken : (c : Config) (era : Era) (rules : Rules) (reg : Lines) (w : Cluster) (ls : List Label) (n : ℕ) → era.alone ≡ true → Run_goes c era rules reg ls w → Taken_goes c era rules reg w ls (step.Takeover n)
 unfolding fault_of steps own_labels answerable node_steps.happens speaks_of_records
-takeover_taken c era rules reg w ls n h x ok e =
+takeover_taken c era rules reg w ls n alone h x ok e =
     let t = begins (node_at n w) in
     let up = runs w n _ _ ok in
     let u = begin_takeover n (able_from 0 w.able) t t.node.lead in
     beside_taken c era rules reg ls w w (step.Takeover n) n u x h up
-    (goes_beside c era rules h.who w.calls n (pending w) t u (begin_takeover_beside n era.number (able_from 0 w.able) t t.node.lead (h.goes.0.nodes n (h.goes.0.up n up)).lead)) refl refl
+    (goes_beside c era rules h.who w.calls n (pending w) t u (begin_takeover_beside n era.number (able_from 0 w.able) t t.node.lead ((h.goes.0.nodes n (h.goes.0.up n up)).lead alone))) refl refl
     (fed_is c rules n (event.BeginTakeover (able_from 0 w.able)) [] w x e).1

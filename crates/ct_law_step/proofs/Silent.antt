@@ -70,7 +70,7 @@ all_silent c era rules who calls n pend part what (x ∷ xs) t s l h e =
     let k = s x.db x.key t h l.0 in
     all_silent c era rules who calls n pend part what xs (at_record c n x.db x.key part t) s l.1 (just_passes c era rules who calls n x.db x.key part t _ pend h k).stays (just_silent c n x.db x.key part t _ pend k e)
 
-resends_silent : (c : Config) (era : Era) (rules : Rules) (who : Callers) (calls n : ℕ) (pend : List PendingCall) (t : Turn) → Retries_at c n → NodeStays c era rules who calls n t.node → Silent n pend t → Silent n pend (resends_of c n t)
+pub resends_silent : (c : Config) (era : Era) (rules : Rules) (who : Callers) (calls n : ℕ) (pend : List PendingCall) (t : Turn) → Retries_at c n → NodeStays c era rules who calls n t.node → Silent n pend t → Silent n pend (resends_of c n t)
 resends_silent c era rules who calls n pend t r h e =
     let u = at_all c n call_again (pending_calls t.node) t in
     let calls_sends : Sends_each c era rules who calls n call_again (calls_at c era rules n) = λ db key t h l. calls_just c era rules who calls n db key t r h l in

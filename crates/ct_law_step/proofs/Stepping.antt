@@ -36,7 +36,7 @@ steps_taken c era rules reg w (step.Recover n members) is h e other = absurd (cc
 steps_taken c era rules reg w (step.Yield n) is h e other = absurd (cc)
 steps_taken c era rules reg w (step.Stop n) is h e other = absurd (cc)
 steps_taken c era rules reg w (step.Start n) is h e other = absurd (cc)
-steps_taken c era rules reg w (step.Takeover n) is h e other = takeover_taken c era rules reg w [] n h
+steps_taken c era rules reg w (step.Takeover n) is h e other = takeover_taken c era rules reg w [] n is.alone h
 steps_taken c era rules reg w (step.Able n able) is h e other = able_taken c era rules reg w [] n able h
 
 -- so the run goes on by each step of one generation that is no Yield

@@ -66,6 +66,7 @@ node_led c rules who w r a n x l says h = record {
   waits = h.waits;
   formed = h.formed;
   commits = h.commits;
+  persist = h.persist;
   phase = phase_led c rules who w r a n x l x.phase h.phase;
   lead = says;
   replies = each_then (λ q. ReplySays r a n x q.frame q.frame.msg) (λ q. ReplySays r a n (record x { lead = l }) q.frame q.frame.msg) (λ q p. reply_led r a n x l q.frame q.frame.msg p) w.sent h.replies;

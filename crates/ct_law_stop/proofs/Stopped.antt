@@ -242,6 +242,7 @@ module _ (c : Config) (rules : Rules) (w : Cluster) (r : Lines) (h : Lives c rul
     waits = left_waits;
     formed = λ db key. empty_formed _ n 1 (db_at db y).floor (state_at db key y) (state_none db key y (no_records db)) (omega arith) (omega arith) (subst (λ (j : ℕ). j < 2 ^ 62) (sym (no_floor db)) (omega arith));
     commits = λ db k e. absurd (none_not_some (sym (no_commit db) ∙ e));
+    persist = λ db k e. absurd (none_not_some (sym (no_commit db) ∙ e));
     phase = (out, no_records, no_commit);
     lead = tt;
     replies = each_then (λ q. ReplySays r a n x q.frame q.frame.msg) (λ q. ReplySays s b n y q.frame q.frame.msg) (λ q p. reply_left q.frame q.frame.msg p) w.sent l.replies;
