@@ -2,6 +2,8 @@
 use Rattle.std.proofs.Common.{◌≡◌, ℕ, Bool, true, false, cond, ◌&&◌, ◌||◌, List, [], ◌∷◌, Option, None, Some, inl, ⊎_elim, refl, sym, ap, ◌∙◌, subst}
 use Rattle.std.specs.Prelude.{nat_lt, not}
 use Rattle.std.proofs.lemmas.Bool.{and_parts}
+use Rattle.ct_bytes.specs.Words.{or_empty}
+use Rattle.ct_msg.specs.Client.{is_read}
 use Rattle.ct_msg.specs.declared.client.Answer.{Answer}
 use Rattle.ct_msg.specs.declared.client.Answer.TheVariants as answer
 use Rattle.ct_msg.specs.declared.client.ClientOp.{ClientOp}
@@ -12,8 +14,8 @@ use Rattle.ct_msg.specs.declared.config.Config.{Config}
 use Rattle.ct_frame.specs.declared.event.Event.TheVariants as event
 use Rattle.ct_call.specs.Rules.{Rules}
 use Rattle.ct_rules_node.specs.Clients as clients
-use Rattle.ct_rules_node.specs.Clients.{client, serves, serves_or, refusal, not_serving, may_finish, reads, is_under_lock, is_read, is_locked}
-use Rattle.ct_rules_node.specs.Databases.{read_pair, or_empty}
+use Rattle.ct_rules_node.specs.Clients.{client, serves, serves_or, refusal, not_serving, may_finish, reads, is_under_lock, is_locked}
+use Rattle.ct_rules_node.specs.Databases.{read_pair}
 use Rattle.ct_rules_node.specs.Node.{Node, Phase, Idle, Serving, Installed, Freezing, Frozen, is_present, is_serving, is_freezing, is_persistent, kind_at, db_at}
 use Rattle.ct_rules_node.specs.Refusals.{refused_if}
 use Rattle.ct_rules_node.specs.Steps.{happens}

@@ -27,7 +27,7 @@ use Rattle.ct_rules_node.specs.Rounds.{installs, installed_node, installed_db, m
 use Rattle.ct_rules_node.specs.Steps.{happens}
 use Rattle.ct_rules_node.specs.Turn.{Turn, begins, posts}
 use Rattle.ct_rules_node.proofs.Growing.{happens_in_order}
-use Rattle.ct_rules_node.proofs.Whole.{installs_dbs, installs_frozen}
+use Rattle.ct_rules_node.proofs.Rounds.{installs_dbs, installs_frozen}
 use Rattle.ct_cluster.specs.Cluster.{Cluster, Sent, node_at, pending}
 use Rattle.ct_cluster.specs.Labels.{Label, Noted}
 use Rattle.ct_cluster.specs.Steps.{frames_of, put, with_node}
@@ -47,7 +47,7 @@ use Rattle.ct_law_record.proofs.MarkedRun.{marks_of}
 use Rattle.ct_law_shown.specs.Shown.{scene, view, mails, mail_of, labels_of}
 use Rattle.ct_law_shown.proofs.Hearing.{mails_more}
 use Rattle.ct_law_shown.proofs.Weave.{true_or_false}
-use Rattle.ct_law_shown.proofs.Wishing.{Wishful}
+use Rattle.ct_law_wish.proofs.Wishing.{Wishful}
 use Rattle.ct_law_node.proofs.Forming.{Is_formed}
 use Rattle.ct_law_node.proofs.Pending.{Known, KnownAt, CommitFits, NodeKnown}
 use Rattle.ct_law_node.proofs.Staying.{NodeStays, Of_records}

@@ -13,7 +13,7 @@ use Rattle.ct_frame.specs.declared.frame.TableRow.{TableRow}
 use Rattle.ct_call.specs.Rules.{Rules}
 use Rattle.ct_merge.specs.Held.{is_row_at}
 use Rattle.ct_store.specs.Map.{Ascends, look}
-use Rattle.ct_rules.specs.Form.{wished_as, least_of, sent_for, wants_record}
+use Rattle.ct_rules.specs.Form.{wished_as, least_of, sent_for, wishes_record}
 use Rattle.ct_rules.specs.State.{nothing_kept, rsn_of}
 use Rattle.ct_rules.specs.declared.state.Entry.{Entry}
 use Rattle.ct_rules.specs.declared.state.RecState.{RecState}
@@ -94,7 +94,7 @@ unfolding begun_state born_state installed_state
 begun_low s None n wish low = none_low
 begun_low s (Some row) n wish low = cond_both (is_among n s.members) (installed_state n s.lmaster row (record nothing_kept { wish = wish })) (record nothing_kept { wish = wish }) (λ (x : RecState). rsn_of x.copy < 2 ^ 62) (λ _. copy_low s n row (low row refl)) (λ _. none_low)
 
-begun_formed : (s : Scene) (row : Option TableRow) (n next : ℕ) (wish : Option Wish) → ((x : TableRow) → row ≡ Some x → Is_low s n x) → 1 ≤ next → next < 2 ^ 62 → wants_record wish ≡ true → wished_as wish < 2 ^ 62 → Is_formed s n (begun_view s row n wish next)
+begun_formed : (s : Scene) (row : Option TableRow) (n next : ℕ) (wish : Option Wish) → ((x : TableRow) → row ≡ Some x → Is_low s n x) → 1 ≤ next → next < 2 ^ 62 → wishes_record wish ≡ true → wished_as wish < 2 ^ 62 → Is_formed s n (begun_view s row n wish next)
 unfolding begun_state born_state installed_state
 begun_formed s None n next wish low some few wants called = bare_formed s n next wish some few wants called
 begun_formed s (Some row) n next wish low some few wants called =

@@ -3,11 +3,11 @@ use Rattle.std.proofs.Common.{arith, ◌≡◌, ◌≢◌, ℕ, Bool, true, fals
 use Rattle.std.specs.Prelude.{◌⊎◌, nat_eq, not, is_none, is_some, slice_get}
 use Rattle.std.specs.List.{list_all}
 use Rattle.std.proofs.lemmas.Bool.{cases_eq, ne_eqb}
+use Rattle.ct_msg.specs.Client.{wants_record}
 use Rattle.ct_msg.specs.declared.client.ClientOp.{ClientOp}
 use Rattle.ct_msg.specs.declared.client.ClientOp.TheVariants as op
 use Rattle.ct_frame.specs.Fields.{is_node}
-use Rattle.ct_rules.specs.Form.{is_wanting}
-use Rattle.ct_rules.specs.Frames.{greater}
+use Rattle.ct_rules.specs.Messages.{greater}
 use Rattle.ct_rules.specs.Moves.{move, release, begins}
 use Rattle.ct_rules.specs.Parts.{Moving}
 use Rattle.ct_rules.specs.declared.event.MoveEvent.TheVariants as event
@@ -28,7 +28,7 @@ use Rattle.ct_law_record.proofs.Worlds.{WorldInv, Leads, step_holds}
 
 -- each call that waits wants the record
 abbrev pub AllWant : World → Type 0
-AllWant w = (n : ℕ) (x : Wish) → (w.nodes n).state.wish ≡ Some x → is_wanting x.op ≡ true
+AllWant w = (n : ℕ) (x : Wish) → (w.nodes n).state.wish ≡ Some x → wants_record x.op ≡ true
 
 -- both steps lead to the same world and tell the same, and the calls that wait are the open ones again
 pub record Same (x : Logged) (y : world.Stepped) : Type 0 where
@@ -39,12 +39,12 @@ pub record Same (x : Logged) (y : world.Stepped) : Type 0 where
 
 -- ---- the call that waits at a node
 
-wanting_in : (xs : List ℕ) (o : Moving) (w : Option Wish) → Even xs o.acts w → (x : Wish) → w ≡ Some x → is_wanting x.op ≡ true
+wanting_in : (xs : List ℕ) (o : Moving) (w : Option Wish) → Even xs o.acts w → (x : Wish) → w ≡ Some x → wants_record x.op ≡ true
 unfolding Even
 wanting_in xs o None h x e = absurd (cc)
-wanting_in xs o (Some v) h x e = (let same : v ≡ x = cc in subst (λ (y : Wish). is_wanting y.op ≡ true) same h.1)
+wanting_in xs o (Some v) h x e = (let same : v ≡ x = cc in subst (λ (y : Wish). wants_record y.op ≡ true) same h.1)
 
-even_begin : (w : Option Wish) → ((x : Wish) → w ≡ Some x → is_wanting x.op ≡ true) → Even (number_of w) [] w
+even_begin : (w : Option Wish) → ((x : Wish) → w ≡ Some x → wants_record x.op ≡ true) → Even (number_of w) [] w
 unfolding Even number_of answers_in
 even_begin None h = refl
 even_begin (Some x) h = (refl, h x refl)
@@ -66,7 +66,7 @@ own_view w n v = rw (eq-eqb n n refl) refl
 -- what is owed of the rule where the node may step: that it tells the same, and what waits after it
 pub record Owed (n : ℕ) (opened : Log) (asks : ℕ → Option ClientOp) (o : Moving) : Type 0 where
   pub tells : Tells n opened asks o.state.wish (answers_in o.acts)
-  pub want : (x : Wish) → o.state.wish ≡ Some x → is_wanting x.op ≡ true
+  pub want : (x : Wish) → o.state.wish ≡ Some x → wants_record x.op ≡ true
 
 put_same : (s : Scene) (w : World) (log opened : Log) (n : ℕ) (asks : ℕ → Option ClientOp) (o : Moving) → ((is_among n s.members && w.joined n && not o.spent) ≡ true → Owed n opened asks o) → ((k c : ℕ) → k ≢ n → opened k c ≡ log k c) →
     CallsStand w log → AllWant w → Same (put s w log opened n o) (world.put s w n asks o)
@@ -195,7 +195,7 @@ comes_same s w log (Some m) stand want =
     (arrive_wish (λ c o. waiting_call v.state.wish c ≡ Some o) (place s n v) s.rules m.sender m.msg (starts v) (wish_begin v.state.wish))
 
 -- a call that may want the record wants it
-wants_asked : (v : RecState) (asked : ClientOp) → may_want v asked ≡ true → is_wanting asked ≡ true
+wants_asked : (v : RecState) (asked : ClientOp) → may_want v asked ≡ true → wants_record asked ≡ true
 unfolding may_want
 wants_asked v asked t = grind arith
 

@@ -3,6 +3,7 @@ use Rattle.std.proofs.Common.{◌≡◌, ℕ, ◌+◌, not, List, [], ◌∷◌,
 use Rattle.std.specs.Prelude.{nat_lt, nat_le, nat_eq}
 use Rattle.std.specs.List.{AllByRecursion, filter}
 use Rattle.std.proofs.lemmas.Bool.{cond_both}
+use Rattle.ct_bytes.specs.Words.{others}
 use Rattle.ct_bytes.specs.declared.address.Address.{Address}
 use Rattle.ct_msg.specs.declared.client.Answer.{Answer}
 use Rattle.ct_msg.specs.declared.client.Answer.TheVariants as answer
@@ -16,8 +17,7 @@ use Rattle.ct_frame.specs.declared.frame.Assigned.{Assigned}
 use Rattle.ct_frame.specs.declared.frame.Msg.{Msg}
 use Rattle.ct_frame.specs.declared.frame.Msg.TheVariants as msg
 use Rattle.ct_lcp2.proofs.Choices.{all_append}
-use Rattle.ct_deleg.specs.Tracked.{others}
-use Rattle.ct_persist.specs.Commits.{is_last, acknowledged}
+use Rattle.ct_persist.specs.Commits.{completes, applied_by}
 use Rattle.ct_rules_node.specs.Node.{Database, Committing, db_at, with_db}
 use Rattle.ct_rules_node.specs.Turn.{Turn, does, with_node, makes, answers, notes, posts, posts_all}
 use Rattle.ct_rules_node.specs.Admission.{record_in}
@@ -137,7 +137,7 @@ module _ (c : Config) (w : Cluster) (r : Lines) (a : Ages) (n : ℕ) where
   quiet_pack_of : (sender db seq : ℕ) (t : Turn) (x : Option Committing) → Quiet t (on_pack_of sender db seq t x)
   unfolding on_pack_of
   quiet_pack_of sender db seq t None = quiet_none t
-  quiet_pack_of sender db seq t (Some x) = cond_both (is_last sender seq x.pending) (answers x.call (answer.Committed seq) (with_commit db None t)) (with_commit db (Some (record x { pending = acknowledged sender seq x.pending })) t) (λ (v : Turn). Quiet t v)
+  quiet_pack_of sender db seq t (Some x) = cond_both (completes sender seq x.pending) (answers x.call (answer.Committed seq) (with_commit db None t)) (with_commit db (Some (record x { pending = applied_by sender seq x.pending })) t) (λ (v : Turn). Quiet t v)
       (λ _. quiet_then t (with_commit db None t) _ (quiet_with db None t) (quiet_answers x.call (answer.Committed seq) (with_commit db None t))) (λ _. quiet_with db _ t)
 
   pub quiet_pack : (sender db seq : ℕ) (t : Turn) → Quiet t (on_pack sender db seq t)

@@ -2,6 +2,7 @@
 use Rattle.std.proofs.Common.{◌≡◌, ℕ, ◌≤◌, Bool, true, false, cond, List, [], ◌∷◌, refl, sym, ap, ◌∙◌, subst}
 use Rattle.std.specs.Prelude.{nat_eq, nat_lt, ◌&&◌}
 use Rattle.std.proofs.lemmas.Bool.{and_parts, eqb-true}
+use Rattle.ct_bytes.specs.Words.{others}
 use Rattle.ct_msg.specs.declared.config.Config.{Config}
 use Rattle.ct_frame.specs.declared.event.Event.TheVariants as event
 use Rattle.ct_frame.specs.declared.frame.Assigned.{Assigned}
@@ -11,7 +12,6 @@ use Rattle.ct_frame.specs.declared.frame.Msg.TheVariants as msg
 use Rattle.ct_frame.specs.declared.frame.PTable.{PTable}
 use Rattle.ct_frame.specs.declared.frame.TableRow.{TableRow}
 use Rattle.ct_call.specs.Rules.{Rules}
-use Rattle.ct_deleg.specs.Tracked.{others}
 use Rattle.ct_rules_node.specs.Node.{Phase, Lead, Nothing, Freezes, Pulls, Installs, Completed, Takeover, Run, NoRun, Releasing, Taking, Idle, Serving, Installed, Freezing, Frozen, is_present, is_present_in, is_frozen_in, is_among}
 use Rattle.ct_rules_node.specs.Turn.{Turn, begins, posts}
 use Rattle.ct_rules_node.specs.Admission.{is_current, is_sound, record_in}

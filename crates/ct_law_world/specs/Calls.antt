@@ -1,13 +1,13 @@
 -- The law of one record: what nodes tell by the log of open calls, in which each answer has what its client asked.
 use Rattle.std.specs.Prelude.{◌≡◌, ℕ, nat_eq, Bool, true, not, ◌&&◌, if◌then◌else◌, Option, Some, None, is_none, is_some, List, [], ◌∷◌, ◌++◌, slice_get, length}
 use Rattle.std.specs.List.{list_all}
+use Rattle.ct_msg.specs.Client.{wants_record}
 use Rattle.ct_msg.specs.declared.client.ClientOp.{ClientOp}
 use Rattle.ct_msg.specs.declared.client.ClientOp.TheVariants as op
 use Rattle.ct_frame.specs.Fields.{is_node}
 use Rattle.ct_frame.specs.declared.frame.TableRow.{TableRow}
 use Rattle.ct_rules.specs.Parts.{Moving}
-use Rattle.ct_rules.specs.Frames.{greater}
-use Rattle.ct_rules.specs.Form.{is_wanting}
+use Rattle.ct_rules.specs.Messages.{greater}
 use Rattle.ct_rules.specs.Moves.{move, release, begins}
 use Rattle.ct_rules.specs.declared.event.Act.{Act}
 use Rattle.ct_rules.specs.declared.event.Act.TheVariants as act
@@ -50,7 +50,7 @@ log_of w n call = waiting_call (w.nodes n).state.wish call
 
 -- each call that waits wants the record
 abbrev pub AreWanting : (ℕ → Option Wish) → Type 0
-AreWanting wish = (n : ℕ) (w : Wish) → wish n ≡ Some w → is_wanting w.op ≡ true
+AreWanting wish = (n : ℕ) (w : Wish) → wish n ≡ Some w → wants_record w.op ≡ true
 
 -- ---- steps
 

@@ -1,6 +1,8 @@
 -- The calls of the lock and of the wish keep numbers below 2^62: every event keeps this.
 use Rattle.std.proofs.Common.{◌≡◌, ℕ, ◌+◌, ◌<◌, ◌^◌, Bool, true, false, cond, List, [], ◌∷◌, Option, Some, None, refl, subst, arith, Ok, Err}
 use Rattle.std.specs.Prelude.{Result, nat_lt, ◌&&◌, ◌||◌}
+use Rattle.ct_bytes.specs.Words.{is_nil}
+use Rattle.ct_msg.specs.Client.{is_read}
 use Rattle.ct_call.specs.Rules.{Rules}
 use Rattle.ct_call.specs.declared.fault.CallFault.{CallFault}
 use Rattle.ct_call.specs.declared.fault.CallFault.TheVariants as fault
@@ -13,7 +15,7 @@ use Rattle.ct_msg.specs.declared.client.Answer.{Answer}
 use Rattle.ct_msg.specs.declared.client.Answer.TheVariants as answer
 use Rattle.ct_msg.specs.declared.client.ClientOp.{ClientOp}
 use Rattle.ct_msg.specs.declared.client.ClientOp.TheVariants as op
-use Rattle.ct_rules.specs.State.{rank, rsn_of, value_of, is_mastered, is_given, is_free, is_read_op, is_for_reading, is_nil}
+use Rattle.ct_rules.specs.State.{rank, rsn_of, value_of, is_mastered, is_given, is_free, is_for_reading}
 use Rattle.ct_rules.specs.Parts.{Moving, performs, send, send_all, reply, keeps, reaches, opened, open_of, end_vacuum, give, applies, satisfy, revoke, read_here, delegate, grant, yield_record, drain, drained, satisfy_own, raise, end_revocation, next, next_of, keep, call_for, wait_for_copies, want_of, opened_at_home, want}
 use Rattle.ct_rules.specs.Messages.{pass_again, enqueue, on_call_of, called, on_call, wait, handle, recalled, on_recall, hand_on, on_give_of, on_give, satisfy_wish, becomes, accept, refuse, on_pass, on_refuse_of, on_refuse, read_granted, on_grant, on_done_of, on_done, acknowledge, renew, on_revoke_of, on_revoke, acknowledged, on_revokeack, on_vstore, on_vdelete, finish, on_vstored_of, on_vstored, on_vdeleted_of, on_vdeleted}
 use Rattle.ct_rules.specs.Moves.{store, release, unlock, begin_vacuum, vacuum_at_home, vacuum, call_again_of, call_again, revoke_again_of, revoke_again, at_home, from_home, arrive, move}
@@ -336,7 +338,7 @@ wait_for_low at call asked o low h = (let k = wished_low call 0 asked o.next o l
 
 want_of_low : (at : Place) (rules : Rules) (call : ℕ) (asked : ClientOp) (o : Moving) → call < 2 ^ 62 → Low o → Low (want_of at rules call asked o)
 unfolding want_of
-want_of_low at rules call asked o low h = if_low (is_read_op asked && (is_mastered at.me o.state.copy || is_for_reading o.state.copy)) _ _
+want_of_low at rules call asked o low h = if_low (is_read asked && (is_mastered at.me o.state.copy || is_for_reading o.state.copy)) _ _
     (reply_low call (answer.Read (value_of o.state.copy)) o h)
     (if_low (is_mastered at.me o.state.copy) _ _ (if_low (is_nil o.state.tracking.tracked) _ _ (satisfy_low rules call asked o low h) (wait_for_low at call asked o low h)) (call_for_low at call asked o low h))
 
