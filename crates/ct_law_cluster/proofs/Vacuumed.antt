@@ -1,8 +1,7 @@
 -- Vacuum of a database, at every record of it in turn: the node stays as it was, and the world of every record follows.
 use Rattle.std.proofs.Common.{◌≡◌, ℕ, zero, suc, ◌+◌, ◌<◌, Bool, true, false, cond, ◌||◌, List, [], ◌∷◌, ◌++◌, length, Option, Some, None, refl, sym, ap, ◌∙◌, arith, subst, ⊎_elim}
-use Rattle.std.specs.Prelude.{Contains, Ok, nat_eq, nat_lt, not, slice_get}
+use Rattle.std.specs.Prelude.{Ok, nat_eq, nat_lt, not, slice_get}
 use Rattle.std.proofs.lemmas.Bool.{cond_both, eqb-true, eq-eqb, ltb-true, and_parts}
-use Rattle.std.proofs.lemmas.List.Elements.{All-contains, filter_passes}
 use Rattle.std.specs.Cmp.{nat_cmp_is, nat_cmp_total}
 use Rattle.std.specs.List.{AllByRecursion}
 use Rattle.std.specs.List.Sorted.{IsStrictlyIncreasing, IsStrictlySortedBy}
@@ -96,12 +95,8 @@ unfolding IsStrictlySortedBy
 sorted_so [] e = tt
 sorted_so (n ∷ ns) e = sorted_on n ns e
 
-not_there : (n : ℕ) (ns : List ℕ) → ¬ (Contains (others n ns) n)
-not_there n ns h = (let p : not (nat_eq n n) ≡ true = All-contains (λ m. not (nat_eq m n) ≡ true) (others n ns) n (filter_passes (λ m. not (nat_eq m n)) ns) h in
-    let q = eq-eqb n n refl in absurd (let r = ap not q in let z = sym r ∙ p in cc))
-
-pub others_come : (members : List ℕ) (n : ℕ) → ascends nat_lt members ≡ true → IsStrictlyIncreasing (others n members) × ¬ (Contains (others n members) n)
-others_come members n up = (ascends_others n members (IsStrictlyIncreasing-from_sorted members (sorted_so members up)), not_there n members)
+pub others_come : (members : List ℕ) (n : ℕ) → ascends nat_lt members ≡ true → IsStrictlyIncreasing (others n members)
+others_come members n up = ascends_others n members (IsStrictlyIncreasing-from_sorted members (sorted_so members up))
 
 -- ---- the calls that wait
 
@@ -167,7 +162,7 @@ unfolding KnownAt state_at node.view
 vacuum_comes c era rules who calls n db key pend w t is small h there all asks spent = record {
   has = small;
   there = there;
-  may = subst (λ (ms : List ℕ). IsStrictlyIncreasing (others n ms) × ¬ (Contains (others n ms) n)) (sym h.knows) (others_come era.members n is.ascend);
+  may = subst (λ (ms : List ℕ). IsStrictlyIncreasing (others n ms)) (sym h.knows) (others_come era.members n is.ascend);
   from = refl;
   whole = whole_part c n db key (vacuumed n t) t spent;
   known = vacuum_wish (Known who calls n db key) (place_of c n db key t.node) (others n t.node.members) (node.view db key t.node) ((h.known.dbs db).records key);

@@ -1,7 +1,7 @@
 //! The rules of one record at one node: what the node keeps of it, and what comes of each event, as definitions.
 //!
 //! The types are declared here because the rules speak of them. The rules stand in `specs/`: `Parts` has the parts that
-//! the rules are made of, `Frames` what comes of each message, and `Moves` the rule of every event. `laws` says what
+//! the rules are made of, `Messages` what comes of each message, and `Moves` the rule of every event. `laws` says what
 //! follows for all of them.
 #![tactic(auto)]
 
