@@ -5,4 +5,5 @@ pub mod Thawing
 pub mod Calling
 pub mod Quietly
 pub mod Asides
-pub mod Rounds
+pub mod Runs
+pub mod Clients

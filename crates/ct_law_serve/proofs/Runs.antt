@@ -1,4 +1,4 @@
--- What a present node does in rounds and in runs that it leads: a ReleaseAck comes, or a Push that it has installed.
+-- What a node does in a takeover run that it leads: a ReleaseAck comes.
 use Rattle.std.proofs.Common.{◌≡◌, ℕ, ◌≤◌, Bool, true, false, cond, List, [], ◌∷◌, refl, sym, ap, ◌∙◌, subst}
 use Rattle.std.specs.Prelude.{nat_eq, nat_lt, ◌&&◌}
 use Rattle.std.proofs.lemmas.Bool.{and_parts, eqb-true}
@@ -68,37 +68,3 @@ releaseack_turned c rules w r h n f number there is = lead_turned c rules w r h 
     either : (b : Bool) → Led c w r h.ages n (cond b (on_releaseack n f.sender f.generation number (begins (node_at n w)) (node_at n w).lead) (begins (node_at n w)))
     either true = releaseack_led c w r h.ages n f.sender f.generation number (node_at n w).lead (h.nodes n there).lead (h.nodes n there).lead
     either false = idle_led c w r h.ages n (h.nodes n there).lead
-
--- ---- a Push
-
--- who is present is not Frozen
-not_frozen : (p : Phase) (g : ℕ) → is_present p ≡ true → is_frozen_in g p ≡ false
-unfolding is_present is_frozen_in
-not_frozen Idle g e = refl
-not_frozen Serving g e = refl
-not_frozen Installed g e = refl
-not_frozen (Freezing h l) g e = refl
-not_frozen (Frozen h) g e = absurd (cc)
-
-ack_says : (c : Config) (w : Cluster) (r : Lines) (a : Ages) (n g k : ℕ) → r.installed g n ≡ true → Says_round c w r a n (record { generation = g; sender = n; receiver = k; msg = msg.PushAck })
-unfolding RoundSays ReplySays record_in
-ack_says c w r a n g k is = record { sender = refl; round = is; none = refl; reply = tt }
-
--- that a present node has installed is acknowledged again
-pub push_again_turned : (c : Config) (rules : Rules) (w : Cluster) (r : Lines) (h : Lives c rules w r) (n : ℕ) (f : Frame) (members : List ℕ) (table : List TableRow) (ptables : List PTable) (assigned : List Assigned) → nat_lt n c.nodes ≡ true → is_present (node_at n w).phase ≡ true → 2 ≤ f.generation →
-    f.msg ≡ msg.Push members table ptables assigned → Turned c rules h.who w r h.ages n (pending w) (happens c rules n (begins (node_at n w)) (event.Arrive f))
-unfolding happens arrives if_sound on_push
-push_again_turned c rules w r h n f members table ptables assigned there present later is = lead_turned c rules w r h n (happens c rules n (begins (node_at n w)) (event.Arrive f)) there
-    (subst (λ (u : Turn). Led c w r h.ages n u) (sym (ap (λ (m : Msg). arrives c rules n f (begins (node_at n w)) m) is)) (either (is_sound c f) (is_frozen_in f.generation (node_at n w).phase) (is_present_in f.generation (node_at n w)) (not_frozen (node_at n w).phase f.generation present) refl))
-  where
-    idle : Led c w r h.ages n (begins (node_at n w))
-    idle = idle_led c w r h.ages n (h.nodes n there).lead
-
-    installed : is_present_in f.generation (node_at n w) ≡ true → r.installed f.generation n ≡ true
-    installed e = (let own = h.nodes n there in let line : r.line n ≡ f.generation = sym own.line ∙ number_of f.generation (node_at n w) e in subst (λ (g : ℕ). r.installed g n ≡ true) line (own.done (subst (λ (g : ℕ). 2 ≤ g) (sym line) later)))
-
-    either : (b p q : Bool) → p ≡ false → is_present_in f.generation (node_at n w) ≡ q → Led c w r h.ages n (cond b (cond p (posts f.generation n f.sender msg.PushAck (installs c n f.sender f.generation members table ptables assigned (begins (node_at n w)))) (cond q (posts f.generation n f.sender msg.PushAck (begins (node_at n w))) (begins (node_at n w)))) (begins (node_at n w)))
-    either true true q e k = absurd (cc)
-    either true false true e k = one_led c w r h.ages n f.generation f.sender msg.PushAck (h.nodes n there).lead (ack_says c w r h.ages n f.generation f.sender (installed k))
-    either true false false e k = idle
-    either false p q e k = idle
