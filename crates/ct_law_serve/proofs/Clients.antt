@@ -1,6 +1,7 @@
 -- Every client's call at a node that is present.
 use Rattle.std.proofs.Common.{◌≡◌, ℕ, Bool, true, false, List, [], ◌∷◌, Option, Some, None, ⊎_elim, refl, sym, ap, ◌∙◌, subst}
 use Rattle.std.specs.Prelude.{nat_lt}
+use Rattle.ct_msg.specs.Client.{is_read}
 use Rattle.ct_msg.specs.declared.client.Answer.TheVariants as answer
 use Rattle.ct_msg.specs.declared.client.ClientOp.{ClientOp}
 use Rattle.ct_msg.specs.declared.client.ClientOp.TheVariants as op
@@ -11,7 +12,7 @@ use Rattle.ct_call.specs.Rules.{Rules}
 use Rattle.ct_rules_node.specs.Node.{is_present, is_persistent, kind_at}
 use Rattle.ct_rules_node.specs.Turn.{Turn, begins, makes, answers}
 use Rattle.ct_rules_node.specs.Clients as clients
-use Rattle.ct_rules_node.specs.Clients.{client, refusal, serves_or, is_commit, is_read}
+use Rattle.ct_rules_node.specs.Clients.{client, refusal, serves_or, is_commit}
 use Rattle.ct_rules_node.specs.Steps.{happens}
 use Rattle.ct_cluster.specs.Cluster.{Cluster, node_at, pending}
 use Rattle.ct_register.specs.Lines.{Lines}
