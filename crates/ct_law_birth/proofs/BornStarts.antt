@@ -3,7 +3,7 @@ use Rattle.std.proofs.Common.{◌≡◌, ℕ, zero, suc, ◌<◌, ◌≤◌, Boo
 use Rattle.std.specs.Prelude.{nat_eq, slice_get, ◌%◌}
 use Rattle.std.specs.List.{list_all, list_any}
 use Rattle.std.proofs.Math.Nat.{mod-lt}
-use Rattle.std.proofs.lemmas.Bool.{and_from, eq-eqb, ltb-true, lt-ltb}
+use Rattle.std.proofs.lemmas.Bool.{and_from, eq-eqb, ltb-true, lt-ltb, or_right}
 use Rattle.ct_bytes.specs.Hash.{hash_of}
 use Rattle.ct_msg.specs.declared.config.Config.{Config}
 use Rattle.ct_frame.specs.Fields.{is_node}
@@ -28,17 +28,13 @@ use Rattle.ct_law_birth.proofs.BornWorlds.{numbers_in, wishes_in, by_test, of_al
 
 -- ---- the members
 
-or_true : (a b : Bool) → b ≡ true → (a || b) ≡ true
-or_true true b e = refl
-or_true false b e = e
-
 first_in : (m : ℕ) (ms : List ℕ) → is_among m (m ∷ ms) ≡ true
 unfolding is_among
 first_in m ms = rw (eq-eqb m m refl) refl
 
 later_in : (n m : ℕ) (ms : List ℕ) → is_among n ms ≡ true → is_among n (m ∷ ms) ≡ true
 unfolding is_among
-later_in n m ms t = or_true (nat_eq n m) (list_any (nat_eq n) ms) t
+later_in n m ms t = or_right (nat_eq n m) (list_any (nat_eq n) ms) t
 
 each_node : (members : List ℕ) → ((n : ℕ) → is_among n members ≡ true → is_node n ≡ true) → list_all is_node members ≡ true
 each_node [] h = refl

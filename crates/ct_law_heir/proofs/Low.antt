@@ -5,7 +5,7 @@ use Rattle.std.specs.Cmp.{tied_itself, nat_cmp_total}
 use Rattle.std.specs.Ordering.{is_eq}
 use Rattle.std.specs.List.{list_all}
 use Rattle.std.specs.Option.{option_map}
-use Rattle.std.proofs.lemmas.Bool.{cases_eq, lt-ltb}
+use Rattle.std.proofs.lemmas.Bool.{cases_eq, lt-ltb, and_from}
 use Rattle.ct_msg.specs.declared.config.Config.{Config}
 use Rattle.ct_frame.specs.Fields.{ascends, ascends_after, row_before}
 use Rattle.ct_frame.specs.declared.frame.TableRow.{TableRow}
@@ -35,11 +35,7 @@ use Rattle.ct_law_line.proofs.Begotten.{replied, parent, in_order, told_is, born
 
 -- a row is at its own place
 own_place : (row : TableRow) → is_row_at row.db row.key row ≡ true
-own_place row = both _ _ (ap is_eq (tied_itself nat_cmp_total row.db)) (own_key row.key)
-  where
-    both : (a b : Bool) → a ≡ true → b ≡ true → (a && b) ≡ true
-    both true b e k = k
-    both false b e k = absurd (cc)
+own_place row = and_from _ _ (ap is_eq (tied_itself nat_cmp_total row.db)) (own_key row.key)
 
 -- and is found there in a table that ascends
 pub own_row : (table : List TableRow) (row : TableRow) → ascends row_before table ≡ true → In row table → row_at row.db row.key table ≡ Some row

@@ -8,12 +8,13 @@ use Rattle.std.specs.List.{filter, find}
 use Rattle.std.specs.List.Sorted.{IsStrictlySortedBy}
 use Rattle.std.proofs.lemmas.List.Elements.{filter-append}
 use Rattle.std.proofs.lemmas.List.Folds.{list_all_at}
+use Rattle.std.proofs.lemmas.Bool.{and_parts}
 use Rattle.ct_frame.specs.declared.round.Pull.{Pull}
 use Rattle.ct_merge.specs.Placing.{better_of, best_from, all_placed}
 use Rattle.ct_merge.specs.Gathered.{greater, joined}
 use Rattle.ct_merge.specs.Held.{is_in_order}
 use Rattle.ct_merge.specs.Rule.{are_in_order, greatest, told}
-use Rattle.ct_merge.proofs.Ordered.{first, second, joined_ascends}
+use Rattle.ct_merge.proofs.Ordered.{joined_ascends}
 use Rattle.ct_merge.proofs.Places.{find_all_placed, find_alone}
 
 -- the greatest base after more pulls
@@ -66,7 +67,7 @@ module _ {X : Type 0} (order rank : X → X → Ordering) (o : IsTotalOrder orde
   pub all_joined_ascends : (pulls : List Pull) (b : ℕ) (items : List X) → are_in_order pulls ≡ true → IsStrictlySortedBy order items → IsStrictlySortedBy order (all_joined order rank base held pulls b items)
   all_joined_ascends [] b items k h = h
   all_joined_ascends (pull ∷ pulls) b items k h =
-      all_joined_ascends pulls (greater b (base pull)) (joined order rank b items (base pull) (held pull)) (second _ _ k) (joined_ascends order rank o b items (base pull) (held pull) h (holds pull (first _ _ k)))
+      all_joined_ascends pulls (greater b (base pull)) (joined order rank b items (base pull) (held pull)) (and_parts _ _ k).1 (joined_ascends order rank o b items (base pull) (held pull) h (holds pull (and_parts _ _ k).0))
 
   module _ (at : X → Bool) (alike : (x y : X) → order x y ≡ Equal → at x ≡ at y) (one : (x y : X) → at x ≡ true → at y ≡ true → order x y ≡ Equal) where
     best_append : (so_far : Option X) (xs ys : List X) → best_from rank so_far (xs ++ ys) ≡ best_from rank (best_from rank so_far xs) ys
@@ -105,8 +106,8 @@ module _ {X : Type 0} (order rank : X → X → Ordering) (o : IsTotalOrder orde
         → find at (all_joined order rank base held pulls b items) ≡ best_from rank (if b == p then find at items else None) (filter at (told base held p pulls))
     find_all_joined [] b items k h p e = ap (λ t. if t then find at items else None) (sym (itself b p e))
     find_all_joined (pull ∷ pulls) b items k h p e =
-        find_all_joined pulls (greater b (base pull)) (joined order rank b items (base pull) (held pull)) (second _ _ k) (joined_ascends order rank o b items (base pull) (held pull) h (holds pull (first _ _ k))) p e
-        ∙ step p b (base pull) items (held pull) (filter at (told base held p pulls)) h (holds pull (first _ _ k)) (greater_le (greater b (base pull)) (greatest base pulls) p (e ∙ based_is base pulls (greater b (base pull))))
+        find_all_joined pulls (greater b (base pull)) (joined order rank b items (base pull) (held pull)) (and_parts _ _ k).1 (joined_ascends order rank o b items (base pull) (held pull) h (holds pull (and_parts _ _ k).0)) p e
+        ∙ step p b (base pull) items (held pull) (filter at (told base held p pulls)) h (holds pull (and_parts _ _ k).0) (greater_le (greater b (base pull)) (greatest base pulls) p (e ∙ based_is base pulls (greater b (base pull))))
         ∙ ap (λ l. best_from rank (if b == p then find at items else None) l) (sym (filter_told pull pulls p))
 
 -- each of some pulls in order is in order
