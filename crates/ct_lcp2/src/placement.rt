@@ -3,7 +3,7 @@ ghost use Rattle.std.specs.Prelude.{◌≡◌, ◌≤◌, ◌↔◌, IfOk, IsTru
 ghost use Rattle.ct_lcp2.specs.Placing.{moved, placement, sent, seated, Ascend};
 
 use crate::failback::fail_back;
-use crate::start::{begin, targets_of};
+use crate::start::{targets_of, vacate};
 use crate::vacant::fill;
 use ct_bytes::address::Address;
 use ct_bytes::items::Items;
@@ -112,7 +112,7 @@ pub fn place(alloc: Global, given: &Addresses) -> Result<Placement, NoMemory>
     let able = given.able.as_slice();
     let at = given.at.as_slice();
     let targets = targets_of(alloc, able, at)?;
-    let mut placement = begin(alloc, able, at)?;
+    let mut placement = vacate(alloc, able, at)?;
     fill(alloc, able, &mut placement)?;
     fail_back(alloc, able, &targets, &mut placement)?;
     Ok(placement)

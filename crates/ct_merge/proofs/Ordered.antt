@@ -19,8 +19,8 @@ use Rattle.ct_merge.specs.declared.held.HeldAddress.{HeldAddress}
 use Rattle.ct_merge.specs.Held.{is_in_order, row_order, ptable_order, address_order, based_rows, held_rows, rows_of, ptables_of, addresses_of}
 use Rattle.ct_merge.specs.Orders.{row_order_total, ptable_order_total, address_order_total}
 use Rattle.ct_merge.specs.Gathered.{joined, assigned_to}
-use Rattle.ct_merge.specs.Placing.{all_placed}
-use Rattle.ct_merge.proofs.Places.{all_placed_ascends}
+use Rattle.ct_merge.specs.Placing.{all_inserted}
+use Rattle.ct_merge.proofs.Places.{all_inserted_ascends}
 
 less_of : (r : Ordering) → is_lt r ≡ true → r ≡ Less
 less_of Less h = refl
@@ -126,7 +126,7 @@ addresses_ascend pull h = in_order address_order address_order_total address_bef
 -- the items of a base stay in order with those of one more base
 pub joined_ascends : {X : Type 0} (order rank : X → X → Ordering) (o : IsTotalOrder order) (base : ℕ) (items : List X) (new : ℕ) (more : List X) → IsStrictlySortedBy order items → IsStrictlySortedBy order more → IsStrictlySortedBy order (joined order rank base items new more)
 joined_ascends order rank o base items new more h k =
-    elim (nat_lt base new) as (λ b. IsStrictlySortedBy order (if b then more else if nat_lt new base then items else all_placed order rank more items)) [
+    elim (nat_lt base new) as (λ b. IsStrictlySortedBy order (if b then more else if nat_lt new base then items else all_inserted order rank more items)) [
       | true ↦ k
-      | false ↦ elim (nat_lt new base) as (λ b. IsStrictlySortedBy order (if b then items else all_placed order rank more items)) [ true ↦ h | false ↦ all_placed_ascends order rank o more items h ]
+      | false ↦ elim (nat_lt new base) as (λ b. IsStrictlySortedBy order (if b then items else all_inserted order rank more items)) [ true ↦ h | false ↦ all_inserted_ascends order rank o more items h ]
     ]
