@@ -1,6 +1,6 @@
 -- Addresses at their nodes, before and after one of them is sent to another.
 use Rattle.std.proofs.Common.{◌≡◌, ℕ, suc, ◌+◌, ◌*◌, ◌<◌, ◌≤◌, Bool, true, false, nat_eq, List, [], ◌∷◌, ◌++◌, length, Option, Some, None, refl, sym, ap, ◌∙◌, subst, arith}
-use Rattle.std.specs.Prelude.{if◌then◌else◌, is_some, map, not, ◌==◌, ◌&&◌, ◌↔◌, IsTrue}
+use Rattle.std.specs.Prelude.{if◌then◌else◌, is_some, map, not, ◌&&◌, ◌↔◌, IsTrue}
 use Rattle.std.specs.List.{AllByRecursion}
 use Rattle.std.specs.List.Sorted.{IsStrictlySortedBy}
 use Rattle.std.specs.Ordering.{nat_cmp, is_lt}
