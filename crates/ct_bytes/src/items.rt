@@ -93,10 +93,12 @@ impl<T> Items<T> {
         Some(self.list.remove(0))
     }
 
-    /// Moves all of `more` to the end.
+    /// Moves all of `more` to the end. Without memory both stay as they are.
     pub fn append(&mut self, more: &mut Vec<T>) -> Result<(), NoMemory>
         ensures ok { OnOk result (self.new ≡ self.old ++ more.old.items) }
+        ensures moved { OnOk result (more.new.items ≡ []) }
         ensures err { OnErr result (self.new ≡ self.old) }
+        ensures kept { OnErr result (more.new.items ≡ more.old.items) }
     {
         self.list.append(more)?;
         Ok(())

@@ -1,23 +1,30 @@
 //! Numbers in decimal, without sign or leading zero.
-ghost use Rattle.std.specs.Prelude.{◌≡◌, ◌≢◌, ◌<◌, ◌^◌, ◌++◌, ℕ, List, length, OnOk, Some, None, IfSome, IfNone, SomeIff, IsTrue};
+ghost use Rattle.std.specs.Prelude.{◌≡◌, ◌≢◌, ◌<◌, ◌^◌, ◌++◌, ℕ, List, length, OnOk, OnErr, Some, None, IfSome, IfNone, SomeIff, IsTrue};
 ghost use Rattle.std.specs.List.{list_all, All};
 ghost use Rattle.std.specs.Fmt.{decimal};
 ghost use Rattle.ct_bytes.specs.Number.{IsDigit, is_digit, is_number, value_after, number_of};
 
 use crate::memory::NoMemory;
 
-/// Writes the number at the end of the text. On an `Err` the text may have gained a front of it.
+/// Writes the number at the end of the text. Without memory the text stays as it is.
 #[tactic(auto, using(std::proofs::lemmas::Fmt::decimal_digit))]
 pub fn push_decimal(text: &mut Vec<u8>, n: u64) -> Result<(), NoMemory>
-    ensures { OnOk result (text.new.items ≡ text.old.items ++ decimal n) }
+    ensures ok { OnOk result (text.new.items ≡ text.old.items ++ decimal n) }
+    ensures err { OnErr result (text.new.items ≡ text.old.items) }
 {
     if n < 10 {
         text.push(b'0' + n as u8)?;
         return Ok(());
     }
+    let before = text.len();
     push_decimal(text, n / 10)?;
-    text.push(b'0' + (n % 10) as u8)?;
-    Ok(())
+    match text.push(b'0' + (n % 10) as u8) {
+        Ok(()) => Ok(()),
+        Err(_) => {
+            text.truncate(before);
+            Err(NoMemory)
+        }
+    }
 }
 
 fn is_digit(d: u8) -> bool

@@ -1,5 +1,5 @@
 //! How bytes are spelled as one word of a line.
-ghost use Rattle.std.specs.Prelude.{◌≡◌, ◌≢◌, ◌<◌, ◌++◌, ℕ, List, length, IfOk, OnOk, IsErrOf, Some, None, MatchOption, ◌≤◌, ◌∷◌, []};
+ghost use Rattle.std.specs.Prelude.{◌≡◌, ◌≢◌, ◌<◌, ◌++◌, ℕ, List, length, IfOk, OnOk, OnErr, IsErrOf, Some, None, MatchOption, ◌≤◌, ◌∷◌, []};
 ghost use Rattle.std.specs.List.{flat_map, list_all, All};
 ghost use Rattle.ct_bytes.specs.Spelling.{AreBytes, IsWordByte, is_plain, hex_digit, spelled_byte, is_dash, is_spelled_dash, spelling, hex_value, escaped_byte, with_byte, unspelled_bytes, unspelled, Unspells};
 
@@ -70,7 +70,8 @@ fn hex_digit(n: u8) -> u8
 }
 
 fn push_spelled_byte(text: &mut Vec<u8>, b: u8) -> Result<(), NoMemory>
-    ensures { OnOk result (text.new.items ≡ text.old.items ++ spelled_byte b) }
+    ensures ok { OnOk result (text.new.items ≡ text.old.items ++ spelled_byte b) }
+    ensures err { OnErr result (text.new.items ≡ text.old.items) }
 {
     if is_plain(b) {
         text.push(b)?;
@@ -81,22 +82,28 @@ fn push_spelled_byte(text: &mut Vec<u8>, b: u8) -> Result<(), NoMemory>
 }
 
 fn push_spelled_bytes(text: &mut Vec<u8>, bytes: &[u8]) -> Result<(), NoMemory>
-    ensures { OnOk result (text.new.items ≡ text.old.items ++ flat_map spelled_byte bytes.now) }
+    ensures ok { OnOk result (text.new.items ≡ text.old.items ++ flat_map spelled_byte bytes.now) }
+    ensures err { OnErr result (text.new.items ≡ text.old.items) }
 {
+    let before = text.len();
     text.reserve(bytes.len())?;
     for b in bytes {
-        push_spelled_byte(text, *b)?;
+        if push_spelled_byte(text, *b).is_err() {
+            text.truncate(before);
+            return Err(NoMemory);
+        }
     }
     Ok(())
 }
 
-/// Writes the one spelling of these bytes at the end of the text. On an `Err` the text may have gained part of it.
+/// Writes the one spelling of these bytes at the end of the text. Without memory the text stays as it is.
 ///
 /// A byte from 0x21 to 0x7E other than `%` and `=` stands for itself, every other byte is `%` and two lower-case
 /// hexadecimal digits. No bytes are spelled `-`, and the one byte `-` is spelled `%2d`.
 #[tactic(auto, using(crate::proofs::Spellings::plain_spelling))]
 pub fn push_spelling(text: &mut Vec<u8>, bytes: &[u8]) -> Result<(), NoMemory>
-    ensures { OnOk result (text.new.items ≡ text.old.items ++ spelling bytes.now) }
+    ensures ok { OnOk result (text.new.items ≡ text.old.items ++ spelling bytes.now) }
+    ensures err { OnErr result (text.new.items ≡ text.old.items) }
 {
     if bytes.is_empty() {
         text.push(b'-')?;

@@ -7,93 +7,15 @@
 //! pair of a persistent database has a value that is not empty, and an assigned address has a node. A row that a
 //! member tells the leader of has this member as data master or none, and a row that the leader hands out one of the
 //! members.
-ghost use Rattle.std.specs.Prelude.{◌≡◌, Bool, nat_lt, nat_eq};
-ghost use Rattle.ct_bytes.specs.Address.{address_before};
-ghost use Rattle.ct_frame.specs.Fields.{is_below_limit, is_from_one, is_node, is_db, is_one_to_sixteen, ascends, row_before, pair_before, ptable_before, assigned_before, are_nodes, are_addresses, is_own_or_none, is_member, is_row, are_rows, is_kept, is_ptable, are_ptables, is_assigned, are_assigned, is_message, well_formed};
+ghost use Rattle.std.specs.Prelude.{◌≡◌, nat_eq};
+ghost use Rattle.ct_frame.specs.Fields.{is_below_limit, is_from_one, is_node, is_db, is_one_to_sixteen, are_nodes, are_addresses, is_own_or_none, is_member, is_row, are_rows, is_kept, is_ptable, are_ptables, is_assigned, are_assigned, is_message, well_formed};
 ghost use Rattle.std.specs.List.{list_all, list_any};
 
 use crate::frame::{Assigned, Frame, Msg, PTable, TableRow};
 use crate::header::LIMIT;
+use crate::order::ascends;
 use ct_bytes::address::Address;
 use ct_msg::client::Pair;
-
-/// Items of which a frame has lists in ascending order.
-trait Ranked {
-    ghost comes_before: { Self → Self → Bool };
-
-    fn comes_before(&self, other: &Self) -> bool
-        ensures { result ≡ comes_before self.now other.now };
-}
-
-impl Ranked for u32 {
-    ghost comes_before = { nat_lt };
-
-    fn comes_before(&self, other: &u32) -> bool {
-        *self < *other
-    }
-}
-
-impl Ranked for Address {
-    ghost comes_before = { address_before };
-
-    fn comes_before(&self, other: &Address) -> bool {
-        match (*self, *other) {
-            (Address::V4(a), Address::V4(b)) => a < b,
-            (Address::V6(a), Address::V6(b)) => a < b,
-            (Address::V4(_), Address::V6(_)) => true,
-            (Address::V6(_), Address::V4(_)) => false,
-        }
-    }
-}
-
-impl Ranked for TableRow {
-    ghost comes_before = { row_before };
-
-    fn comes_before(&self, other: &TableRow) -> bool {
-        self.db < other.db || (self.db == other.db && self.key < other.key)
-    }
-}
-
-impl Ranked for Pair {
-    ghost comes_before = { pair_before };
-
-    fn comes_before(&self, other: &Pair) -> bool {
-        self.key < other.key
-    }
-}
-
-impl Ranked for PTable {
-    ghost comes_before = { ptable_before };
-
-    fn comes_before(&self, other: &PTable) -> bool {
-        self.db < other.db
-    }
-}
-
-impl Ranked for Assigned {
-    ghost comes_before = { assigned_before };
-
-    fn comes_before(&self, other: &Assigned) -> bool {
-        self.address.comes_before(&other.address)
-    }
-}
-
-/// Whether each item comes before the next.
-fn ascends<T: Ranked>(items: &[T]) -> bool
-    ensures { result ≡ ascends T.comes_before items.now }
-{
-    let Some((first, rest)) = items.split_first() else {
-        return true;
-    };
-    let mut last = first;
-    for item in rest {
-        if !last.comes_before(item) {
-            return false;
-        }
-        last = item;
-    }
-    true
-}
 
 fn is_below_limit(number: u64) -> bool
     ensures { result ≡ is_below_limit number }

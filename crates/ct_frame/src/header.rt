@@ -1,5 +1,6 @@
 //! The header of a record's copy.
-ghost use Rattle.std.specs.Prelude.{◌≡◌, IfOk, nat_lt};
+ghost use Rattle.std.specs.Prelude.{◌≡◌, ◌+◌, IfOk, nat_lt};
+ghost use Rattle.ct_frame.specs.Header.{nobody, delegated, for_reading, being_revoked};
 
 use ct_bytes::copies::Duplicate;
 use ct_bytes::memory::NoMemory;
@@ -19,6 +20,14 @@ pub const READ_ONLY_COPY: u8 = 2;
 
 /// The flag of a copy whose data master calls the read-only copies in.
 pub const BEING_REVOKED: u8 = 4;
+
+/// The flags that these sum up to, and the number of no node, are those that the rules speak of.
+pub fn words_of_the_rules()
+    ensures nobody { NONE ≡ nobody }
+    ensures delegated { HAS_DELEGATIONS ≡ delegated }
+    ensures for_reading { READ_ONLY_COPY ≡ for_reading }
+    ensures being_revoked { HAS_DELEGATIONS + BEING_REVOKED ≡ being_revoked }
+{}
 
 /// What is kept beside a record's value.
 #[derive(Clone, Copy, Debug, PartialEq, Eq)]

@@ -6,6 +6,7 @@ pub mod event;
 pub mod fields;
 pub mod frame;
 pub mod header;
+pub mod order;
 pub mod plan;
 pub mod round;
 #[cfg(test)]

@@ -1,6 +1,7 @@
 -- Every turn of a node that is not present, and every message of a round at any node.
 use Rattle.std.proofs.Common.{◌≡◌, ℕ, Bool, true, false, cond, None, Some, ⊎_elim, refl, sym, ◌∙◌, subst}
 use Rattle.std.specs.Prelude.{nat_lt}
+use Rattle.std.proofs.lemmas.Bool.{cases_Bool}
 use Rattle.ct_msg.specs.declared.config.Config.{Config}
 use Rattle.ct_frame.specs.declared.event.Event.{Event}
 use Rattle.ct_frame.specs.declared.event.Event.TheVariants as event
@@ -14,7 +15,6 @@ use Rattle.ct_rules_node.specs.Turn.{Turn, begins}
 use Rattle.ct_cluster.specs.Cluster.{Cluster, node_at, pending}
 use Rattle.ct_register.specs.Lines.{Lines}
 use Rattle.ct_promise.specs.Promises.{IsConfig}
-use Rattle.ct_law_shown.proofs.Weave.{true_or_false}
 use Rattle.ct_law_node.proofs.Pending.{Callers}
 use Rattle.ct_law_line.proofs.Ages.{Ages}
 use Rattle.ct_law_line.proofs.Lives.{Lives, PhaseSays}
@@ -68,7 +68,7 @@ module _ (c : Config) (rules : Rules) (w : Cluster) (r : Lines) (h : Lives c rul
   arrives_turned f come whole = ⊎_elim
       (λ (e : is_of_round f.msg ≡ true). round_turned c rules w r h n f f.msg config there refl e come none_persist whole)
       (λ (e : is_of_round f.msg ≡ false). nothing_comes (event.Arrive f) (dropped c rules n f x absent f.msg e))
-      (true_or_false (is_of_round f.msg))
+      (cases_Bool (is_of_round f.msg))
 
   pub vacuum_turned : (db : ℕ) → Turned c rules h.who w r h.ages n (pending w) (happens c rules n (begins x) (event.Vacuum db))
   unfolding happens vacuums

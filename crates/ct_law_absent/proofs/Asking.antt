@@ -1,7 +1,7 @@
 -- A client's call at a node that is not present: it is refused, or under its lock it is finished while the node freezes.
 use Rattle.std.proofs.Common.{◌≡◌, ℕ, Bool, true, false, cond, ◌&&◌, ◌||◌, List, [], ◌∷◌, Option, None, Some, inl, ⊎_elim, refl, sym, ap, ◌∙◌, subst}
 use Rattle.std.specs.Prelude.{nat_lt, not}
-use Rattle.std.proofs.lemmas.Bool.{and_parts}
+use Rattle.std.proofs.lemmas.Bool.{and_parts, cases_Bool}
 use Rattle.ct_bytes.specs.Words.{or_empty}
 use Rattle.ct_msg.specs.Client.{is_read}
 use Rattle.ct_msg.specs.declared.client.Answer.{Answer}
@@ -29,7 +29,6 @@ use Rattle.ct_cluster.specs.declared.step.PendingCall.{PendingCall}
 use Rattle.ct_register.specs.Lines.{Lines}
 use Rattle.ct_promise.specs.Generation.{record_labels, speaks_of_records}
 use Rattle.ct_promise.specs.Promises.{IsConfig}
-use Rattle.ct_law_shown.proofs.Weave.{true_or_false}
 use Rattle.ct_law_node.proofs.Calling.{own_pending}
 use Rattle.ct_law_cluster.proofs.Admitted.{admits}
 use Rattle.ct_law_cluster.proofs.Configured.{refusals_silent}
@@ -131,7 +130,7 @@ module _ (c : Config) (rules : Rules) (w : Cluster) (r : Lines) (h : Lives c rul
       (λ (kind : is_persistent (kind_at c db) ≡ true). subst (λ (u : Turn). Asked (op.Read db key) u) (sym (client_serves c rules n w.calls (op.Read db key) x free
       ∙ reads_pair c rules n w.calls db key (makes w.calls (begins x)) kind)) (pair_turned db key kind))
       (λ (kind : is_persistent (kind_at c db) ≡ false). read_turned c rules w r h n k.generation k.leader db key config there k.freezing (call_kind c x (op.Read db key) (admits c rules x (op.Read db key) free) kind) k.locked free)
-      (true_or_false (is_persistent (kind_at c db)))
+      (cases_Bool (is_persistent (kind_at c db)))
   served (op.Lock db key) free k = absurd (let e = k.sort in cc)
   served (op.Write db key v) free k = absurd (let e = k.sort in cc)
   served (op.Apply db key function arg) free k = absurd (let e = k.sort in cc)

@@ -1,7 +1,7 @@
 -- At a node the calls that wait are exactly its open ones, each with what it asked.
 use Rattle.std.proofs.Common.{◌≡◌, ◌≢◌, ℕ, zero, suc, ◌<◌, ◌≤◌, Bool, true, false, cond, List, [], ◌∷◌, ◌++◌, length, set, Option, Some, None, refl, sym, ap, ◌∙◌, subst, arith, ⊎_elim}
 use Rattle.std.specs.Prelude.{nat_eq, nat_lt, slice_get}
-use Rattle.std.proofs.lemmas.Bool.{cond_both, cases_eq, eq-eqb, ne_eqb, ltb-true, ltb-false}
+use Rattle.std.proofs.lemmas.Bool.{cond_both, cases_eq, eq-eqb, ne_eqb, ltb-true, ltb-false, cases_Bool}
 use Rattle.ct_msg.specs.Client.{db_of, key_of, wants_record}
 use Rattle.ct_msg.specs.declared.client.Answer.{Answer}
 use Rattle.ct_msg.specs.declared.client.ClientOp.{ClientOp}
@@ -17,7 +17,6 @@ use Rattle.ct_rules_node.specs.Laws.{AllAscend, NodeAscends}
 use Rattle.ct_rules_node.proofs.AtRecord.{at_set, at_other, set_past, all_set, at_ascends}
 use Rattle.ct_frame.specs.declared.event.Out.{Out}
 use Rattle.ct_frame.specs.declared.event.Out.TheVariants as out
-use Rattle.ct_law_shown.proofs.Weave.{true_or_false}
 use Rattle.ct_law_wish.proofs.Wishing.{Wishful}
 use Rattle.ct_law_calls.proofs.Opened.{Opened, without, without_all, answered_by, AllOpen, stays_case, case_open, some_none}
 
@@ -180,7 +179,7 @@ ends_place o db k x y is ne e = ⊎_elim
     (λ (other : db_of o ≢ db). ap (λ (d : Database). commit_call d.commit) (committing_other db (db_of o) None x other) ∙ sym (place_commit o x c) ∙ e)
     (cases_eq (db_of o) db))
     (λ (w : is_commit o ≡ false). place_wish o (with_committing db None x) w ∙ ap (λ (r : RecState). wish_call r.wish) (committing_state db (db_of o) (key_of o) None x) ∙ sym (place_wish o x w) ∙ e)
-    (true_or_false (is_commit o))
+    (cases_Bool (is_commit o))
   where
     not_own : k ≢ y.call
     not_own same = absurd (let t = sym (eq-eqb k y.call same) ∙ ne in cc)
@@ -246,7 +245,7 @@ waits_place o db k x y none e = ⊎_elim
     (λ (other : db_of o ≢ db). ap (λ (d : Database). commit_call d.commit) (committing_other db (db_of o) (Some y) x other) ∙ sym (place_commit o x c) ∙ e)
     (cases_eq (db_of o) db))
     (λ (w : is_commit o ≡ false). place_wish o (with_committing db (Some y) x) w ∙ ap (λ (r : RecState). wish_call r.wish) (committing_state db (db_of o) (key_of o) (Some y) x) ∙ sym (place_wish o x w) ∙ e)
-    (true_or_false (is_commit o))
+    (cases_Bool (is_commit o))
 
 -- a commit that waits
 pub commit_waits : (n db call : ℕ) (who : Opened) (x : Node) (y : Committing) → db < length x.dbs → (db_at db x).commit ≡ None → y.call ≡ call → who call ≡ None → Stands n who x → Stands n (with_call call (n, op.Commit db y.writes) who) (with_committing db (Some y) x)
@@ -297,5 +296,5 @@ commit_stays n db who x y z is call writes s =
       waits = λ k o e. ⊎_elim
           (λ (co : is_commit o ≡ true). place_commit o v co ∙ calls (db_of o) ∙ sym (place_commit o x co) ∙ s.waits k o e)
           (λ (no : is_commit o ≡ false). place_wish o v no ∙ ap (λ (r : RecState). wish_call r.wish) (committing_state db (db_of o) (key_of o) (Some z) x) ∙ sym (place_wish o x no) ∙ s.waits k o e)
-          (true_or_false (is_commit o));
+          (cases_Bool (is_commit o));
     }

@@ -3,7 +3,7 @@ use Rattle.std.proofs.Common.{◌≡◌, ◌≢◌, ℕ, suc, ◌+◌, ◌<◌, 
 use Rattle.std.specs.Prelude.{slice_get, nat_eq, nat_lt, not}
 use Rattle.std.specs.List.{AllByRecursion, list_any, list_all}
 use Rattle.std.specs.List.Sorted.{IsStrictlySortedBy}
-use Rattle.std.proofs.lemmas.Bool.{eqb-true, eq-eqb, ltb-true, ltb-false, and_parts}
+use Rattle.std.proofs.lemmas.Bool.{eqb-true, eq-eqb, ltb-true, ltb-false, and_parts, cases_Bool}
 use Rattle.ct_msg.specs.Client.{db_of, key_of, wants_record}
 use Rattle.ct_msg.specs.declared.client.ClientOp.{ClientOp}
 use Rattle.ct_msg.specs.declared.client.ClientOp.TheVariants as op
@@ -17,7 +17,6 @@ use Rattle.ct_register.specs.Legal as legal
 use Rattle.ct_cluster.specs.Cluster.{Cluster, node_at, or_absent, wished, wished_in, committing, pending_in, pending_from, pending}
 use Rattle.ct_cluster.specs.declared.step.PendingCall.{PendingCall}
 use Rattle.ct_promise.specs.Born.{Rows, WishIsSound, IsBornWith, log_of}
-use Rattle.ct_law_shown.proofs.Weave.{true_or_false}
 use Rattle.ct_law_wish.proofs.Wishing.{Wishful}
 use Rattle.ct_law_node.proofs.Pending.{Callers, Known, KnownAt, CommitFits, is_call, pending_has}
 use Rattle.ct_law_birth.proofs.BornCalls.{caller_in, callers_in, born_known}
@@ -35,7 +34,7 @@ use Rattle.ct_law_calls.proofs.Telling.{by_log, nodes_any}
 
 swap_eq : (a b : ℕ) (v : Bool) → nat_eq a b ≡ v → nat_eq b a ≡ v
 swap_eq a b true e = eq-eqb b a (sym (eqb-true a b e))
-swap_eq a b false e = ⊎_elim (λ (t : nat_eq b a ≡ true). absurd (let k = sym (eq-eqb a b (sym (eqb-true b a t))) ∙ e in cc)) (λ (f : nat_eq b a ≡ false). f) (true_or_false (nat_eq b a))
+swap_eq a b false e = ⊎_elim (λ (t : nat_eq b a ≡ true). absurd (let k = sym (eq-eqb a b (sym (eqb-true b a t))) ∙ e in cc)) (λ (f : nat_eq b a ≡ false). f) (cases_Bool (nat_eq b a))
 
 pub found_in : (xs : List PendingCall) (k : ℕ) → list_any (is_call k) xs ≡ true → asked_in k (log_of xs) ≡ Some (caller_in xs k)
 unfolding is_call asked_in log_of caller_in
@@ -43,7 +42,7 @@ found_in [] k e = absurd (cc)
 found_in (x ∷ xs) k e = ⊎_elim
     (λ (t : nat_eq x.call k ≡ true). rw t (rw (swap_eq x.call k true t) refl))
     (λ (f : nat_eq x.call k ≡ false). rw f (rw (swap_eq x.call k false f) (found_in xs k (sym (ap (λ (b : Bool). b || list_any (is_call k) xs) f) ∙ e))))
-    (true_or_false (nat_eq x.call k))
+    (cases_Bool (nat_eq x.call k))
 
 wanting_of : (db : ℕ) (key : List ℕ) (next : ℕ) (w : Option Wish) (x : Wish) → w ≡ Some x → WishIsSound db key next w → wants_record x.op ≡ true
 unfolding WishIsSound
@@ -62,9 +61,9 @@ all_wanting config g members row w h n db key x e = ⊎_elim
     (λ (t : is_among n members ≡ true). ⊎_elim
     (λ (r : has_records (kind_at config db) ≡ true). wanting_of db key (node_at n w).next (state_at db key (node_at n w)).wish x e ((h.born n t).wishes db key r))
     (λ (f : has_records (kind_at config db) ≡ false). absurd (none_kept (db_at db (node_at n w)).records key x ((h.born n t).others db f) e))
-    (true_or_false (has_records (kind_at config db))))
+    (cases_Bool (has_records (kind_at config db))))
     (λ (f : is_among n members ≡ false). absurd (none_kept (db_at db (node_at n w)).records key x ((h.left n f).records db) e))
-    (true_or_false (is_among n members))
+    (cases_Bool (is_among n members))
 
 wished_born : (w : Cluster) (n db : ℕ) (key : List ℕ) (o : Option Wish) → (state_at db key (node_at n w)).wish ≡ o → ((x : Wish) → o ≡ Some x → wants_record x.op ≡ true) → Wishful (Known (callers_in w) w.calls n db key) o → Wishful (Wished n (by_log (log_of (pending w))) db key) o
 unfolding Wishful Known Wished
@@ -146,7 +145,7 @@ entry P [] k v h e = absurd (cc)
 entry P (x ∷ xs) k v h e = ⊎_elim
     (λ (t : nat_eq k x.call ≡ true). (x, h.0, sym (eqb-true k x.call t), same_pair (x.node, x.op) v (sym (ap (λ (b : Bool). cond b (Some (x.node, x.op)) (asked_in k (log_of xs))) t) ∙ e)))
     (λ (f : nat_eq k x.call ≡ false). entry P xs k v h.1 (sym (ap (λ (b : Bool). cond b (Some (x.node, x.op)) (asked_in k (log_of xs))) f) ∙ e))
-    (true_or_false (nat_eq k x.call))
+    (cases_Bool (nat_eq k x.call))
 
 wish_place : (who : Callers) (calls n db : ℕ) (key : List ℕ) (x : Node) (o : Option Wish) (w : Wish) → o ≡ Some w → (state_at db key x).wish ≡ o → wants_record w.op ≡ true → Wishful (Known who calls n db key) o → place_call w.op x ≡ Some w.call
 unfolding Wishful Known wish_call
@@ -203,13 +202,13 @@ waits_in config g members row w h k n o e = (let p = entry (IsPlace w) (pending 
 
 -- every node of the configuration has a state for each database
 born_sized : (config : Config) (g : ℕ) (members : List ℕ) (row : Rows) (w : Cluster) → IsBornWith config g members row w → (n : ℕ) → n < config.nodes → length (node_at n w).dbs ≡ length config.dbs
-born_sized config g members row w h n l = ⊎_elim (λ (t : is_among n members ≡ true). (h.born n t).dbs) (λ (f : is_among n members ≡ false). (h.left n f).dbs l) (true_or_false (is_among n members))
+born_sized config g members row w h n l = ⊎_elim (λ (t : is_among n members ≡ true). (h.born n t).dbs) (λ (f : is_among n members ≡ false). (h.left n f).dbs l) (cases_Bool (is_among n members))
 
 -- the calls that wait are exactly the open ones of their log
 pub born_calls : (config : Config) (g : ℕ) (members : List ℕ) (row : Rows) (w : Cluster) → IsBornWith config g members row w → Calls config w (by_log (log_of (pending w)))
 born_calls config g members row w h = record {
   size = h.size;
-  there = λ n up. ⊎_elim (λ (t : is_among n members ≡ true). ltb-true n config.nodes (h.there n t)) (λ (f : is_among n members ≡ false). absurd (let k = sym up ∙ h.down n f in cc)) (true_or_false (is_among n members));
+  there = λ n up. ⊎_elim (λ (t : is_among n members ≡ true). ltb-true n config.nodes (h.there n t)) (λ (f : is_among n members ≡ false). absurd (let k = sym up ∙ h.down n f in cc)) (cases_Bool (is_among n members));
   sized = born_sized config g members row w h;
   nodes = λ n. (let known = born_known config g members row w h n in record {
     order = known.order;

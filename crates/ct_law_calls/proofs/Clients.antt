@@ -1,7 +1,7 @@
 -- A client's call comes to a node: it is open until it is answered, and waits until then.
 use Rattle.std.proofs.Common.{◌≡◌, ℕ, zero, suc, ◌<◌, Bool, true, false, cond, ◌||◌, List, [], ◌∷◌, length, Option, Some, None, refl, sym, ap, ◌∙◌, subst, arith}
 use Rattle.std.specs.Prelude.{is_none, is_some, slice_get}
-use Rattle.std.proofs.lemmas.Bool.{cond_both}
+use Rattle.std.proofs.lemmas.Bool.{cond_both, or_parts}
 use Rattle.std.proofs.lemmas.List.{length-set}
 use Rattle.ct_bytes.specs.Words.{others}
 use Rattle.ct_msg.specs.Client.{db_of, is_read, key_of, wants_record}
@@ -66,11 +66,7 @@ none_some (Some x) e = absurd (cc)
 
 none_commits : (c : Config) (n : Node) (db : ℕ) (ws : List Pair) → commit_pending c n (op.Commit db ws) ≡ None → (db_at db n).commit ≡ None
 unfolding commit_pending is_commit is_committing is_unlock
-none_commits c n db ws e = none_some (db_at db n).commit (first_false (is_some (db_at db n).commit) _ (not_refused _ _ e))
-  where
-    first_false : (a b : Bool) → (a || b) ≡ false → a ≡ false
-    first_false true b e = absurd (cc)
-    first_false false b e = refl
+none_commits c n db ws e = none_some (db_at db n).commit (or_parts (is_some (db_at db n).commit) _ (not_refused _ _ e)).0
 
 -- ---- each call
 

@@ -1,7 +1,7 @@
 -- The calls that wait in a cluster are exactly the open ones of its run: so it is through every step.
 use Rattle.std.proofs.Common.{◌≡◌, ◌≢◌, ℕ, zero, suc, ◌+◌, ◌<◌, ◌≤◌, Bool, true, false, cond, List, [], ◌∷◌, ◌++◌, length, set, Option, Some, None, refl, sym, ap, ◌∙◌, subst, arith, ⊎_elim}
 use Rattle.std.specs.Prelude.{nat_eq, nat_lt, slice_get, Ok}
-use Rattle.std.proofs.lemmas.Bool.{cases_eq, ne_eqb, ltb-true}
+use Rattle.std.proofs.lemmas.Bool.{cases_eq, ne_eqb, ltb-true, cases_Bool}
 use Rattle.std.proofs.lemmas.List.{length-set}
 use Rattle.ct_msg.specs.declared.client.ClientOp.{ClientOp}
 use Rattle.ct_msg.specs.declared.config.Config.{Config}
@@ -25,7 +25,6 @@ use Rattle.ct_cluster.specs.declared.step.Line.TheVariants as line
 use Rattle.ct_cluster.specs.declared.step.Step.{Step}
 use Rattle.ct_cluster.specs.declared.step.Step.TheVariants as step
 use Rattle.ct_cluster.specs.declared.step.StepFault.{StepFault}
-use Rattle.ct_law_shown.proofs.Weave.{true_or_false}
 use Rattle.ct_law_node.proofs.Putting.{own_node, other_node}
 use Rattle.ct_law_cluster.proofs.Fed.{fed_is}
 use Rattle.ct_law_cluster.proofs.Faulting.{runs}
@@ -221,7 +220,7 @@ deliver_calls c rules k w (Some m) x who h ok = ⊎_elim
     (subst (λ (b : Bool). cond b (fed c rules m.frame.receiver (event.Arrive m.frame) [] (with_fate k m Delivered w)) (done (line.Lost k ∷ []) (with_fate k m Dropped w)) ≡ Ok x) t ok))
     (λ (f : is_up m.frame.receiver w ≡ false). done_calls c (line.Lost k ∷ []) w (with_fate k m Dropped w) x who (fate_calls c k m Dropped w who h) (λ g. refl) tt
     (subst (λ (b : Bool). cond b (fed c rules m.frame.receiver (event.Arrive m.frame) [] (with_fate k m Delivered w)) (done (line.Lost k ∷ []) (with_fate k m Dropped w)) ≡ Ok x) f ok))
-    (true_or_false (is_up m.frame.receiver w))
+    (cases_Bool (is_up m.frame.receiver w))
 
 repeat_calls : (c : Config) (rules : Rules) (k : ℕ) (w : Cluster) (m : Option Sent) (x : Stepped) (who : Opened) → Calls c w who → repeat c rules k w m ≡ Ok x → Calls_after c who x
 unfolding repeat closes AllAnswered open_at IsNew
@@ -231,7 +230,7 @@ repeat_calls c rules k w (Some m) x who h ok = ⊎_elim
     (subst (λ (b : Bool). cond b (fed c rules m.frame.receiver (event.Arrive m.frame) [] w) (done (line.Lost k ∷ []) w) ≡ Ok x) t ok))
     (λ (f : is_up m.frame.receiver w ≡ false). done_calls c (line.Lost k ∷ []) w w x who h (λ g. refl) tt
     (subst (λ (b : Bool). cond b (fed c rules m.frame.receiver (event.Arrive m.frame) [] w) (done (line.Lost k ∷ []) w) ≡ Ok x) f ok))
-    (true_or_false (is_up m.frame.receiver w))
+    (cases_Bool (is_up m.frame.receiver w))
 
 drop_calls : (c : Config) (k : ℕ) (w : Cluster) (m : Option Sent) (x : Stepped) (who : Opened) → Calls c w who → drop k w m ≡ Ok x → Calls_after c who x
 unfolding drop closes AllAnswered

@@ -2,7 +2,7 @@
 use Rattle.std.proofs.Common.{◌≡◌, ◌≢◌, ℕ, Bool, true, false, cond, ◌||◌, List, [], ◌∷◌, ◌++◌, map, Option, Some, None, refl, sym, ap, ◌∙◌}
 use Rattle.std.specs.Prelude.{nat_eq}
 use Rattle.std.specs.List.{list_any}
-use Rattle.std.proofs.lemmas.Bool.{eqb-true}
+use Rattle.std.proofs.lemmas.Bool.{eqb-true, or_parts}
 use Rattle.ct_msg.specs.declared.client.ClientOp.{ClientOp}
 use Rattle.ct_frame.specs.declared.event.Out.{Out}
 use Rattle.ct_frame.specs.declared.event.Out.TheVariants as out
@@ -96,14 +96,10 @@ pub stays_case : (b : Bool) (x : Option (ℕ × ClientOp)) → b ≡ false → c
 stays_case true x e = absurd (cc)
 stays_case false x e = refl
 
-or_false : (a b : Bool) → (a || b) ≡ false → (a ≡ false) × (b ≡ false)
-or_false true b e = absurd (cc)
-or_false false b e = (refl, e)
-
 pub stays_open : (xs : List ℕ) (who : Opened) (k : ℕ) → is_one k xs ≡ false → without_all xs who k ≡ who k
 unfolding without_all without
 stays_open [] who k e = refl
-stays_open (x ∷ xs) who k e = (let p = or_false (nat_eq k x) (is_one k xs) e in stays_open xs (without x who) k p.1 ∙ stays_case (nat_eq k x) (who k) p.0)
+stays_open (x ∷ xs) who k e = (let p = or_parts (nat_eq k x) (is_one k xs) e in stays_open xs (without x who) k p.1 ∙ stays_case (nat_eq k x) (who k) p.0)
 
 -- one of these that is open after the first of them is one of the others
 or_other : (a b : Bool) → (a || b) ≡ true → a ≡ false → b ≡ true

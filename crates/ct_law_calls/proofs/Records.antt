@@ -1,7 +1,7 @@
 -- A part of the rule of a record at a node: the calls that wait are exactly the open ones after it, too.
 use Rattle.std.proofs.Common.{◌≡◌, ◌≢◌, ℕ, zero, suc, ◌<◌, ◌≤◌, Bool, true, false, cond, ◌||◌, List, [], ◌∷◌, ◌++◌, length, Option, Some, None, refl, sym, ap, ◌∙◌, subst, arith, ⊎_elim}
 use Rattle.std.specs.Prelude.{nat_eq, nat_lt, slice_get}
-use Rattle.std.proofs.lemmas.Bool.{cond_both, cases_eq, eq-eqb, eqb-true, ne_eqb, ltb-true, ltb-false, or_right}
+use Rattle.std.proofs.lemmas.Bool.{cond_both, cases_eq, eq-eqb, eqb-true, ne_eqb, ltb-true, ltb-false, or_right, or_parts, cases_Bool}
 use Rattle.ct_msg.specs.Client.{db_of, key_of, wants_record}
 use Rattle.ct_msg.specs.declared.client.ClientOp.{ClientOp}
 use Rattle.ct_msg.specs.declared.client.ClientOp.TheVariants as op
@@ -20,7 +20,7 @@ use Rattle.ct_rules_node.specs.Laws.{NodeAscends, left_by, unless_blank}
 use Rattle.ct_rules_node.proofs.AtRecord.{moves_at, at_set, at_other, set_past}
 use Rattle.ct_law_node.proofs.Forming.{or_second}
 use Rattle.ct_law_shown.specs.Shown.{is_it}
-use Rattle.ct_law_shown.proofs.Weave.{true_or_false, it_is, it_is_itself}
+use Rattle.ct_law_shown.proofs.Weave.{it_is, it_is_itself}
 use Rattle.ct_law_wish.proofs.Wishing.{Wishful}
 use Rattle.ct_law_shown.proofs.Amid.{other_state}
 use Rattle.ct_law_wish.proofs.Even.{answers_in, Even, number_of, even_is}
@@ -96,7 +96,7 @@ not_answered : (n : ℕ) (old now : Opened) (db : ℕ) (key : List ℕ) (xs zs y
 not_answered n old now db key xs zs ys p whole k o e apart = stays_open zs now k (⊎_elim
     (λ (t : is_one k zs ≡ true). absurd (let m = p.mine k o (subst (λ (l : List ℕ). is_one k l ≡ true) whole (first_one k zs ys t)) (p.more k (n, o) e) in apart m.0 m.1 m.2))
     (λ (f : is_one k zs ≡ false). f)
-    (true_or_false (is_one k zs))) ∙ p.more k (n, o) e
+    (cases_Bool (is_one k zs))) ∙ p.more k (n, o) e
 
 still_open : (now : Opened) (n : ℕ) (zs : List ℕ) (w : Wish) → AllOpen n (without_all zs now) (number_of (Some w)) → now w.call ≡ Some (n, w.op) → without_all zs now w.call ≡ Some (n, w.op)
 unfolding number_of AllOpen
@@ -136,7 +136,7 @@ record_stands c n db key part t old now xs s p past even wished =
           (wish_like n old (without_all zs now) d k (state_at d k t.node).wish
           (λ call asked waits e wants of_db of_key. not_answered n old now db key xs zs (number_of o.state.wish) p whole call asked e (λ none is_db is_key. not_it d k db key unlike (sym of_db ∙ is_db) (sym of_key ∙ is_key)))
           (s.wishes d k)))
-          (true_or_false (is_it d k db key));
+          (cases_Bool (is_it d k db key));
       commits = λ d. subst (λ (x : Option Committing). Committed n (without_all zs now) d x) (sym (commit_after c n db d key part t))
           (commit_like n old (without_all zs now) d (db_at d t.node).commit (λ y at e. not_answered n old now db key xs zs (number_of o.state.wish) p whole y.call (op.Commit d y.writes) e (λ none is_db is_key. absurd (cc))) (s.commits d));
       waits = λ k asked e. ⊎_elim
@@ -148,9 +148,9 @@ record_stands c n db key part t old now xs s p past even wished =
           (λ (no_co : is_commit asked ≡ false). ⊎_elim
           (λ (it : is_it (db_of asked) (key_of asked) db key ≡ true). absurd (let q = it_is (db_of asked) db (key_of asked) key it in let t = sym (p.all k asked was no_co (sym q.0) (sym q.1)) ∙ no in cc))
           (λ (unlike : is_it (db_of asked) (key_of asked) db key ≡ false). place_wish asked u no_co ∙ ap (λ (r : RecState). wish_call r.wish) (other_state c n db (db_of asked) key (key_of asked) part t s.order unlike) ∙ sym (place_wish asked t.node no_co) ∙ s.waits k asked was)
-          (true_or_false (is_it (db_of asked) (key_of asked) db key)))
-          (true_or_false (is_commit asked))))
-          (true_or_false (is_one k xs));
+          (cases_Bool (is_it (db_of asked) (key_of asked) db key)))
+          (cases_Bool (is_commit asked))))
+          (cases_Bool (is_one k xs));
     }
 
 -- ---- a part that no call begins
@@ -247,10 +247,6 @@ at_record_kept {who} {n} c db key part t even keeps a =
 
 -- ---- a part that a call begins
 
-or_none : (a b : Bool) → (a || b) ≡ false → (a ≡ false) × (b ≡ false)
-or_none true b e = absurd (cc)
-or_none false b e = (refl, e)
-
 not_same : (k call : ℕ) → nat_eq k call ≡ false → k ≢ call
 not_same k call e is = absurd (let t = sym (eq-eqb k call is) ∙ e in cc)
 
@@ -268,10 +264,10 @@ with_at_place n call o who db key x fresh no_commit of_db of_key s = record {
   mine = λ k asked is e. ⊎_elim
       (λ (t : nat_eq k call ≡ true). (let same : o ≡ asked = same_asked (own_call call (n, o) who) (ap (with_call call (n, o) who) (sym (eqb-true k call t)) ∙ e) in
       (ap is_commit (sym same) ∙ no_commit, ap db_of (sym same) ∙ of_db, ap key_of (sym same) ∙ of_key)))
-      (λ (f : nat_eq k call ≡ false). asked_mine n who db key (state_at db key x).wish (s.wishes db key) k asked (or_second (nat_eq k call) _ f is) (sym (other_call call k (n, o) who (not_same k call f)) ∙ e))
-      (true_or_false (nat_eq k call));
+      (λ (f : nat_eq k call ≡ false). asked_mine n who db key (state_at db key x).wish (s.wishes db key) k asked (or_right (nat_eq k call) _ f is) (sym (other_call call k (n, o) who (not_same k call f)) ∙ e))
+      (cases_Bool (nat_eq k call));
   more = λ k v e. other_call call k (n, o) who (none_other who call k v fresh e) ∙ e;
-  others = λ k v no e. sym (other_call call k (n, o) who (not_same k call (or_none (nat_eq k call) _ no).0)) ∙ e;
+  others = λ k v no e. sym (other_call call k (n, o) who (not_same k call (or_parts (nat_eq k call) _ no).0)) ∙ e;
   all = λ k asked e co is_db is_key. or_right (nat_eq k call) _ (place_all n who db key x s k asked e co is_db is_key);
 }
 

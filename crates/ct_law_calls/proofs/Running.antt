@@ -1,6 +1,7 @@
 -- Through every list of steps the calls that wait are exactly the open ones, and no answer is unasked.
 use Rattle.std.proofs.Common.{◌≡◌, ℕ, zero, suc, ◌<◌, true, false, List, [], ◌∷◌, length, replicate, Option, Some, None, refl, sym, ap, ◌∙◌, subst, arith, ⊎_elim}
 use Rattle.std.specs.Prelude.{slice_get, Result, Ok, Err}
+use Rattle.std.proofs.lemmas.Bool.{cases_Bool}
 use Rattle.ct_msg.specs.declared.config.Config.{Config}
 use Rattle.ct_call.specs.Rules.{Rules}
 use Rattle.ct_store.specs.Map.{look}
@@ -17,7 +18,6 @@ use Rattle.ct_cluster.specs.Traces.{OpenCall, asked_in, Ran, idle, taken, ran_on
 use Rattle.ct_cluster.specs.Labels.{Label}
 use Rattle.ct_cluster.specs.declared.step.Step.{Step}
 use Rattle.ct_cluster.specs.declared.step.StepFault.{StepFault}
-use Rattle.ct_law_shown.proofs.Weave.{true_or_false}
 use Rattle.ct_law_wish.proofs.Wishing.{Wishful}
 use Rattle.ct_promise.specs.Promises.{CallsStand}
 use Rattle.ct_law_shown.specs.Waiting.{Outcome, unchanged, came_of, outcome, outcome_of}
@@ -46,7 +46,7 @@ unfolding ran_one applied idle outcome unchanged
 one_logs c rules w log s h = ⊎_elim
     (λ (t : is_allowed s ≡ true). rw t (result_logs c rules w log s (fault_of c w s) (steps_or c rules w s (fault_of c w s)) h refl refl))
     (λ (f : is_allowed s ≡ false). rw f (record { same = refl; calls = h }))
-    (true_or_false (is_allowed s))
+    (cases_Bool (is_allowed s))
 
 asked_one : (c : Config) (rules : Rules) (w : Cluster) (s : Step) (run : Ran) → outcome_of run ≡ outcome c rules w s → NoneUnasked run.trace
 asked_one c rules w s run e = subst (λ (o : Outcome). NoneUnasked o.trace) (sym e) (outcome_asked c rules w s)

@@ -2,7 +2,7 @@
 use Rattle.std.proofs.Common.{◌≡◌, ◌≢◌, ℕ, zero, suc, ◌+◌, Bool, true, false, cond, ◌||◌, List, [], ◌∷◌, ◌++◌, Option, Some, None, refl, sym, ◌∙◌, ap, subst, arith, ⊎_elim}
 use Rattle.std.specs.Prelude.{slice_get, nat_eq, Ok}
 use Rattle.std.specs.List.{AllByRecursion, list_any}
-use Rattle.std.proofs.lemmas.Bool.{cases_eq, eqb-true, eq-eqb, ne_eqb, or_left}
+use Rattle.std.proofs.lemmas.Bool.{cases_eq, eqb-true, eq-eqb, ne_eqb, or_left, or_right, cases_Bool}
 use Rattle.ct_msg.specs.declared.client.Answer.{Answer}
 use Rattle.ct_msg.specs.declared.client.ClientOp.{ClientOp}
 use Rattle.ct_msg.specs.declared.config.Config.{Config}
@@ -19,7 +19,6 @@ use Rattle.ct_cluster.specs.declared.step.Line.TheVariants as line
 use Rattle.ct_cluster.specs.declared.step.PendingCall.{PendingCall}
 use Rattle.ct_cluster.specs.declared.step.Step.{Step}
 use Rattle.ct_cluster.specs.declared.step.Step.TheVariants as step
-use Rattle.ct_law_shown.proofs.Weave.{true_or_false}
 use Rattle.ct_law_node.proofs.Pending.{is_call}
 use Rattle.ct_lcp2.proofs.Choices.{all_append}
 use Rattle.ct_promise.specs.Promises.{CallsStand}
@@ -59,7 +58,7 @@ closed_is call k [] = none_case (nat_eq k call) None
 closed_is call k (x ∷ xs) = ⊎_elim
     (λ (t : nat_eq call x.call ≡ true). ap (λ (b : Bool). asked_in k (cond b (closed call xs) (x ∷ closed call xs))) t ∙ closed_is call k xs ∙ same_end k call x (asked_in k xs) (eqb-true call x.call t))
     (λ (f : nat_eq call x.call ≡ false). ap (λ (b : Bool). asked_in k (cond b (closed call xs) (x ∷ closed call xs))) f ∙ ap (λ (y : Option (ℕ × ClientOp)). cond (nat_eq k x.call) (Some (x.node, x.asked)) y) (closed_is call k xs) ∙ other_end k call x (asked_in k xs) f)
-    (true_or_false (nat_eq call x.call))
+    (cases_Bool (nat_eq call x.call))
 
 opened_is : (w : Cluster) (s : Step) (log : List OpenCall) → opened_by w s (by_log log) ≡ by_log (opened w s log)
 unfolding opened_by opened asked_in
@@ -118,10 +117,6 @@ nodes_open who i (x ∷ ns) all = all_append (IsOpen who) (pending_in i 0 x.dbs)
     (fits_open i who (pending_in i 0 x.dbs) (stands_fit i who x (subst (λ (j : ℕ). Stands j who x) (omega arith) (all 0))))
     (nodes_open who (i + 1) ns (λ k. subst (λ (j : ℕ). Stands j who (or_absent (slice_get ns k))) (next_index i k) (all (suc k))))
 
-right_or : (a b : Bool) → b ≡ true → (a || b) ≡ true
-right_or true b e = refl
-right_or false b e = e
-
 any_more : (f : PendingCall → Bool) (xs ys : List PendingCall) → list_any f (xs ++ ys) ≡ (list_any f xs || list_any f ys)
 any_more f [] ys = refl
 any_more f (x ∷ xs) ys = ap (λ (b : Bool). f x || b) (any_more f xs ys) ∙ or_more (f x) (list_any f xs) (list_any f ys)
@@ -134,7 +129,7 @@ pub nodes_any : (f : PendingCall → Bool) (i k : ℕ) (ns : List Node) → list
 unfolding pending_from or_absent absent pending_in
 nodes_any f i k [] e = absurd (cc)
 nodes_any f i zero (x ∷ ns) e = any_more f (pending_in i 0 x.dbs) (pending_from (i + 1) ns) ∙ or_left _ _ (subst (λ (j : ℕ). list_any f (pending_in j 0 x.dbs) ≡ true) (omega arith) e)
-nodes_any f i (suc k) (x ∷ ns) e = any_more f (pending_in i 0 x.dbs) (pending_from (i + 1) ns) ∙ right_or _ _ (nodes_any f (i + 1) k ns (subst (λ (j : ℕ). list_any f (pending_in j 0 (or_absent (slice_get ns k)).dbs) ≡ true) (next_index i k) e))
+nodes_any f i (suc k) (x ∷ ns) e = any_more f (pending_in i 0 x.dbs) (pending_from (i + 1) ns) ∙ or_right _ _ (nodes_any f (i + 1) k ns (subst (λ (j : ℕ). list_any f (pending_in j 0 (or_absent (slice_get ns k)).dbs) ≡ true) (next_index i k) e))
 
 pending_open : (c : Config) (w : Cluster) (who : Opened) → Calls c w who → AllByRecursion (IsOpen who) (pending w)
 unfolding pending node_at
@@ -177,7 +172,7 @@ answered_right who k a v (x ∷ xs) h any e = ⊎_elim
     ∙ ap (λ (z : ℕ × ClientOp). Answered z.0 z.1 a ∷ []) (same_some (x.node, x.op) v (sym h.0 ∙ ap who (eqb-true x.call k t) ∙ e)))
     (λ (f : nat_eq x.call k ≡ false). ap (λ (b : Bool). cond b (Answered x.node x.op a ∷ []) (answered k a xs)) f
     ∙ answered_right who k a v xs h.1 (sym (ap (λ (b : Bool). b || list_any (is_call k) xs) f) ∙ any) e)
-    (true_or_false (nat_eq x.call k))
+    (cases_Bool (nat_eq x.call k))
 
 right_pending : (c : Config) (w : Cluster) (who : Opened) → Calls c w who → Right (pending w) who
 right_pending c w who h k a v e = answered_right who k a v (pending w) (pending_open c w who h) (pending_any c w who k v.0 v.1 h e) e

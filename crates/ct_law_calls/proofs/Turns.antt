@@ -1,7 +1,7 @@
 -- A turn of a node leaves its calls even: what looks at no record.
 use Rattle.std.proofs.Common.{◌≡◌, ◌≢◌, ℕ, zero, suc, ◌+◌, Bool, true, false, cond, ◌||◌, List, [], ◌∷◌, ◌++◌, length, set, Option, Some, None, refl, sym, ap, ◌∙◌, subst, arith, ⊎_elim}
 use Rattle.std.specs.Prelude.{nat_eq, nat_lt, bytes_eq, slice_get}
-use Rattle.std.proofs.lemmas.Bool.{cond_both, cases_eq, ltb-true, ltb-false}
+use Rattle.std.proofs.lemmas.Bool.{cond_both, cases_eq, ltb-true, ltb-false, cases_Bool}
 use Rattle.std.proofs.lemmas.Slice.Eq.{bytes_eq-Decides}
 use Rattle.ct_bytes.specs.declared.address.Address.{Address}
 use Rattle.ct_msg.specs.declared.client.Answer.TheVariants as answer
@@ -37,7 +37,6 @@ use Rattle.ct_rules_node.proofs.Keys.{changed_seen, changed_ascends, kept_seen, 
 use Rattle.ct_rules_node.proofs.Installed.{install_ascends}
 use Rattle.ct_rules_node.proofs.Rounds.{freezes_each}
 use Rattle.ct_rules_node.proofs.AtRecord.{at_set, at_other, set_past, all_set, at_ascends}
-use Rattle.ct_law_shown.proofs.Weave.{true_or_false}
 use Rattle.ct_law_calls.proofs.Opened.{Opened, without, without_all, answered_by, AllOpen, answered_more, without_more, open_more}
 use Rattle.ct_law_calls.proofs.Accounts.{Stands, Account, Committed, same_stands, same_kept, with_committing, committing_other, commit_ends, commit_stays}
 
@@ -60,7 +59,7 @@ lock_wish key name m order = ⊎_elim
     subst (λ (q : List ℕ). (or_nothing (look q (kept name (record (or_nothing (look name m)) { locked = None }) m))).wish ≡ (or_nothing (look q m)).wish) (sym e)
     (ap (λ (o : Option RecState). (or_nothing o).wish) (kept_seen name _ m order) ∙ kept_wish (record (or_nothing (look name m)) { locked = None }))))
     (λ (unlike : bytes_eq key name ≡ false). ap (λ (o : Option RecState). (or_nothing o).wish) (kept_others name _ m key (other_key key name unlike)))
-    (true_or_false (bytes_eq key name))
+    (cases_Bool (bytes_eq key name))
 
 next_at : (i k : ℕ) → i + 1 + k ≡ i + suc k
 next_at i k = omega arith
@@ -291,7 +290,7 @@ row_wish me members row m key =
     (λ (is : bytes_eq key row.key ≡ true). (let e = (bytes_eq-Decides key row.key).0 is in
     subst (λ (q : List ℕ). (or_nothing (look q (write row.key x m))).wish ≡ (or_nothing (look q m)).wish) (sym e) (ap (λ (o : Option RecState). (or_nothing o).wish) (written m row.key x))))
     (λ (unlike : bytes_eq key row.key ≡ false). ap (λ (o : Option RecState). (or_nothing o).wish) (not_written m row.key key x (other_key key row.key unlike)))
-    (true_or_false (bytes_eq key row.key))
+    (cases_Bool (bytes_eq key row.key))
 
 rows_wish : (me db : ℕ) (members : List ℕ) (rows : List TableRow) (m : Pairs RecState) (key : List ℕ) → (or_nothing (look key (install_rows me db members rows m))).wish ≡ (or_nothing (look key m)).wish
 unfolding install_rows

@@ -4,7 +4,7 @@ use Rattle.std.specs.Prelude.{slice_get}
 use Rattle.std.specs.Ordering.{is_eq}
 use Rattle.std.specs.List.{AllByRecursion, list_any}
 use Rattle.std.specs.List.Sorted.{IsStrictlySortedBy}
-use Rattle.std.proofs.lemmas.Bool.{eq-eqb}
+use Rattle.std.proofs.lemmas.Bool.{eq-eqb, or_right, cases_Bool}
 use Rattle.ct_bytes.specs.Key.{key_cmp}
 use Rattle.ct_msg.specs.Client.{db_of, key_of}
 use Rattle.ct_msg.specs.declared.client.ClientOp.{ClientOp}
@@ -19,7 +19,6 @@ use Rattle.ct_rules_node.proofs.Keys.{below_unseen}
 use Rattle.ct_rules_node.proofs.Installed.{own_key}
 use Rattle.ct_cluster.specs.Cluster.{wished, wished_in, committing, pending_in}
 use Rattle.ct_cluster.specs.declared.step.PendingCall.{PendingCall}
-use Rattle.ct_law_shown.proofs.Weave.{true_or_false}
 use Rattle.ct_law_wish.proofs.Wishing.{Wishful}
 use Rattle.ct_law_node.proofs.Pending.{is_call}
 use Rattle.ct_lcp2.proofs.Choices.{all_append}
@@ -72,17 +71,13 @@ left_case : (b d e : Bool) → (d ≡ true → e ≡ true) → (b || d) ≡ true
 left_case true d e f k = refl
 left_case false d e f k = f k
 
-right_case : (b e : Bool) → e ≡ true → (b || e) ≡ true
-right_case true e k = refl
-right_case false e k = k
-
 left_any : (f : PendingCall → Bool) (xs ys : List PendingCall) → list_any f xs ≡ true → list_any f (xs ++ ys) ≡ true
 left_any f [] ys e = absurd (cc)
 left_any f (x ∷ xs) ys e = left_case (f x) (list_any f xs) (list_any f (xs ++ ys)) (λ k. left_any f xs ys k) e
 
 right_any : (f : PendingCall → Bool) (xs ys : List PendingCall) → list_any f ys ≡ true → list_any f (xs ++ ys) ≡ true
 right_any f [] ys e = e
-right_any f (x ∷ xs) ys e = right_case (f x) (list_any f (xs ++ ys)) (right_any f xs ys e)
+right_any f (x ∷ xs) ys e = or_right (f x) (list_any f (xs ++ ys)) (right_any f xs ys e)
 
 wished_any : (n : ℕ) (o : Option Wish) (w : Wish) → o ≡ Some w → list_any (is_call w.call) (wished n o) ≡ true
 unfolding wished is_call
@@ -161,4 +156,4 @@ stands_any n who x k o s e = ⊎_elim
     subst (λ (i : ℕ). list_any (is_call i) (pending_in n 0 x.dbs) ≡ true) y.2 (commit_any n 0 (db_of o) x.dbs y.0 y.1)))
     (λ (no : is_commit o ≡ false). (let y = wish_there (state_at (db_of o) (key_of o) x).wish k (sym (place_wish o x no) ∙ s.waits k o e) in
     subst (λ (i : ℕ). list_any (is_call i) (pending_in n 0 x.dbs) ≡ true) y.2 (node_any n 0 (db_of o) x.dbs (key_of o) y.0 y.1)))
-    (true_or_false (is_commit o))
+    (cases_Bool (is_commit o))

@@ -1,12 +1,11 @@
 -- How the marks go on: what each change of the ghost owes of them.
 use Rattle.std.proofs.Common.{length, ◌≡◌, ℕ, ◌+◌, ◌<◌, ◌≤◌, Bool, true, false, List, [], ◌∷◌, ◌++◌, refl, sym, ap, ◌∙◌, ⊎_elim, arith, subst, cond, leb, length-append, ◌||◌}
-use Rattle.std.proofs.lemmas.Bool.{lt-leb, le-leb}
+use Rattle.std.proofs.lemmas.Bool.{lt-leb, le-leb, cases_lt}
 use Rattle.std.proofs.lemmas.List.{take_all, take-append-le}
 use Rattle.ct_register.specs.Register.{reading}
 use Rattle.ct_law_world.specs.Labels.{Label, Joined}
 use Rattle.ct_law_world.specs.Marked.{is_removal, is_removed}
 use Rattle.ct_law_fact.proofs.Invariant.{Span, Grows, Empties, Goes, Marking}
-use Rattle.ct_law_fact.proofs.Copies.{lt_cases}
 use Rattle.ct_law_fact.proofs.Rule.{greater}
 
 -- spans
@@ -24,7 +23,7 @@ grows_on a c d h k = record {
   raised = (let t = h.top in ⊎_elim
       (λ (l : a.top < c.top). (let e = k.same a.top l in let s = h.raised in omega arith))
       (λ (l : c.top ≤ a.top). (let e : c.top ≡ a.top = omega arith in let s = h.raised in let y : c.mark a.top ≤ d.mark a.top = subst (λ x. c.mark x ≤ d.mark x) e k.raised in omega arith))
-      (lt_cases a.top c.top));
+      (cases_lt a.top c.top));
 }
 
 pub goes_on : (b : Bool) (a c d : Span) → (b ≡ true → c.top ≤ c.base → ⊥) → Grows c d → Goes b a c → Goes b a d
@@ -105,7 +104,7 @@ module _ (base joint top least : ℕ) (mark place : ℕ → ℕ) (versions : Lis
     agrees = h.agrees;
     low = h.low;
     near = (let n = h.near in omega arith);
-    fits = λ l. (let n = h.near in let u = h.under in ⊎_elim (λ (k : base < top). (let f = h.fits k in omega arith)) (λ (k : top ≤ base). omega arith) (lt_cases base top));
+    fits = λ l. (let n = h.near in let u = h.under in ⊎_elim (λ (k : base < top). (let f = h.fits k in omega arith)) (λ (k : top ≤ base). omega arith) (cases_lt base top));
     under = (let u = h.under in omega arith);
     first = h.first;
     entry = h.entry;

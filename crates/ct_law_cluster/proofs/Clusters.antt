@@ -1,7 +1,7 @@
 -- What holds of the cluster in a generation stays so when a message of a record is delivered or comes again.
 use Rattle.std.proofs.Common.{◌≡◌, ◌≢◌, ℕ, suc, ◌<◌, true, false, List, [], length, Some, sym, ap, ◌∙◌, subst, ⊎_elim}
 use Rattle.std.specs.Prelude.{nat_lt, slice_get}
-use Rattle.std.proofs.lemmas.Bool.{cases_eq, ltb-true}
+use Rattle.std.proofs.lemmas.Bool.{cases_eq, ltb-true, cases_Bool}
 use Rattle.std.proofs.lemmas.List.{length-set}
 use Rattle.ct_msg.specs.declared.config.Config.{Config}
 use Rattle.ct_call.specs.Rules.{Rules}
@@ -11,7 +11,6 @@ use Rattle.ct_rules_node.specs.Turn.{Turn}
 use Rattle.ct_cluster.specs.Cluster.{Cluster, Sent, Fate, is_up, node_at}
 use Rattle.ct_cluster.specs.Steps.{frames_of, with_node, put, with_fate}
 use Rattle.ct_law_shown.specs.Shown.{Era}
-use Rattle.ct_law_shown.proofs.Weave.{true_or_false}
 use Rattle.ct_law_node.proofs.Plain.{AllPlain, plain_more, plain_at, plain_fate}
 use Rattle.ct_law_node.proofs.Pending.{Callers, NodeKnown}
 use Rattle.ct_law_node.proofs.Staying.{NodeStays}
@@ -36,7 +35,7 @@ pub all_known : (c : Config) (era : Era) (rules : Rules) (who : Callers) (w : Cl
 all_known c era rules who w h n = ⊎_elim
     (λ (among : is_among n era.members ≡ true). (h.nodes n among).known)
     (λ (out : is_among n era.members ≡ false). h.left_known n out)
-    (true_or_false (is_among n era.members))
+    (cases_Bool (is_among n era.members))
 
 -- what became of a message changes none of it
 pub fate_stays : (c : Config) (era : Era) (rules : Rules) (who : Callers) (w : Cluster) (k : ℕ) (s : Sent) (f : Fate) → slice_get w.sent k ≡ Some s → ClusterStays c era rules who w → ClusterStays c era rules who (with_fate (suc k) s f w)

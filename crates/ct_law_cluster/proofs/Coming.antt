@@ -1,6 +1,7 @@
 -- A message of a record is delivered, or comes again: the cluster stays so, and the schedules of all records go on.
 use Rattle.std.proofs.Common.{◌≡◌, ℕ, suc, ◌<◌, true, false, ◌&&◌, List, [], ◌++◌, length, Some, refl, sym, ◌∙◌, append-nil, subst, ⊎_elim, Bool}
 use Rattle.std.specs.Prelude.{slice_get}
+use Rattle.std.proofs.lemmas.Bool.{cases_Bool}
 use Rattle.ct_msg.specs.declared.config.Config.{Config}
 use Rattle.ct_frame.specs.Fields.{is_db}
 use Rattle.ct_call.specs.Rules.{Rules}
@@ -15,7 +16,6 @@ use Rattle.ct_cluster.specs.declared.step.PendingCall.{PendingCall}
 use Rattle.ct_law_world.specs.World.{World}
 use Rattle.ct_law_world.specs.World as law
 use Rattle.ct_law_shown.specs.Shown.{Era, project, heard, labels_of, Schedules}
-use Rattle.ct_law_shown.proofs.Weave.{true_or_false}
 use Rattle.ct_law_node.proofs.Pending.{Callers}
 use Rattle.ct_law_node.proofs.Plain.{plain_at}
 use Rattle.ct_law_node.proofs.Staying.{NodeStays}
@@ -61,7 +61,7 @@ comes_on c era rules who w k s r labels es real small h sched at up is spent =
     (λ (out : (is_current s.frame (node_at n w) && has_records (kind_at c r.0)) ≡ false).
     subst (λ (u : Turn). Goes_on c era rules who w.calls n (pending w) (λ db key. project era.number db key w) turn u) (sym (arrives_not c rules n s.frame turn r.0 r.1 is out))
     (goes_nowhere c era rules who w.calls n (pending w) (λ db key. project era.number db key w) turn (h.nodes n t)))
-    (true_or_false (is_current s.frame (node_at n w) && has_records (kind_at c r.0))))
+    (cases_Bool (is_current s.frame (node_at n w) && has_records (kind_at c r.0))))
 
 -- what became of a message does not matter
 pub fate_goes : (c : Config) (era : Era) (rules : Rules) (who : Callers) (w : Cluster) (k : ℕ) (s : Sent) (f : Fate) (labels : List Label) → slice_get w.sent k ≡ Some s → Cluster_goes c era rules who w labels → Cluster_goes c era rules who (with_fate (suc k) s f w) labels

@@ -2,7 +2,7 @@
 use Rattle.std.proofs.Common.{◌≡◌, ℕ, zero, suc, Bool, true, List, [], length, refl, sym, ap, arith, subst, ◌≢◌, ◌+◌, ◌<◌, ◌≤◌, ◌||◌, false, ⊎_elim}
 use Rattle.std.specs.Prelude.{nat_lt, slice_get, replicate, nat_eq}
 use Rattle.std.specs.List.{list_all}
-use Rattle.std.proofs.lemmas.Bool.{cases_eq, eq-eqb, eqb-true, ltb-true, lt-ltb, and_from}
+use Rattle.std.proofs.lemmas.Bool.{cases_eq, eq-eqb, eqb-true, ltb-true, lt-ltb, and_from, or_right}
 use Rattle.ct_msg.specs.declared.config.Config.{Config}
 use Rattle.ct_call.specs.Rules.{Rules}
 use Rattle.ct_store.specs.Map.{look}
@@ -36,12 +36,8 @@ unfolding is_among numbers
 in_numbers i zero n l u = absurd (omega arith)
 in_numbers i (suc k) n l u = ⊎_elim
     (λ (is : n ≡ i). ap (λ (b : Bool). b || is_among n (numbers (i + 1) k)) (eq-eqb n i is))
-    (λ (ne : n ≢ i). second (nat_eq n i) (is_among n (numbers (i + 1) k)) (in_numbers (i + 1) k n (omega arith) (omega arith)))
+    (λ (ne : n ≢ i). or_right (nat_eq n i) (is_among n (numbers (i + 1) k)) (in_numbers (i + 1) k n (omega arith) (omega arith)))
     (cases_eq n i)
-  where
-    second : (a b : Bool) → b ≡ true → (a || b) ≡ true
-    second true b e = refl
-    second false b e = e
 
 pub is_member : (c : Config) (n : ℕ) → nat_lt n c.nodes ≡ true → is_among n (everyone c) ≡ true
 unfolding everyone

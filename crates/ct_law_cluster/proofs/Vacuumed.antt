@@ -1,7 +1,7 @@
 -- Vacuum of a database, at every record of it in turn: the node stays as it was, and the world of every record follows.
 use Rattle.std.proofs.Common.{◌≡◌, ℕ, zero, suc, ◌+◌, ◌<◌, Bool, true, false, cond, ◌||◌, List, [], ◌∷◌, ◌++◌, length, Option, Some, None, refl, sym, ap, ◌∙◌, arith, subst, ⊎_elim}
 use Rattle.std.specs.Prelude.{Ok, nat_eq, nat_lt, not, slice_get}
-use Rattle.std.proofs.lemmas.Bool.{cond_both, eqb-true, eq-eqb, ltb-true, and_parts}
+use Rattle.std.proofs.lemmas.Bool.{cond_both, eqb-true, eq-eqb, ltb-true, and_parts, or_parts, cases_Bool}
 use Rattle.std.specs.Cmp.{nat_cmp_is, nat_cmp_total}
 use Rattle.std.specs.List.{AllByRecursion}
 use Rattle.std.specs.List.Sorted.{IsStrictlyIncreasing, IsStrictlySortedBy}
@@ -39,7 +39,6 @@ use Rattle.ct_cluster.specs.declared.step.PendingCall.{PendingCall}
 use Rattle.ct_law_world.specs.World.{Scene, View, World, Vacuums, happens, put, last, trace, place, starts, own_call, waiting_call}
 use Rattle.ct_law_world.specs.World as law
 use Rattle.ct_law_shown.specs.Shown.{Era, scene, view, heard, told_by_all, labels_of, amid, Finds, Follows, Schedules}
-use Rattle.ct_law_shown.proofs.Weave.{true_or_false}
 use Rattle.ct_law_wish.proofs.Wishing.{Wishful, vacuum_wish}
 use Rattle.ct_law_shown.proofs.Hearing.{heard_more, list_more}
 use Rattle.ct_law_node.proofs.Pending.{Callers, Known, KnownAt}
@@ -181,15 +180,10 @@ vacuum_goes c era rules who calls n db key pend ws t real member small h there a
 
 -- ---- at every record of the database
 
--- a step that was whole at its end was so before
-pub either_whole : (a b : Bool) → (a || b) ≡ false → a ≡ false
-either_whole true b e = absurd (cc)
-either_whole false b e = refl
-
 pub whole_before : (c : Config) (n db : ℕ) (m : Pairs RecState) (t : Turn) → (vacuum_all c n db m t).spent ≡ false → t.spent ≡ false
 unfolding vacuum_all at_record acted
 whole_before c n db [] t e = e
-whole_before c n db (x ∷ m) t e = either_whole t.spent (left_by c n db x.0 (vacuumed n t) t).spent (whole_before c n db m (at_record c n db x.0 (vacuumed n t) t) e)
+whole_before c n db (x ∷ m) t e = (or_parts t.spent (left_by c n db x.0 (vacuumed n t) t).spent (whole_before c n db m (at_record c n db x.0 (vacuumed n t) t) e)).0
 
 -- from a turn t0 on, from which the step came to t
 all_go : (c : Config) (era : Era) (rules : Rules) (who : Callers) (calls n db : ℕ) (m : Pairs RecState) (pend : List PendingCall) (ws : ℕ → List ℕ → World) (t0 t : Turn) → IsEra c era → is_among n era.members ≡ true → is_db db ≡ true →
@@ -230,7 +224,7 @@ vacuums_follow c era rules who w n db ws shown real small member h finds asks sp
     all_go c era rules who w.calls n db (db_at db t.node).records (pending w) ws t t real member (small db inside) inside
     (λ key. subst (λ (v : World). Asks (scene c era rules db key) v) (shown_begins era.number db key n w ws shown) (asks key)) (λ db key. finds_waited db key n (pending w) (state_at db key t.node).wish (finds db key)) same whole))
     (λ (not_so : nat_lt db (length t.node.dbs) ≡ false). subst (λ (u : Turn). Goes_on c era rules who w.calls n (pending w) ws t u) (sym (no_records c n db t not_so)) same)
-    (true_or_false (nat_lt db (length t.node.dbs))))
+    (cases_Bool (nat_lt db (length t.node.dbs))))
     (λ _ whole. same) spent
 
 -- and the cluster goes on

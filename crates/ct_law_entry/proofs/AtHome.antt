@@ -1,7 +1,7 @@
 -- Only the location master of a record has an entry of it: every turn of a node and every step of the cluster leaves it so.
 use Rattle.std.proofs.Common.{◌≡◌, ◌≢◌, ℕ, ◌+◌, Bool, true, false, List, [], ◌∷◌, length, Option, Some, None, refl, sym, ap, ◌∙◌, subst, ⊎_elim}
 use Rattle.std.specs.Prelude.{nat_lt, Result, Ok, Err}
-use Rattle.std.proofs.lemmas.Bool.{cond_both, cases_eq, ltb-true, ltb-false}
+use Rattle.std.proofs.lemmas.Bool.{cond_both, cases_eq, ltb-true, ltb-false, cases_Bool}
 use Rattle.ct_bytes.specs.Words.{others}
 use Rattle.ct_msg.specs.declared.client.ClientOp.{ClientOp}
 use Rattle.ct_msg.specs.declared.client.ClientOp.TheVariants as op
@@ -40,7 +40,7 @@ use Rattle.ct_cluster.specs.declared.step.Step.{Step}
 use Rattle.ct_cluster.specs.declared.step.Step.TheVariants as step
 use Rattle.ct_cluster.specs.declared.step.StepFault.{StepFault}
 use Rattle.ct_law_shown.specs.Shown.{is_it}
-use Rattle.ct_law_shown.proofs.Weave.{true_or_false, it_is}
+use Rattle.ct_law_shown.proofs.Weave.{it_is}
 use Rattle.ct_law_shown.proofs.Amid.{other_state}
 use Rattle.ct_law_node.proofs.Putting.{own_node, other_node}
 use Rattle.ct_law_cluster.proofs.Fed.{fed_is}
@@ -60,7 +60,7 @@ at_record_home c n db key part t none s = record {
       subst (λ (x : ℕ). (state_at x k (at_record c n db key part t).node).entry ≡ None) p.0 (subst (λ (x : List ℕ). (state_at db x (at_record c n db key part t).node).entry ≡ None) p.1
       (entry_after c n db key part t s.order (none (place_of c n db key t.node) (view db key t.node) (own d k p.1 ne) (s.entry db key (own d k p.1 ne)))))))
       (λ (unlike : is_it d k db key ≡ false). ap (λ (x : RecState). x.entry) (other_state c n db d key k part t s.order unlike) ∙ s.entry d k ne)
-      (true_or_false (is_it d k db key));
+      (cases_Bool (is_it d k db key));
 }
   where
     own : (d : ℕ) (k : List ℕ) → key ≡ k → n ≢ master_of t.node.members k → n ≢ master_of t.node.members key
@@ -278,4 +278,4 @@ unfolding outcome unchanged
 step_home c rules w s all = ⊎_elim
     (λ (t : is_allowed s ≡ true). rw t (taken_home c rules w s (applied c rules w s) all refl))
     (λ (f : is_allowed s ≡ false). rw f all)
-    (true_or_false (is_allowed s))
+    (cases_Bool (is_allowed s))

@@ -1,5 +1,6 @@
 -- Where the entries and copies of records stand in a generation: at its start, and while it goes on.
 use Rattle.std.proofs.Common.{◌≡◌, ◌≢◌, ℕ, ◌≤◌, true, false, List, [], Option, Some, None, refl, sym, ap, ◌∙◌, subst, ⊎_elim}
+use Rattle.std.proofs.lemmas.Bool.{cases_Bool}
 use Rattle.ct_msg.specs.declared.config.Config.{Config}
 use Rattle.ct_frame.specs.declared.frame.TableRow.{TableRow}
 use Rattle.ct_frame.specs.declared.header.RecCopy.{RecCopy}
@@ -17,7 +18,6 @@ use Rattle.ct_register.specs.Lines.{Lines}
 use Rattle.ct_promise.specs.Born.{Rows, born_state, IsBornNode, HasLeft, IsBornWith}
 use Rattle.ct_law_world.specs.World.{World}
 use Rattle.ct_law_shown.specs.Shown.{Era}
-use Rattle.ct_law_shown.proofs.Weave.{true_or_false}
 use Rattle.ct_law_node.proofs.Pending.{Callers}
 use Rattle.ct_law_cluster.proofs.Clusters.{ClusterStays}
 use Rattle.ct_law_cluster.proofs.Opening.{opened_world}
@@ -49,7 +49,7 @@ born_node_home config g members row n x h = record {
       (λ (t : has_records (kind_at config db) ≡ true). ap (λ (s : RecState). s.entry) (h.records db key t)
       ∙ born_none n (master_of members key) (row db key) (state_at db key x).wish (λ is. ne (is ∙ ap (λ (ms : List ℕ). master_of ms key) (sym h.knows))))
       (λ (f : has_records (kind_at config db) ≡ false). no_records db key x (h.others db f))
-      (true_or_false (has_records (kind_at config db)));
+      (cases_Bool (has_records (kind_at config db)));
 }
 
 left_home : (config : Config) (n : ℕ) (x : Node) → HasLeft config n x → AtHome n (record { node = x; outs = []; spent = false })
@@ -61,7 +61,7 @@ pub born_home : (config : Config) (g : ℕ) (members : List ℕ) (row : Rows) (w
 born_home config g members row w h n = ⊎_elim
     (λ (t : is_among n members ≡ true). born_node_home config g members row n (node_at n w) (h.born n t))
     (λ (f : is_among n members ≡ false). left_home config n (node_at n w) (h.left n f))
-    (true_or_false (is_among n members))
+    (cases_Bool (is_among n members))
 
 -- ---- while the generation goes on
 
@@ -77,10 +77,10 @@ lined c era rules who w r real stays inside home = record {
     has = λ n db key d has. ⊎_elim
         (λ (t : is_among n era.members ≡ true). inside n t)
         (λ (f : is_among n era.members ≡ false). absurd (no_copy (state_at db key (node_at n w)) d (stays.left n f db key) has))
-        (true_or_false (is_among n era.members));
+        (cases_Bool (is_among n era.members));
   };
   entry = λ n db key ne. ⊎_elim
       (λ (t : is_among n era.members ≡ true). (home n).entry db key (λ is. ne (is ∙ ap (λ (ms : List ℕ). master_of ms key) (stays.nodes n t).knows)))
       (λ (f : is_among n era.members ≡ false). ap (λ (s : RecState). s.entry) (stays.left n f db key))
-      (true_or_false (is_among n era.members));
+      (cases_Bool (is_among n era.members));
 }

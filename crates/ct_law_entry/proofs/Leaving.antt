@@ -1,7 +1,7 @@
 -- A turn of a node leaves entries to location masters: what looks at no record.
 use Rattle.std.proofs.Common.{◌≡◌, ◌≢◌, ℕ, zero, suc, ◌+◌, Bool, true, false, cond, List, [], ◌∷◌, length, set, Option, Some, None, refl, sym, ap, ◌∙◌, subst, ⊎_elim}
 use Rattle.std.specs.Prelude.{nat_eq, nat_lt, bytes_eq, slice_get}
-use Rattle.std.proofs.lemmas.Bool.{cond_both, cases_eq, eqb-true, ltb-true, ltb-false}
+use Rattle.std.proofs.lemmas.Bool.{cond_both, cases_eq, eqb-true, ltb-true, ltb-false, cases_Bool}
 use Rattle.std.proofs.lemmas.Slice.Eq.{bytes_eq-Decides}
 use Rattle.ct_bytes.specs.declared.address.Address.{Address}
 use Rattle.ct_msg.specs.declared.client.Answer.{Answer}
@@ -34,7 +34,6 @@ use Rattle.ct_rules_node.proofs.Keys.{changed_seen, changed_ascends, kept_seen, 
 use Rattle.ct_rules_node.proofs.Installed.{install_ascends}
 use Rattle.ct_rules_node.proofs.Rounds.{freezes_each}
 use Rattle.ct_rules_node.proofs.AtRecord.{at_set, at_other, set_past, all_set, at_ascends}
-use Rattle.ct_law_shown.proofs.Weave.{true_or_false}
 use Rattle.ct_law_removal.proofs.Removing.{kept_entry}
 
 -- the node has no entry of a record whose location master it is not; its records are in order
@@ -52,7 +51,7 @@ kept_none k q s m order own h = ⊎_elim
     (λ (is : bytes_eq q k ≡ true). (let e = (bytes_eq-Decides q k).0 is in
     subst (λ (x : List ℕ). (or_nothing (look x (kept k s m))).entry ≡ None) (sym e) (ap (λ (o : Option RecState). (or_nothing o).entry) (kept_seen k s m order) ∙ kept_entry s (own e))))
     (λ (unlike : bytes_eq q k ≡ false). ap (λ (o : Option RecState). (or_nothing o).entry) (kept_others k s m q (other_key q k unlike)) ∙ h)
-    (true_or_false (bytes_eq q k))
+    (cases_Bool (bytes_eq q k))
 
 changed_none : (f : RecState → RecState) (o : Option RecState) → ((s : RecState) → (f s).entry ≡ None) → (or_nothing (changed_at f o)).entry ≡ None
 unfolding changed_at or_nothing
@@ -246,7 +245,7 @@ row_none me members row m key ne h =
     subst (λ (q : List ℕ). (or_nothing (look q (write row.key x m))).entry ≡ None) (sym e)
     (ap (λ (o : Option RecState). (or_nothing o).entry) (written m row.key x) ∙ own_entry me (master_of members row.key) row (λ me_is. ne (me_is ∙ ap (λ (q : List ℕ). master_of members q) (sym e))))))
     (λ (unlike : bytes_eq key row.key ≡ false). ap (λ (o : Option RecState). (or_nothing o).entry) (not_written m row.key key x (other_key key row.key unlike)) ∙ h)
-    (true_or_false (bytes_eq key row.key))
+    (cases_Bool (bytes_eq key row.key))
 
 rows_none : (me db : ℕ) (members : List ℕ) (rows : List TableRow) (m : Pairs RecState) (key : List ℕ) → me ≢ master_of members key → (or_nothing (look key m)).entry ≡ None → (or_nothing (look key (install_rows me db members rows m))).entry ≡ None
 unfolding install_rows

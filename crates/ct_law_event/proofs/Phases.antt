@@ -1,6 +1,6 @@
 -- Small lemmas of a vacuum: whom it misses, its phases, and copies that are absent or far enough.
 use Rattle.std.proofs.Common.{◌≡◌, ◌≢◌, ◌⊎◌, ℕ, ◌≤◌, Bool, true, false, Option, Some, None, List, [], ◌∷◌, refl, ap, inl, inr, ⊎_elim, arith, ◌&&◌, ◌==◌, eqb-true}
-use Rattle.std.proofs.lemmas.Bool.{and_parts, cases_eq, false_from_ne_true}
+use Rattle.std.proofs.lemmas.Bool.{and_parts, cases_eq, false_from_ne_true, true_from_ne_false}
 use Rattle.ct_bytes.specs.Words.{is_nil, others}
 use Rattle.ct_bytes.proofs.Words.{nil_is}
 use Rattle.ct_deleg.specs.Awaited.{is_last}
@@ -20,10 +20,6 @@ fewer_has k n (m ∷ ms) h = grind (arith, fewer_has k n ms)
 
 pub not_has : (k n : ℕ) (ns : List ℕ) → k ≢ n → has_node k (others n ns) ≡ false → has_node k ns ≡ false
 not_has k n ns ne e = false_from_ne_true _ (λ t. (let a = has-without k n ns ne t in cc))
-
-pub bool_true : (b : Bool) → (b ≡ false → ⊥) → b ≡ true
-bool_true true h = refl
-bool_true false h = absurd (h refl)
 
 pub rank_none : (c : Option Copy) → c ≡ None → rank c ≡ 0
 unfolding rank

@@ -1,18 +1,18 @@
 -- The frames of a vacuum, and the vacuum event.
 use Rattle.std.proofs.Common.{◌≡◌, ◌≢◌, ℕ, ◌+◌, ◌<◌, ◌≤◌, true, false, Option, Some, None, List, [], ◌∷◌, take, refl, sym, ap, ◌∙◌, inl, inr, ⊎_elim, arith, subst, ◌&&◌, ◌==◌, eqb-true}
-use Rattle.std.proofs.lemmas.Bool.{and_parts, cond_both, cases_eq, eq-eqb, eqb-false, false_from_ne_true}
+use Rattle.std.proofs.lemmas.Bool.{and_parts, cond_both, cases_eq, eq-eqb, eqb-false, false_from_ne_true, true_from_ne_false, cases_lt}
 use Rattle.ct_bytes.proofs.Words.{nil_is}
 use Rattle.ct_bytes.specs.Words.{others, is_nil}
 use Rattle.ct_law_fact.proofs.Invariant.{span_of, Start, readers_of, Ghost, Past, Emptied, Joined, VStoreAt, VDeleteAt, Says, VacuumAt, NodeInv, Emptying, GlobalInv, Holds, Kept}
 use Rattle.ct_law_fact.proofs.Nodes.{rank_of, past_none}
-use Rattle.ct_law_fact.proofs.Copies.{touched, NodeInv-raised, NodeInv-dropped, raised_past, dropped_past, lt_cases, whole_reading}
+use Rattle.ct_law_fact.proofs.Copies.{touched, NodeInv-raised, NodeInv-dropped, raised_past, dropped_past, whole_reading}
 use Rattle.ct_law_change.proofs.Holder.{Change, Shift, Own}
 use Rattle.ct_law_change.proofs.Markings.{grows_none, grows_top, marking_top, marking_deleting}
 use Rattle.ct_law_change.proofs.Parts.{nobody_has, readers_idle, granted_end}
 use Rattle.ct_law_change.proofs.Acts.{send_holds, node_holds, own_holds, Others, master_copy, calm_other, below_top, give_holds, free_parts}
 use Rattle.ct_law_change.proofs.Revoking.{risen_is, Came}
 use Rattle.ct_law_event.proofs.Finish.{finish_holds}
-use Rattle.ct_law_event.proofs.Phases.{fewer_has, not_has, bool_true, rank_none, none_rank, value_none, past_is, phase_storing, phase_deleting, in_parts, last_parts}
+use Rattle.ct_law_event.proofs.Phases.{fewer_has, not_has, rank_none, none_rank, value_none, past_is, phase_storing, phase_deleting, in_parts, last_parts}
 use Rattle.std.specs.Prelude.{is_none, List}
 use Rattle.ct_call.specs.Rules.{Rules}
 use Rattle.ct_deleg.specs.Tracked.{Revocation}
@@ -53,14 +53,14 @@ unfolding Emptied
 raised_empty low place versions a lo e = ⊎_elim
     (λ (l : a < low). rw (greater_low a low (omega arith)) lo)
     (λ (l : low ≤ a). rw (greater_high a low l) e)
-    (lt_cases a low)
+    (cases_lt a low)
 
 raised_joined : (low : ℕ) (place : ℕ → ℕ) (a : ℕ) → ((x y : ℕ) → x ≤ y → place x ≤ place y) → Joined place a → Joined (raised low place) a
 unfolding Joined
 raised_joined low place a rises e = rw (greater_low 0 low (omega arith)) (⊎_elim
     (λ (l : a < low). rw (greater_low a low (omega arith)) (omega arith))
     (λ (l : low ≤ a). rw (greater_high a low l) (let u = rises 0 low (omega arith) in omega arith))
-    (lt_cases a low))
+    (cases_lt a low))
 
 change_deleting : (ps : List ℕ) (m : ℕ) (g : Ghost) (v : Vacuuming) → GlobalInv ps m g → Emptied g.place g.register.versions (v.rsn + 1) → Change g (deleting v g)
 change_deleting ps m g v all empty = record {
@@ -157,7 +157,7 @@ module _ (rules : Rules) (ps : List ℕ) (m me : ℕ) (nodes : ℕ → Node) (fr
       f = h.good.all.vacuum v is
 
       here : is_here o.node.copy ≡ true
-      here = bool_true _ (λ a. (let k = (h.good.mine.nobody (at ∙ sym (h.good.all.vacuum v is).at) a).2 in cc))
+      here = true_from_ne_false _ (λ a. (let k = (h.good.mine.nobody (at ∙ sym (h.good.all.vacuum v is).at) a).2 in cc))
 
       go : (w : Option Revocation) → o.node.revoking ≡ w → w ≡ None
       go None e = refl

@@ -4,6 +4,7 @@ use Rattle.std.proofs.lemmas.List.{take_all}
 use Rattle.ct_law_fact.proofs.Invariant.{Ghost, Ungranted, Past, Emptied, Joined, Says, VacuumAt, NodeInv, GlobalInv}
 use Rattle.ct_law_fact.proofs.Nodes.{past_top, vacuum_top}
 use Rattle.std.specs.Prelude.{List}
+use Rattle.std.proofs.lemmas.Bool.{cases_lt}
 use Rattle.ct_vacuum.specs.Vacuum.{Vacuuming}
 use Rattle.ct_rules.specs.declared.state.Entry.{Entry}
 use Rattle.ct_register.specs.Register.{reading}
@@ -75,15 +76,12 @@ says_touched g n c d next now under t from to (VStored rsn) k = λ p. (let r = k
 says_touched g n c d next now under t from to (VDeleted rsn) k = λ p. (let r = k p in record { below = r.below; past = touch_past g c d (rsn + 2) t r.past })
 says_touched g n c d next now under t from to _ k = k
 
-pub lt_cases : (a b : ℕ) → (a < b) ⊎ (b ≤ a)
-lt_cases a b = grind arith
-
 pub NodeInv-touched : (g : Ghost) (n : ℕ) (node : Node) (d : Option Copy) → node.fresh ≡ false → is_here node.copy ≡ false → Touch g node.copy d → NodeInv g n node → NodeInv g n (touched d node)
 NodeInv-touched g n node d joined away t h =
     let under : n ≡ g.entry.holder → (rank node.copy ≤ g.entry.least) × (g.top ≤ g.entry.least) = λ e. ⊎_elim
     (λ (a : g.entry.least < rank node.copy). absurd (let k = (h.holds e a).0 in let l = t.low in omega arith))
     (λ (a : rank node.copy ≤ g.entry.least). (a, (h.passing e a).0))
-    (lt_cases g.entry.least (rank node.copy)) in
+    (cases_lt g.entry.least (rank node.copy)) in
     let low = t.now in
     let more = t.more in
     let seen = h.seen in record {

@@ -1,7 +1,7 @@
 -- A Freeze at any node, and what a leader makes of a FreezeAck and of a PushAck.
 use Rattle.std.proofs.Common.{◌≡◌, ◌≢◌, ℕ, Bool, true, false, cond, ◌&&◌, ◌||◌, List, [], ◌∷◌, ◌++◌, append-nil, append_assoc, inl, inr, ⊎_elim, refl, sym, ap, ◌∙◌, subst}
 use Rattle.std.specs.List.{AllByRecursion}
-use Rattle.std.proofs.lemmas.Bool.{cases_eq, and_parts}
+use Rattle.std.proofs.lemmas.Bool.{cases_eq, and_parts, or_right, cases_Bool}
 use Rattle.ct_bytes.specs.Words.{others}
 use Rattle.ct_msg.specs.declared.config.Config.{Config}
 use Rattle.ct_frame.specs.declared.event.Event.TheVariants as event
@@ -17,7 +17,6 @@ use Rattle.ct_rules_node.specs.Steps.{happens}
 use Rattle.ct_cluster.specs.Cluster.{Cluster, node_at, pending}
 use Rattle.ct_register.specs.Lines.{Lines}
 use Rattle.ct_promise.specs.Promises.{IsConfig}
-use Rattle.ct_law_shown.proofs.Weave.{true_or_false}
 use Rattle.ct_law_line.proofs.Ages.{Ages}
 use Rattle.ct_law_line.proofs.Lives.{Lives, MailSays, RoundSays, ReplySays, LeadSays, IsTicket, WasSent}
 use Rattle.ct_law_line.proofs.Faces.{Turned}
@@ -76,7 +75,7 @@ pub freezes_turned : (c : Config) (rules : Rules) (w : Cluster) (r : Lines) (h :
 freezes_turned c rules w r h n f members config there is come = ⊎_elim
     (λ (e : (is_sound c f && nat_lt (node_at n w).promise f.generation) ≡ true). (let p = and_parts _ _ e in freeze_turned c rules w r h n f members config is come p.0 p.1 (h.nodes n there).persist))
     (λ (e : (is_sound c f && nat_lt (node_at n w).promise f.generation) ≡ false). freeze_again_turned c rules w r h n f members there is e)
-    (true_or_false (is_sound c f && nat_lt (node_at n w).promise f.generation))
+    (cases_Bool (is_sound c f && nat_lt (node_at n w).promise f.generation))
 
 -- ---- who is missing still
 
@@ -86,11 +85,7 @@ among_others m n [] e = e
 among_others m n (k ∷ ns) e = either (nat_eq k n) e (λ i. among_others m n ns i)
   where
     either : (b : Bool) → list_any (nat_eq m) (cond (not b) (k ∷ others n ns) (others n ns)) ≡ true → (list_any (nat_eq m) (others n ns) ≡ true → list_any (nat_eq m) ns ≡ true) → (nat_eq m k || list_any (nat_eq m) ns) ≡ true
-    either true i rest = later (nat_eq m k) _ (rest i)
-      where
-        later : (p q : Bool) → q ≡ true → (p || q) ≡ true
-        later true q e = refl
-        later false q e = e
+    either true i rest = or_right (nat_eq m k) _ (rest i)
     either false i rest = both (nat_eq m k) _ _ i rest
       where
         both : (p q s : Bool) → (p || q) ≡ true → (q ≡ true → s ≡ true) → (p || s) ≡ true

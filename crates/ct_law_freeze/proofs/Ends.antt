@@ -1,7 +1,7 @@
 -- A Freeze ends the commits that wait, and the locks that they stand under: what that makes of the node.
 use Rattle.std.proofs.Common.{◌≡◌, ◌≢◌, ℕ, zero, suc, ◌+◌, ◌<◌, Bool, true, false, cond, ◌&&◌, ◌||◌, List, [], ◌∷◌, ◌++◌, length, set, Option, None, Some, append-nil, append_assoc, inl, inr, ⊎_elim, refl, sym, ap, ◌∙◌, subst, arith}
 use Rattle.std.specs.Prelude.{◌⊎◌, nat_eq, is_some, slice_get}
-use Rattle.std.proofs.lemmas.Bool.{cases_eq, ne_eqb, eq-eqb}
+use Rattle.std.proofs.lemmas.Bool.{cases_eq, ne_eqb, eq-eqb, or_parts, cases_Bool}
 use Rattle.std.proofs.lemmas.List.{length-set}
 use Rattle.ct_deleg.specs.Tracked.{untracked}
 use Rattle.ct_msg.specs.declared.client.Answer.TheVariants as answer
@@ -22,7 +22,7 @@ use Rattle.ct_rules_node.specs.Rounds.{ends_lock, ends_commit, ends_commits}
 use Rattle.ct_rules_node.specs.Laws.{AllAscend, NodeAscends}
 use Rattle.ct_rules_node.proofs.AtRecord.{at_other, all_set, at_ascends, moves_at, blank_is_nothing}
 use Rattle.ct_law_shown.specs.Shown.{is_it}
-use Rattle.ct_law_shown.proofs.Weave.{it_is, true_or_false}
+use Rattle.ct_law_shown.proofs.Weave.{it_is}
 use Rattle.ct_law_shown.proofs.Amid.{other_state}
 
 -- is this the lock of a commit that waits? i is the number of the first of these databases
@@ -99,7 +99,7 @@ freed_state c name t db key order some bare = ⊎_elim
     ((moves_at c 0 0 name (frees (unlock (state_at 0 name t.node))) t order).seen some ∙ blank_is_nothing (unlock (state_at 0 name t.node)) (bare 0 name))))
     ∙ sym (ap (λ (b : Bool). cond b (unlock (state_at db key t.node)) (state_at db key t.node)) is))
     (λ (no : is_it db key 0 name ≡ false). other_state c 0 0 db name key (frees (unlock (state_at 0 name t.node))) t order no ∙ sym (ap (λ (b : Bool). cond b (unlock (state_at db key t.node)) (state_at db key t.node)) no))
-    (true_or_false (is_it db key 0 name))
+    (cases_Bool (is_it db key 0 name))
 
 freed_order : (c : Config) (name : List ℕ) (t : Turn) → NodeAscends t.node → NodeAscends (with_state 0 name (unlock (state_at 0 name t.node)) t.node)
 unfolding at_record acted put_back with_state with_db db_at node.view
@@ -199,11 +199,7 @@ gone_past i zero (d ∷ ds) e = here d.commit (is_gone (i + 1) ds (i + zero)) e
     here : (o : Option Committing) (b : Bool) → ((is_some o && nat_eq (i + zero) i) || b) ≡ false → o ≡ None
     here None b e = refl
     here (Some x) b e = absurd (let f = eq-eqb (i + zero) i (omega arith) in grind arith)
-gone_past i (suc k) (d ∷ ds) e = gone_past (i + 1) k ds (subst (λ (j : ℕ). is_gone (i + 1) ds j ≡ false) (let j : i + suc k ≡ (i + 1) + k = omega arith in j) (later _ _ e))
-  where
-    later : (a b : Bool) → (a || b) ≡ false → b ≡ false
-    later true b e = absurd (cc)
-    later false b e = e
+gone_past i (suc k) (d ∷ ds) e = gone_past (i + 1) k ds (subst (λ (j : ℕ). is_gone (i + 1) ds j ≡ false) (let j : i + suc k ≡ (i + 1) + k = omega arith in j) (or_parts _ _ e).1)
 
 -- so all commits are gone
 pub none_left : (x : Node) (db : ℕ) → cond (is_gone 0 x.dbs db) None (db_at db x).commit ≡ None
@@ -221,7 +217,7 @@ Lock_of c i ds db key = (k : ℕ) × (x : Committing) × ((or_untouched (slice_g
 pub ended_is : (c : Config) (i : ℕ) (ds : List Database) (db : ℕ) (key : List ℕ) → is_ended c i ds db key ≡ true → Lock_of c i ds db key
 unfolding or_untouched
 ended_is c i [] db key e = absurd (cc)
-ended_is c i (d ∷ ds) db key e = pick d.commit refl (true_or_false (is_it db key 0 (name_of c i))) (λ t. ended_is c (i + 1) ds db key t)
+ended_is c i (d ∷ ds) db key e = pick d.commit refl (cases_Bool (is_it db key 0 (name_of c i))) (λ t. ended_is c (i + 1) ds db key t)
   where
     rest : (is_ended c (i + 1) ds db key ≡ true → Lock_of c (i + 1) ds db key) → is_ended c (i + 1) ds db key ≡ true → Lock_of c i (d ∷ ds) db key
     rest more t = (let h = more t in (suc h.0, h.1, h.2, h.3, h.4 ∙ ap (name_of c) (let j : (i + 1) + h.0 ≡ i + suc h.0 = omega arith in j)))

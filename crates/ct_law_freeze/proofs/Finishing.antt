@@ -1,6 +1,6 @@
 -- A store, an unlock and a read at a node that freezes, each as a whole turn.
 use Rattle.std.proofs.Common.{◌≡◌, ◌≢◌, ℕ, ◌+◌, ◌<◌, Bool, true, false, cond, ◌||◌, List, [], ◌∷◌, ◌++◌, length, Option, None, Some, inl, inr, ⊎_elim, refl, sym, ap, ◌∙◌, subst, arith}
-use Rattle.std.proofs.lemmas.Bool.{cases_eq, eq-eqb}
+use Rattle.std.proofs.lemmas.Bool.{cases_eq, eq-eqb, or_right}
 use Rattle.ct_msg.specs.Client.{db_of}
 use Rattle.ct_msg.specs.declared.client.ClientOp.TheVariants as op
 use Rattle.ct_msg.specs.declared.config.Config.{Config}
@@ -158,12 +158,8 @@ module _ (c : Config) (rules : Rules) (w : Cluster) (r : Lines) (h : Lives c rul
   joined : (a.worlds (r.line n) db key).joined n ≡ true
   joined = (h.lines.line (r.line n) (own.named lined).0).joined db key n ∙ ⊎_elim
       (λ (i : r.line n ≡ 1). ap (λ (b : Bool). b || r.installed (r.line n) n) (eq-eqb (r.line n) 1 i))
-      (λ (no : r.line n ≢ 1). second (nat_eq (r.line n) 1) (r.installed (r.line n) n) (own.done (let z = lined in omega arith)))
+      (λ (no : r.line n ≢ 1). or_right (nat_eq (r.line n) 1) (r.installed (r.line n) n) (own.done (let z = lined in omega arith)))
       (cases_eq (r.line n) 1)
-    where
-      second : (p q : Bool) → q ≡ true → (p || q) ≡ true
-      second true q i = refl
-      second false q i = i
 
   member : is_among n (r.members (r.line n)) ≡ true
   member = (own.named lined).2

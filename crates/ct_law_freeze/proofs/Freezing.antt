@@ -1,7 +1,7 @@
 -- The arrival of a Freeze above the promise: the registers accept what is told, all lines live on, and so does the node.
 use Rattle.std.proofs.Common.{◌≡◌, ◌≢◌, ℕ, zero, suc, ◌+◌, ◌<◌, Bool, true, false, cond, ◌||◌, List, [], ◌∷◌, ◌++◌, length, Option, None, Some, ⊎_elim, refl, sym, ap, ◌∙◌, subst, arith}
 use Rattle.std.specs.Prelude.{nat_eq, is_some, slice_get}
-use Rattle.std.proofs.lemmas.Bool.{cases_eq, eq-eqb}
+use Rattle.std.proofs.lemmas.Bool.{cases_eq, eq-eqb, or_right}
 use Rattle.ct_msg.specs.declared.config.Config.{Config}
 use Rattle.ct_frame.specs.declared.event.Out.{Out}
 use Rattle.ct_frame.specs.declared.frame.Frame.{Frame}
@@ -116,12 +116,8 @@ freed_there c rules who w v r a n pend x config live same ne s own untold = reco
     there : (nat_eq (r.line n) 1 || r.installed (r.line n) n) ≡ true
     there = ⊎_elim
         (λ (e : r.line n ≡ 1). ap (λ (b : Bool). b || r.installed (r.line n) n) (eq-eqb (r.line n) 1 e))
-        (λ (no : r.line n ≢ 1). second (nat_eq (r.line n) 1) (r.installed (r.line n) n) (own.done (omega arith)))
+        (λ (no : r.line n ≢ 1). or_right (nat_eq (r.line n) 1) (r.installed (r.line n) n) (own.done (omega arith)))
         (cases_eq (r.line n) 1)
-      where
-        second : (p q : Bool) → q ≡ true → (p || q) ≡ true
-        second true q e = refl
-        second false q e = e
 
     locked : (db : ℕ) (key : List ℕ) → is_ended c 0 x.dbs db key ≡ true → is_some ((a.worlds (r.line n) db key).nodes n).state.locked ≡ true
     locked db key e = (let k = ended_is c 0 x.dbs db key e in

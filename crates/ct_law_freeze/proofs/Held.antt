@@ -1,7 +1,7 @@
 -- What a client does at a node that freezes, under a lock, as a whole turn.
 use Rattle.std.proofs.Common.{◌≡◌, ◌≢◌, ℕ, ◌+◌, ◌≤◌, Bool, true, false, cond, ◌||◌, List, [], ◌∷◌, ◌++◌, length, Option, None, Some, append-nil, ⊎_elim, refl, sym, ap, ◌∙◌, subst, arith}
 use Rattle.std.specs.List.{AllByRecursion}
-use Rattle.std.proofs.lemmas.Bool.{cases_eq, eq-eqb}
+use Rattle.std.proofs.lemmas.Bool.{cases_eq, eq-eqb, or_right, cases_Bool}
 use Rattle.ct_msg.specs.declared.config.Config.{Config}
 use Rattle.ct_frame.specs.declared.event.Out.{Out}
 use Rattle.ct_frame.specs.declared.event.Out.TheVariants as out
@@ -32,7 +32,6 @@ use Rattle.ct_law_record.proofs.MarkedRun.{marks_of}
 use Rattle.ct_law_shown.specs.Shown.{scene, view, mails, labels_of}
 use Rattle.ct_law_wish.proofs.Wishing.{Wishful}
 use Rattle.ct_law_shown.proofs.Hearing.{mails_more}
-use Rattle.ct_law_shown.proofs.Weave.{true_or_false}
 use Rattle.ct_law_node.proofs.Pending.{Callers, Known, KnownAt, CommitFits, NodeKnown}
 use Rattle.ct_law_node.proofs.Staying.{Of_records}
 use Rattle.ct_law_node.proofs.Forming.{Is_formed}
@@ -94,7 +93,7 @@ held_each P x y db key st g l z new old d k = ⊎_elim
     (λ (t : is_it d k db key ≡ true). (let p = it_is d db k key t in
     subst (λ (q : List ℕ). P d q (state_at d q y)) p.1 (subst (λ (j : ℕ). P j key (state_at j key y)) p.0 (subst (λ (s : RecState). P db key s) (sym z.own) new))))
     (λ (f : is_it d k db key ≡ false). subst (λ (s : RecState). P d k s) (sym (z.other d k f)) (old d k f))
-    (true_or_false (is_it d k db key))
+    (cases_Bool (is_it d k db key))
 
 -- ---- the calls that wait
 
@@ -245,12 +244,8 @@ module _ (c : Config) (rules : Rules) (w : Cluster) (r : Lines) (h : Lives c rul
   joined : (nat_eq (r.line n) 1 || r.installed (r.line n) n) ≡ true
   joined = ⊎_elim
       (λ (i : r.line n ≡ 1). ap (λ (b : Bool). b || r.installed (r.line n) n) (eq-eqb (r.line n) 1 i))
-      (λ (no : r.line n ≢ 1). second (nat_eq (r.line n) 1) (r.installed (r.line n) n) (own.done (let z = lined in omega arith)))
+      (λ (no : r.line n ≢ 1). or_right (nat_eq (r.line n) 1) (r.installed (r.line n) n) (own.done (let z = lined in omega arith)))
       (cases_eq (r.line n) 1)
-    where
-      second : (p q : Bool) → q ≡ true → (p || q) ≡ true
-      second true q i = refl
-      second false q i = i
 
   holding : Holding.Holding c rules w v r a n (r.line n) db key e left asked given
   holding = record { line = refl; born = (own.named lined).0; member = (own.named lined).2; there = joined; so = t.so; rsn = t.rsn; same = same_mails }
@@ -282,7 +277,7 @@ module _ (c : Config) (rules : Rules) (w : Cluster) (r : Lines) (h : Lives c rul
           (subst (λ (j : ℕ). x.next ≡ ((b.worlds (r.line n) j key).nodes n).next) p.0
           ((rested db key).next ∙ ap (λ (z : View). z.next) (sym (Holding.own_view c rules w v r a n (r.line n) db key e left asked given h.lines holding))))))
           (λ (f : is_it d k db key ≡ false). (rested d k).next ∙ ap (λ (z : View). z.next) (sym (Holding.other_view c rules w v r a n (r.line n) db key e left asked given h.lines holding d k f)))
-          (true_or_false (is_it d k db key))
+          (cases_Bool (is_it d k db key))
 
   rest : Rest_after s b n g y
   unfolding PhaseSays
@@ -318,7 +313,7 @@ module _ (c : Config) (rules : Rules) (w : Cluster) (r : Lines) (h : Lives c rul
       (subst (λ (j : ℕ). Is_formed (scene c (era_of r a (r.line n)) rules j key) n (view j key y)) p.0
       (subst (λ (z : View). Is_formed (scene c (era_of r a (r.line n)) rules db key) n z) (sym view_own) t.formed))))
       (λ (f : is_it d k db key ≡ false). subst (λ (z : View). Is_formed (scene c (era_of r a (r.line n)) rules d k) n z) (sym (view_other d k f)) (own.formed d k))
-      (true_or_false (is_it d k db key))
+      (cases_Bool (is_it d k db key))
 
   mine : NodeLives c rules who v s b n y
   mine = record {

@@ -2,7 +2,7 @@
 use Rattle.std.proofs.Common.{◌≡◌, ◌≢◌, ℕ, ◌<◌, ◌^◌, Bool, true, false, cond, ◌&&◌, ◌||◌, List, [], ◌∷◌, ◌++◌, None, Some, append-nil, ⊎_elim, refl, sym, ap, ◌∙◌, subst}
 use Rattle.std.specs.Prelude.{nat_eq, is_some, is_none}
 use Rattle.std.specs.List.{list_all}
-use Rattle.std.proofs.lemmas.Bool.{cases_eq, ne_eqb, eq-eqb}
+use Rattle.std.proofs.lemmas.Bool.{cases_eq, ne_eqb, eq-eqb, cases_Bool}
 use Rattle.ct_msg.specs.Client.{is_read, wants_record}
 use Rattle.ct_msg.specs.declared.client.Answer.{Answer}
 use Rattle.ct_msg.specs.declared.client.Answer.TheVariants as answer
@@ -34,7 +34,7 @@ use Rattle.ct_law_record.proofs.Worlds.{WorldInv}
 use Rattle.ct_law_record.proofs.MarkedRun.{marks_of, step_marks}
 use Rattle.ct_law_shown.specs.Shown.{scene, mails, is_it}
 use Rattle.ct_law_shown.proofs.Amid.{apart, put_world}
-use Rattle.ct_law_shown.proofs.Weave.{it_is, true_or_false}
+use Rattle.ct_law_shown.proofs.Weave.{it_is}
 use Rattle.ct_law_line.proofs.Ages.{Ages, era_of, LinesLive}
 use Rattle.ct_law_line.proofs.Moving.{Moved, ages_moved, moved_live}
 use Rattle.ct_law_line.proofs.Resting.{locked_read}
@@ -134,7 +134,7 @@ put_each P db key x y z f g h new old d k = ⊎_elim
     subst (λ (q : World). P d k q (put_at db key y g d k) (put_at db key z h d k)) (sym (put_other db d key k x f no))
     (subst (λ (q : Register). P d k (f d k) q (put_at db key z h d k)) (sym (put_other db d key k y g no))
     (subst (λ (q : Ghost). P d k (f d k) (g d k) q) (sym (put_other db d key k z h no)) (old d k))))
-    (true_or_false (is_it d k db key))
+    (cases_Bool (is_it d k db key))
 
 -- ---- all lines
 

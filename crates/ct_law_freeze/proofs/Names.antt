@@ -3,7 +3,7 @@ use Rattle.std.proofs.Common.{◌≡◌, ◌≢◌, ℕ, zero, suc, ◌+◌, ◌
 use Rattle.std.specs.Prelude.{nat_eq, nat_lt, slice_get, option_map}
 use Rattle.std.specs.List.{list_any}
 use Rattle.std.specs.Cmp.Lexicographic.{pointwise}
-use Rattle.std.proofs.lemmas.Bool.{ltb-true, ltb-false}
+use Rattle.std.proofs.lemmas.Bool.{ltb-true, ltb-false, or_parts}
 use Rattle.std.proofs.lemmas.Slice.Eq.{bytes_eq-Decides}
 use Rattle.ct_bytes.specs.declared.address.Address.{Address}
 use Rattle.ct_msg.specs.Config.{lock_db, same_name, repeat_from, repeated_name, repeated_address, first_place, config_fault}
@@ -26,11 +26,7 @@ named (d ∷ ds) (suc k) = named ds k
 none_like : (d : DbDecl) (before : List DbDecl) (k : ℕ) (e : DbDecl) → list_any (same_name d) before ≡ false → slice_get before k ≡ Some e → d.name ≢ e.name
 none_like d [] k e f g same = absurd (cc)
 none_like d (x ∷ xs) zero e f g same = absurd (let i : x ≡ e = cc in let t : same_name d x ≡ true = subst (λ (nm : List ℕ). pointwise nat_eq d.name nm ≡ true) (same ∙ sym (ap (λ (y : DbDecl). y.name) i)) (itself d.name) in grind arith)
-none_like d (x ∷ xs) (suc k) e f g same = none_like d xs k e (later (same_name d x) _ f) g same
-  where
-    later : (a b : Bool) → (a || b) ≡ false → b ≡ false
-    later true b e = absurd (cc)
-    later false b e = e
+none_like d (x ∷ xs) (suc k) e f g same = none_like d xs k e (or_parts (same_name d x) _ f).1 g same
 
 -- each name differs from all before it
 unrepeated : (before ds : List DbDecl) (i : ℕ) → repeat_from same_name before i ds ≡ None → (k l : ℕ) (d e : DbDecl) → slice_get ds k ≡ Some d → slice_get (before ++ ds) l ≡ Some e → l < length before + k → d.name ≢ e.name

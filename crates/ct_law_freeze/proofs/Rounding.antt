@@ -1,7 +1,7 @@
 -- Turns of a round that send messages alone, or change the lead: a Pull, a Freeze again, a FreezeAck, a PushAck.
 use Rattle.std.proofs.Common.{◌≡◌, ◌≢◌, ℕ, ◌<◌, Bool, true, false, cond, ◌||◌, List, [], ◌∷◌, ◌++◌, Option, None, Some, ⊎_elim, refl, sym, ap, ◌∙◌, subst, arith}
 use Rattle.std.specs.List.{AllByRecursion}
-use Rattle.std.proofs.lemmas.Bool.{cases_eq, eq-eqb}
+use Rattle.std.proofs.lemmas.Bool.{cases_eq, eq-eqb, or_right}
 use Rattle.ct_msg.specs.declared.config.Config.{Config}
 use Rattle.ct_frame.specs.declared.event.Event.TheVariants as event
 use Rattle.ct_frame.specs.declared.event.Out.{Out}
@@ -175,12 +175,8 @@ tells_itself c rules w r h n g there frozen =
     joined : NodeLives c rules h.who w r h.ages n (node_at n w) → r.line n ≢ 0 → (nat_eq (r.line n) 1 || r.installed (r.line n) n) ≡ true
     joined own ne = ⊎_elim
         (λ (e : r.line n ≡ 1). ap (λ (b : Bool). b || r.installed (r.line n) n) (eq-eqb (r.line n) 1 e))
-        (λ (no : r.line n ≢ 1). second (nat_eq (r.line n) 1) (r.installed (r.line n) n) (own.done (omega arith)))
+        (λ (no : r.line n ≢ 1). or_right (nat_eq (r.line n) 1) (r.installed (r.line n) n) (own.done (omega arith)))
         (cases_eq (r.line n) 1)
-      where
-        second : (p q : Bool) → q ≡ true → (p || q) ≡ true
-        second true q e = refl
-        second false q e = e
 
 pull_says : (c : Config) (rules : Rules) (w : Cluster) (r : Lines) (h : Lives c rules w r) (n g k : ℕ) → nat_lt n c.nodes ≡ true → is_frozen_in g (node_at n w).phase ≡ true →
     Says_round c w r h.ages n (record { generation = g; sender = n; receiver = k; msg = msg.PullReply (node_at n w).generation (node_at n w).pbase (table_of n 0 (node_at n w).dbs) (ptables_of c 0 (node_at n w).dbs) (node_at n w).held })

@@ -2,7 +2,7 @@
 use Rattle.std.proofs.Common.{◌≡◌, ◌≢◌, ℕ, suc, ◌+◌, Bool, true, false, cond, ◌&&◌, ◌||◌, List, [], ◌∷◌, ◌++◌, Option, None, Some, ⊎_elim, refl, sym, ap, ◌∙◌, subst, arith}
 use Rattle.std.specs.Prelude.{nat_eq, is_some, slice_get}
 use Rattle.std.specs.List.{list_any}
-use Rattle.std.proofs.lemmas.Bool.{cases_eq, eq-eqb}
+use Rattle.std.proofs.lemmas.Bool.{cases_eq, eq-eqb, cases_Bool}
 use Rattle.std.proofs.lemmas.Slice.Eq.{bytes_eq-Decides}
 use Rattle.ct_msg.specs.declared.client.Answer.{Answer}
 use Rattle.ct_msg.specs.declared.client.Answer.TheVariants as answer
@@ -27,7 +27,7 @@ use Rattle.ct_promise.specs.Marked.{is_removal, is_removed, removes}
 use Rattle.ct_promise.proofs.Follows.{filter_more}
 use Rattle.ct_law_shown.specs.Shown.{labels_of, is_it}
 use Rattle.ct_law_shown.proofs.Hearing.{labels_more, frames_more}
-use Rattle.ct_law_shown.proofs.Weave.{it_is, true_or_false}
+use Rattle.ct_law_shown.proofs.Weave.{it_is}
 use Rattle.ct_law_freeze.proofs.Ends.{is_ended, ends_out, ends_outs}
 use Rattle.ct_law_freeze.proofs.Freed.{ended_register}
 
@@ -73,7 +73,7 @@ one_here g name (Some x) r db key = ⊎_elim
     (subst (λ (d : ℕ). record_ended g name r.records g d name ≡ released (r.records g d name)) p.0 (same_record g g 0 name (released (r.records g 0 name)) r refl))
     ∙ sym (ap (λ (b : Bool). ended_register b (r.records g db key)) t)))
     (λ (f : is_it db key 0 name ≡ false). other_record g g 0 db name key (released (r.records g 0 name)) r refl f ∙ sym (ap (λ (b : Bool). ended_register b (r.records g db key)) f))
-    (true_or_false (is_it db key 0 name))
+    (cases_Bool (is_it db key 0 name))
 
 one_elsewhere : (g : ℕ) (name : List ℕ) (o : Option Committing) (rs : ℕ → ℕ → List ℕ → Register) (m : ℕ) → m ≢ g → one_ended g name o rs m ≡ rs m
 one_elsewhere g name None rs m ne = refl
@@ -153,7 +153,7 @@ ends_accepted c rules n i pend (d ∷ ds) r there kind untold owned differ =
         apart k x y e f = ⊎_elim
             (λ (t : is_it 0 (name_of c ((i + 1) + k)) 0 (name_of c i) ≡ true). absurd (differ 0 (suc k) x y e f (λ z. absurd (omega arith)) (sym (ap (name_of c) (let j : i ≡ i + 0 = omega arith in j)) ∙ (it_is 0 0 (name_of c ((i + 1) + k)) (name_of c i) t).1 ∙ sym (next k))))
             (λ (f : is_it 0 (name_of c ((i + 1) + k)) 0 (name_of c i) ≡ false). f)
-            (true_or_false (is_it 0 (name_of c ((i + 1) + k)) 0 (name_of c i)))
+            (cases_Bool (is_it 0 (name_of c ((i + 1) + k)) 0 (name_of c i)))
 
 -- ---- nothing is sent, and no record is removed
 

@@ -2,7 +2,7 @@
 use Rattle.std.proofs.Common.{◌≡◌, ◌≢◌, ℕ, zero, suc, ◌<◌, ◌≤◌, Bool, true, false, cond, ◌&&◌, List, [], ◌∷◌, ◌++◌, length, map, Option, None, Some, append-nil, inl, inr, ⊎_elim, refl, sym, ap, ◌∙◌, subst, arith}
 use Rattle.std.specs.Prelude.{◌⊎◌, nat_lt, slice_get}
 use Rattle.std.specs.List.{AllByRecursion}
-use Rattle.std.proofs.lemmas.Bool.{cases_eq, and_parts, ltb-true, ltb-false}
+use Rattle.std.proofs.lemmas.Bool.{cases_eq, and_parts, ltb-true, ltb-false, cases_Bool}
 use Rattle.ct_msg.specs.declared.client.ClientOp.TheVariants as op
 use Rattle.ct_msg.specs.declared.config.Config.{Config}
 use Rattle.ct_msg.specs.declared.config.DbDecl.{DbDecl}
@@ -38,7 +38,6 @@ use Rattle.ct_law_record.proofs.MarkedRun.{marks_of}
 use Rattle.ct_law_shown.specs.Shown.{scene, view, mails, mail_of, labels_of}
 use Rattle.ct_law_wish.proofs.Wishing.{Wishful}
 use Rattle.ct_law_shown.proofs.Hearing.{frames_more, labels_more, mails_more}
-use Rattle.ct_law_shown.proofs.Weave.{true_or_false}
 use Rattle.ct_law_node.proofs.Pending.{Callers, Known, KnownAt, CommitFits, NodeKnown, none_known, pending_fits}
 use Rattle.ct_law_node.proofs.Staying.{Of_records}
 use Rattle.ct_law_node.proofs.Forming.{Is_formed}
@@ -67,11 +66,7 @@ ticket_said c w r a f members mail sent is = subst (λ (m : Msg). RoundSays c r 
 
 listed : (c : Config) (f : Frame) (members : List ℕ) → f.msg ≡ msg.Freeze members → is_sound c f ≡ true → is_among f.receiver members ≡ true
 unfolding is_sound is_listed members_in
-listed c f members is sound = last (is_among f.sender members) (is_among f.receiver members) (subst (λ (m : Msg). is_listed f (members_in m) ≡ true) is (and_parts _ _ (and_parts _ _ (and_parts _ _ (and_parts _ _ sound).0).0).0).1)
-  where
-    last : (p q : Bool) → (p && q) ≡ true → q ≡ true
-    last true q e = e
-    last false q e = absurd (cc)
+listed c f members is sound = (and_parts (is_among f.sender members) (is_among f.receiver members) (subst (λ (m : Msg). is_listed f (members_in m) ≡ true) is (and_parts _ _ (and_parts _ _ (and_parts _ _ (and_parts _ _ sound).0).0).0).1)).1
 
 -- ---- no answer to a commit that waits is told of records
 
@@ -90,7 +85,7 @@ unfolding node_at
 all_known c rules w r h n = ⊎_elim
     (λ (e : nat_lt n c.nodes ≡ true). (h.nodes n e).known)
     (λ (e : nat_lt n c.nodes ≡ false). subst (λ (x : Node). NodeKnown h.who w.calls n x) (sym (past_all w.nodes n (let l = ltb-false n c.nodes e in let s = h.size in omega arith))) (absent_known h.who w.calls n))
-    (true_or_false (nat_lt n c.nodes))
+    (cases_Bool (nat_lt n c.nodes))
 
 commits_untold : (c : Config) (rules : Rules) (w : Cluster) (r : Lines) (h : Lives c rules w r) (n : ℕ) (own : NodeKnown h.who w.calls n (node_at n w)) → CommitsPersist c (node_at n w) → All_untold c (pending w) (node_at n w).dbs
 unfolding db_at CommitFits

@@ -2,7 +2,7 @@
 use Rattle.std.proofs.Common.{◌≡◌, ℕ, zero, suc, ◌+◌, ◌<◌, ◌≤◌, true, false, List, [], ◌∷◌, length, Option, Some, None, refl, sym, ap, ◌∙◌, arith, subst, ⊎_elim}
 use Rattle.std.specs.Prelude.{nat_lt, Result, Ok, Err}
 use Rattle.std.specs.List.{list_all}
-use Rattle.std.proofs.lemmas.Bool.{cond_both, and_parts}
+use Rattle.std.proofs.lemmas.Bool.{cond_both, and_parts, cases_Bool}
 use Rattle.ct_msg.specs.declared.config.Config.{Config}
 use Rattle.ct_frame.specs.Fields.{is_node, is_db, ascends}
 use Rattle.ct_frame.specs.declared.event.Event.{Event}
@@ -37,7 +37,6 @@ use Rattle.ct_law_record.proofs.Law.{leads}
 use Rattle.ct_law_record.proofs.MarkLists.{marks_stay}
 use Rattle.ct_law_record.proofs.MarkedRun.{marks_of}
 use Rattle.ct_law_shown.specs.Shown.{Era, scene, project, AllInstalled, heard, told_by_all, Schedules}
-use Rattle.ct_law_shown.proofs.Weave.{true_or_false}
 use Rattle.ct_law_node.proofs.Pending.{Callers}
 use Rattle.ct_law_node.proofs.Staying.{NodeStays}
 use Rattle.ct_law_cluster.proofs.Clusters.{ClusterStays}
@@ -117,7 +116,7 @@ unfolding outcome unchanged
 step_held c rules w s one other = ⊎_elim
     (λ (t : is_allowed s ≡ true). rw t (taken_held c rules w s (applied c rules w s) one other refl))
     (λ (f : is_allowed s ≡ false). rw f refl)
-    (true_or_false (is_allowed s))
+    (cases_Bool (is_allowed s))
 
 -- ---- what holds at every step
 

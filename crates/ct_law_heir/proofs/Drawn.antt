@@ -1,7 +1,7 @@
 -- Whatever a node does, the request of each call that waits there was drawn: so a birth may begin with them all.
 use Rattle.std.proofs.Common.{◌≡◌, ◌≢◌, ℕ, zero, suc, ◌<◌, ◌≤◌, true, false, List, [], ◌∷◌, length, Some, None, ⊎_elim, refl, sym, ap, ◌∙◌, arith}
 use Rattle.std.specs.Prelude.{nat_lt, slice_get}
-use Rattle.std.proofs.lemmas.Bool.{cases_eq, ltb-false}
+use Rattle.std.proofs.lemmas.Bool.{cases_eq, ltb-false, cases_Bool}
 use Rattle.ct_msg.specs.declared.config.Config.{Config}
 use Rattle.ct_call.specs.Rules.{Rules}
 use Rattle.ct_rules.specs.declared.state.RecState.{RecState}
@@ -16,7 +16,6 @@ use Rattle.ct_law_fact.proofs.Invariant.{Ghost}
 use Rattle.ct_law_like.proofs.SeenNode.{wish_of}
 use Rattle.ct_law_record.proofs.Worlds.{WorldInv}
 use Rattle.ct_law_shown.specs.Shown.{view}
-use Rattle.ct_law_shown.proofs.Weave.{true_or_false}
 use Rattle.ct_law_node.proofs.Pending.{Callers}
 use Rattle.ct_law_line.proofs.Ages.{Ages, Rests}
 use Rattle.ct_law_line.proofs.Lives.{Lives, PhaseSays}
@@ -83,9 +82,9 @@ module _ (c : Config) (rules : Rules) (w : Cluster) (r : Lines) (h : Lives c rul
     some = λ n. ⊎_elim
         (λ (there : nat_lt n c.nodes ≡ true). ((h.nodes n there).formed db key).from_one)
         (λ (out : nat_lt n c.nodes ≡ false). (let e = ap (λ (x : Node). x.next) (beyond n out) in let f = absent_next in omega arith))
-        (true_or_false (nat_lt n c.nodes));
+        (cases_Bool (nat_lt n c.nodes));
     above = λ n x e. ⊎_elim
         (λ (there : nat_lt n c.nodes ≡ true). asked_here n db key x there e)
         (λ (out : nat_lt n c.nodes ≡ false). absurd (let f : None ≡ Some x = sym (ap (λ (y : Node). (state_at db key y).wish) (beyond n out) ∙ absent_wish db key) ∙ e in cc))
-        (true_or_false (nat_lt n c.nodes));
+        (cases_Bool (nat_lt n c.nodes));
   }

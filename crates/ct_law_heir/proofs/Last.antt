@@ -1,7 +1,7 @@
 -- Every PullReply that was sent to a node, also the last one.
 use Rattle.std.proofs.Common.{◌≡◌, ◌≢◌, ◌⊎◌, ℕ, Bool, true, false, cond, ◌&&◌, List, [], ◌∷◌, inl, inr, ⊎_elim, refl, sym, ap, ◌∙◌, subst, eqb-true}
 use Rattle.std.specs.Prelude.{nat_eq, nat_lt}
-use Rattle.std.proofs.lemmas.Bool.{and_parts, eq-eqb}
+use Rattle.std.proofs.lemmas.Bool.{and_parts, eq-eqb, and_from}
 use Rattle.ct_bytes.specs.Words.{others}
 use Rattle.ct_bytes.specs.declared.address.Address.{Address}
 use Rattle.ct_msg.specs.declared.config.Config.{Config}
@@ -55,12 +55,8 @@ last_or_more k g (Completed q members x) = inl tt
 pushed_is : (n g : ℕ) (pull : Pull) (t : Turn) (l : Lead) (k : Is_last pull.node g l) → on_pullreply n g pull t l ≡ pushes n g k.members (body_of n k.members (finished (gathered pull k.before))) t
 unfolding on_pullreply all_pulled
 pushed_is n g pull t l k = ap (on_pullreply n g pull t) k.is
-    ∙ ap (λ (b : Bool). cond b (all_pulled n g k.members (gathered pull k.before) t (others pull.node k.missing)) t) (both (nat_eq g g) (is_among pull.node k.missing) (eq-eqb g g refl) k.among)
+    ∙ ap (λ (b : Bool). cond b (all_pulled n g k.members (gathered pull k.before) t (others pull.node k.missing)) t) (and_from (nat_eq g g) (is_among pull.node k.missing) (eq-eqb g g refl) k.among)
     ∙ ap (all_pulled n g k.members (gathered pull k.before) t) k.none
-  where
-    both : (a b : Bool) → a ≡ true → b ≡ true → (a && b) ≡ true
-    both true b e f = f
-    both false b e f = absurd (cc)
 
 module _ (c : Config) (rules : Rules) (w : Cluster) (r : Lines) (h : Lives c rules w r) (n : ℕ) (f : Frame) (vbase pbase : ℕ) (table : List TableRow) (ptables : List PTable) (addresses : List Address) (there : nat_lt n c.nodes ≡ true)
     (is : f.msg ≡ msg.PullReply vbase pbase table ptables addresses) (come : HasCome w n f) where

@@ -2,7 +2,7 @@
 use Rattle.std.proofs.Common.{◌≡◌, ◌≢◌, ℕ, ◌<◌, ◌≤◌, ◌^◌, Bool, true, false, ◌&&◌, ◌||◌, List, [], ◌∷◌, ◌++◌, append-nil, length, Option, Some, None, ⊎_elim, refl, sym, ap, ◌∙◌, subst, arith}
 use Rattle.std.specs.Prelude.{nat_eq, nat_lt}
 use Rattle.std.specs.List.{AllByRecursion}
-use Rattle.std.proofs.lemmas.Bool.{cases_eq, cases_lt, eq-eqb}
+use Rattle.std.proofs.lemmas.Bool.{cases_eq, cases_lt, eq-eqb, cases_Bool}
 use Rattle.ct_bytes.specs.declared.address.Address.{Address}
 use Rattle.ct_msg.specs.declared.config.Config.{Config}
 use Rattle.ct_frame.specs.declared.event.Event.TheVariants as event
@@ -46,7 +46,6 @@ use Rattle.ct_law_record.proofs.Law
 use Rattle.ct_law_record.proofs.MarkedRun.{marks_of}
 use Rattle.ct_law_shown.specs.Shown.{scene, view, mails, mail_of, labels_of}
 use Rattle.ct_law_shown.proofs.Hearing.{mails_more}
-use Rattle.ct_law_shown.proofs.Weave.{true_or_false}
 use Rattle.ct_law_wish.proofs.Wishing.{Wishful}
 use Rattle.ct_law_node.proofs.Forming.{Is_formed}
 use Rattle.ct_law_node.proofs.Pending.{Known, KnownAt, CommitFits, NodeKnown}
@@ -177,7 +176,7 @@ module _ (c : Config) (rules : Rules) (w : Cluster) (r : Lines) (h : Lives c rul
   fresh_here = ⊎_elim
       (λ (t : r.installed g n ≡ true). absurd (let l = h.formed.order.newer g n t in let k = older in omega arith))
       (λ (e : r.installed g n ≡ false). e)
-      (true_or_false (r.installed g n))
+      (cases_Bool (r.installed g n))
 
   low : (db : ℕ) (key : List ℕ) → rsn_of ((a.worlds g db key).nodes n).state.copy < 2 ^ 62
   low db key = Viewed.low c rules w r h n f ptables assigned there is come sound frozen whole db key

@@ -1,7 +1,7 @@
 -- Every Push that was sent to a node: it is installed, acknowledged again, or dropped.
 use Rattle.std.proofs.Common.{◌≡◌, ℕ, ◌≤◌, Bool, true, false, cond, List, ⊎_elim, refl, sym, ap, ◌∙◌, subst, eqb-true, arith}
 use Rattle.std.specs.Prelude.{nat_eq, nat_lt}
-use Rattle.std.proofs.lemmas.Bool.{and_parts}
+use Rattle.std.proofs.lemmas.Bool.{and_parts, cases_Bool}
 use Rattle.ct_msg.specs.declared.config.Config.{Config}
 use Rattle.ct_frame.specs.declared.event.Event.TheVariants as event
 use Rattle.ct_frame.specs.declared.frame.Assigned.{Assigned}
@@ -18,7 +18,6 @@ use Rattle.ct_rules_node.specs.Steps.{happens, arrives, if_sound}
 use Rattle.ct_rules_node.specs.Turn.{Turn, begins, posts}
 use Rattle.ct_cluster.specs.Cluster.{Cluster, node_at, pending}
 use Rattle.ct_register.specs.Lines.{Lines}
-use Rattle.ct_law_shown.proofs.Weave.{true_or_false}
 use Rattle.ct_law_line.proofs.Lives.{Lives, MailSays, RoundSays, ReplySays}
 use Rattle.ct_law_line.proofs.Faces.{Turned}
 use Rattle.ct_law_freeze.proofs.Freezing.{HasCome}
@@ -90,6 +89,6 @@ module _ (c : Config) (rules : Rules) (w : Cluster) (r : Lines) (h : Lives c rul
       (λ (frozen : is_frozen_in f.generation x.phase ≡ true). ⊎_elim
       (λ (sound : is_sound c f ≡ true). installed sound frozen whole)
       (λ (e : is_sound c f ≡ false). lead_turned c rules w r h n u there (unsound e))
-      (true_or_false (is_sound c f)))
+      (cases_Bool (is_sound c f)))
       (λ (e : is_frozen_in f.generation x.phase ≡ false). lead_turned c rules w r h n u there (again e))
-      (true_or_false (is_frozen_in f.generation x.phase))
+      (cases_Bool (is_frozen_in f.generation x.phase))

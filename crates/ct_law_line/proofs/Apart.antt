@@ -2,7 +2,7 @@
 use Rattle.std.proofs.Common.{◌≡◌, ◌≢◌, ℕ, ◌<◌, ◌≤◌, Bool, true, false, ◌||◌, ◌^◌, List, [], ◌∷◌, Some, inl, inr, ⊎_elim, refl, sym, ap, ◌∙◌, subst, arith}
 use Rattle.std.specs.Prelude.{nat_eq}
 use Rattle.std.specs.List.{AllByRecursion}
-use Rattle.std.proofs.lemmas.Bool.{cases_eq, eq-eqb}
+use Rattle.std.proofs.lemmas.Bool.{cases_eq, eq-eqb, cases_Bool}
 use Rattle.ct_msg.specs.declared.config.Config.{Config}
 use Rattle.ct_frame.specs.declared.frame.Frame.{Frame}
 use Rattle.ct_frame.specs.declared.frame.Msg.{Msg}
@@ -23,7 +23,6 @@ use Rattle.ct_register.specs.Lines.{Lines}
 use Rattle.ct_law_world.specs.World as law
 use Rattle.ct_law_world.specs.World.{Scene, View}
 use Rattle.ct_law_shown.specs.Shown.{scene, view}
-use Rattle.ct_law_shown.proofs.Weave.{true_or_false}
 use Rattle.ct_law_node.proofs.Pending.{Callers, NodeKnown}
 use Rattle.ct_law_node.proofs.Forming.{Is_formed}
 use Rattle.ct_law_node.proofs.Staying.{NodeStays}
@@ -126,7 +125,7 @@ module _ (c : Config) (rules : Rules) (who them : Callers) (w v : Cluster) (r : 
 
   module _ (fresh : AllFresh c rules r s b k x) (known : NodeKnown them v.calls k x) (sent : (f : Frame) → WasSent w f → WasSent v f) (named : r.line k ≢ 0 → r.born (r.line k) ≡ true) where
     unborn_still : (g : ℕ) → r.born g ≡ false → (s.born g ≡ true → ⊥) → s.born g ≡ false
-    unborn_still g old none = ⊎_elim (λ (t : s.born g ≡ true). absurd (none t)) (λ (f : s.born g ≡ false). f) (true_or_false (s.born g))
+    unborn_still g old none = ⊎_elim (λ (t : s.born g ≡ true). absurd (none t)) (λ (f : s.born g ≡ false). f) (cases_Bool (s.born g))
 
     rests_away : (r.line k ≢ 0 → (db : ℕ) (key : List ℕ) → Rests db key ((a.worlds (r.line k) db key).nodes k) x) → s.line k ≢ 0 → (db : ℕ) (key : List ℕ) → Rests db key ((b.worlds (s.line k) db key).nodes k) x
     rests_away h ne db key = (let some : r.line k ≢ 0 = λ e. ne (away.line ∙ e) in
@@ -138,7 +137,7 @@ module _ (c : Config) (rules : Rules) (who them : Callers) (w v : Cluster) (r : 
         (λ (t : r.born g ≡ true). away.views g db key t ∙ h t db key
         ∙ (λ i. begun_view (record { db = db; key = key; lmaster = master_of (sym (later.members g t) i) key; readonly = is_readonly (kind_at c db); members = sym (later.members g t) i; rules = rules }) (row_at db key (sym (later.tables g t) i)) k (state_at db key x).wish x.next))
         (λ (f : r.born g ≡ false). (fresh g f now).begun is db key)
-        (true_or_false (r.born g))
+        (cases_Bool (r.born g))
 
     stays_away : NodeStays c (era_of r a (r.line k)) rules who w.calls k (record x { lead = Nothing }) → r.line k ≢ 0 → NodeStays c (era_of s b (s.line k)) rules them v.calls k (record x { lead = Nothing })
     unfolding db_at state_at
@@ -225,7 +224,7 @@ module _ (c : Config) (rules : Rules) (who them : Callers) (w v : Cluster) (r : 
       promises = λ g now among. ⊎_elim
           (λ (t : r.born g ≡ true). h.promises g t (subst (λ (ms : List ℕ). is_among k ms ≡ true) (later.members g t) among))
           (λ (f : r.born g ≡ false). (fresh g f now).promised among)
-          (true_or_false (r.born g));
+          (cases_Bool (r.born g));
       waits = h.waits;
       formed = formed_away h;
       commits = h.commits;

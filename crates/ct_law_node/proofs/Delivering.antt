@@ -2,7 +2,7 @@
 use Rattle.std.proofs.Common.{◌≡◌, ℕ, zero, suc, ◌<◌, Bool, true, false, cond, ◌&&◌, ◌||◌, List, [], ◌∷◌, ◌++◌, length, Some, refl, sym, ap, ◌∙◌, append-nil, arith, subst}
 use Rattle.std.specs.Prelude.{nat_eq, slice_get}
 use Rattle.std.specs.List.{list_all}
-use Rattle.std.proofs.lemmas.Bool.{cond_both, eqb-true, and_parts, and_from, eq-eqb}
+use Rattle.std.proofs.lemmas.Bool.{cond_both, eqb-true, and_parts, and_from, eq-eqb, or_parts}
 use Rattle.ct_msg.specs.declared.config.Config.{Config}
 use Rattle.ct_msg.specs.declared.config.DbDecl.{DbDecl}
 use Rattle.ct_frame.specs.Fields.{is_db}
@@ -108,11 +108,7 @@ has_place c db e = kind_there c.dbs db e
 -- the rule of the record was whole where the step is
 pub whole_part : (c : Config) (n db : ℕ) (key : List ℕ) (part : Place → Moving → Moving) (t : Turn) → (at_record c n db key part t).spent ≡ false → (left_by c n db key part t).spent ≡ false
 unfolding at_record acted
-whole_part c n db key part t e = second t.spent (left_by c n db key part t).spent e
-  where
-    second : (a b : Bool) → (a || b) ≡ false → b ≡ false
-    second true b e = absurd (cc)
-    second false b e = e
+whole_part c n db key part t e = (or_parts t.spent (left_by c n db key part t).spent e).1
 
 -- ---- the message is followed
 

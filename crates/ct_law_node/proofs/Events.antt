@@ -1,6 +1,7 @@
 -- What happens at one record of a node is an event of that record's world.
 use Rattle.std.proofs.Common.{◌≡◌, ℕ, Bool, true, false, cond, List, [], ◌∷◌, Option, Some, refl, sym, ap, ◌∙◌, subst, ⊎_elim}
 use Rattle.std.specs.Prelude.{is_some, ◌&&◌, slice_get}
+use Rattle.std.proofs.lemmas.Bool.{cases_Bool}
 use Rattle.ct_msg.specs.declared.client.ClientOp.{ClientOp}
 use Rattle.ct_msg.specs.declared.client.ClientOp.TheVariants as op
 use Rattle.ct_msg.specs.declared.config.Config.{Config}
@@ -23,7 +24,7 @@ use Rattle.ct_rules_node.specs.Laws.{left_by}
 use Rattle.ct_cluster.specs.declared.step.PendingCall.{PendingCall}
 use Rattle.ct_law_world.specs.World.{View, Mail, World, Event, Wants, Stores, Unlocks, Comes, place, starts, may_want, own_call, waiting_call, put, comes, happens}
 use Rattle.ct_law_shown.specs.Shown.{Era, scene, view, is_it, amid, Follows}
-use Rattle.ct_law_shown.proofs.Weave.{it_is, true_or_false}
+use Rattle.ct_law_shown.proofs.Weave.{it_is}
 use Rattle.ct_law_shown.proofs.Amid.{self, place_is, Fair, own_step, other_step}
 
 -- the rule of the record, at the node's place in the world and at the node
@@ -84,7 +85,7 @@ each_follows c era rules n db0 key0 part t calls asks ws e f h db key = ⊎_elim
     (subst (λ (d : ℕ). Follows era.number (scene c era rules d key0) n (ws d key0) calls t (at_record c n db0 key0 part t)) p.0
     (e ∷ [], own_step c era rules n db0 key0 part t calls asks (ws db0 key0) e f h))))
     (λ (unlike : is_it db key db0 key0 ≡ false). (_, other_step c era rules n db0 db key0 key part t calls asks (ws db key) f unlike))
-    (true_or_false (is_it db key db0 key0))
+    (cases_Bool (is_it db key db0 key0))
 
 -- ---- a message of a record
 

@@ -4,7 +4,7 @@ use Rattle.std.specs.Prelude.{slice_get, nat_eq}
 use Rattle.std.specs.Ordering.{is_eq}
 use Rattle.std.specs.List.{AllByRecursion, list_any}
 use Rattle.std.specs.List.Sorted.{IsStrictlySortedBy}
-use Rattle.std.proofs.lemmas.Bool.{eqb-true, eq-eqb}
+use Rattle.std.proofs.lemmas.Bool.{eqb-true, eq-eqb, or_right}
 use Rattle.ct_bytes.specs.Key.{key_cmp}
 use Rattle.ct_msg.specs.Client.{db_of, key_of}
 use Rattle.ct_msg.specs.declared.client.Answer.{Answer}
@@ -56,17 +56,13 @@ left_case : (b d e : Bool) → (d ≡ true → e ≡ true) → (b || d) ≡ true
 left_case true d e f k = refl
 left_case false d e f k = f k
 
-right_case : (b e : Bool) → e ≡ true → (b || e) ≡ true
-right_case true e k = refl
-right_case false e k = k
-
 left_any : (f : PendingCall → Bool) (xs ys : List PendingCall) → list_any f xs ≡ true → list_any f (xs ++ ys) ≡ true
 left_any f [] ys e = absurd (cc)
 left_any f (x ∷ xs) ys e = left_case (f x) (list_any f xs) (list_any f (xs ++ ys)) (λ k. left_any f xs ys k) e
 
 right_any : (f : PendingCall → Bool) (xs ys : List PendingCall) → list_any f ys ≡ true → list_any f (xs ++ ys) ≡ true
 right_any f [] ys e = e
-right_any f (x ∷ xs) ys e = right_case (f x) (list_any f (xs ++ ys)) (right_any f xs ys e)
+right_any f (x ∷ xs) ys e = or_right (f x) (list_any f (xs ++ ys)) (right_any f xs ys e)
 
 -- ---- one database
 

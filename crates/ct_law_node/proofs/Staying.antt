@@ -1,7 +1,7 @@
 -- What holds of every node in a generation stays so over a step at one record.
 use Rattle.std.proofs.Common.{◌≡◌, ◌≢◌, ℕ, ◌<◌, ◌^◌, Bool, true, false, List, length, Option, refl, sym, ◌∙◌, arith, subst, ⊎_elim}
 use Rattle.std.specs.Prelude.{bytes_eq}
-use Rattle.std.proofs.lemmas.Bool.{cases_eq, and_parts, eqb-true}
+use Rattle.std.proofs.lemmas.Bool.{cases_eq, and_parts, eqb-true, cases_Bool}
 use Rattle.std.proofs.lemmas.List.{length-set}
 use Rattle.std.proofs.lemmas.Slice.Eq.{bytes_eq-Decides}
 use Rattle.ct_msg.specs.declared.client.ClientOp.{ClientOp}
@@ -22,7 +22,7 @@ use Rattle.ct_rules_node.proofs.Keys.{kept_seen, kept_others}
 use Rattle.ct_promise.specs.Born.{has_pushed}
 use Rattle.ct_law_world.specs.World.{View, view_of}
 use Rattle.ct_law_shown.specs.Shown.{Era, scene, view, is_it}
-use Rattle.ct_law_shown.proofs.Weave.{it_is, true_or_false}
+use Rattle.ct_law_shown.proofs.Weave.{it_is}
 use Rattle.ct_law_wish.proofs.Wishing.{Wishful}
 use Rattle.ct_law_node.proofs.Pending.{Callers, Known, KnownAt, DatabaseKnown, NodeKnown}
 use Rattle.ct_law_node.proofs.Forming.{Is_formed, formed_rises, formed_blank}
@@ -112,7 +112,7 @@ wishes_at P c n db0 key0 part t order there all own db key = ⊎_elim
     (subst (λ (d : ℕ). Wishful (P d key0) (state_at d key0 (at_record c n db0 key0 part t).node).wish) p.0
     (subst (λ (s : RecState). Wishful (P db0 key0) s.wish) (sym ((moves_at c n db0 key0 part t order).seen there)) (kept_wish (P db0 key0) (left_by c n db0 key0 part t).state own)))))
     (λ (unlike : is_it db key db0 key0 ≡ false). subst (λ (s : RecState). Wishful (P db key) s.wish) (sym (other_state c n db0 db key0 key part t order unlike)) (all db key))
-    (true_or_false (is_it db key db0 key0))
+    (cases_Bool (is_it db key db0 key0))
 
 -- ---- the states
 
@@ -138,7 +138,7 @@ all_formed c era rules who calls n db0 key0 part t h s db key = ⊎_elim
     (subst (λ (d : ℕ). Is_formed (scene c era rules d key0) n (view d key0 (at_record c n db0 key0 part t).node)) p.0
     (subst (λ (v : View). Is_formed (scene c era rules db0 key0) n v) (sym (seen_same c n db0 key0 part t (left_by c n db0 key0 part t) refl h.known.order s.has (formed_blank (scene c era rules db0 key0) n (view_of (left_by c n db0 key0 part t)) s.formed))) s.formed))))
     (λ (unlike : is_it db key db0 key0 ≡ false). other_formed c era rules who calls n db0 db key0 key part t h s unlike)
-    (true_or_false (is_it db key db0 key0))
+    (cases_Bool (is_it db key db0 key0))
 
 -- all of it stays
 pub stays_at : (c : Config) (era : Era) (rules : Rules) (who : Callers) (calls n db0 : ℕ) (key0 : List ℕ) (part : Place → Moving → Moving) (t : Turn) → NodeStays c era rules who calls n t.node → Sure c era rules who calls n db0 key0 part t →

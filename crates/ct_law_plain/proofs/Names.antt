@@ -2,7 +2,7 @@
 use Rattle.std.proofs.Common.{◌≡◌, ◌≢◌, ℕ, zero, suc, ◌+◌, ◌<◌, ◌≤◌, Bool, true, false, cond, ◌||◌, List, [], ◌∷◌, ◌++◌, length, Option, Some, None, refl, sym, ap, ◌∙◌, subst, arith, append_assoc, ⊎_elim}
 use Rattle.std.specs.Prelude.{slice_get, nat_lt, option_map, Ok}
 use Rattle.std.specs.List.{list_any}
-use Rattle.std.proofs.lemmas.Bool.{cases_eq, ltb-true, ltb-false}
+use Rattle.std.proofs.lemmas.Bool.{cases_eq, ltb-true, ltb-false, or_right}
 use Rattle.std.proofs.lemmas.Slice.Eq.{bytes_eq-Decides}
 use Rattle.ct_bytes.specs.declared.address.Address.{Address}
 use Rattle.ct_msg.specs.Config.{Configures, config_fault, repeat_from, repeated_name, repeated_address, first_place, same_name, lock_db}
@@ -15,11 +15,7 @@ use Rattle.ct_rules_node.specs.Node.{name_of, name_in}
 any_at : (f : DbDecl → Bool) (ys : List DbDecl) (k : ℕ) (y : DbDecl) → slice_get ys k ≡ Some y → f y ≡ true → list_any f ys ≡ true
 any_at f [] k y e h = absurd (cc)
 any_at f (x ∷ ys) zero y e h = (let same : x ≡ y = cc in rw same (rw h refl))
-any_at f (x ∷ ys) (suc k) y e h = or_true (f x) (any_at f ys k y e h)
-  where
-    or_true : (a : Bool) {b : Bool} → b ≡ true → (a || b) ≡ true
-    or_true true {b} e = refl
-    or_true false {b} e = e
+any_at f (x ∷ ys) (suc k) y e h = or_right (f x) _ (any_at f ys k y e h)
 
 front_at : (xs ys : List DbDecl) (a : ℕ) → a < length xs → slice_get (xs ++ ys) a ≡ slice_get xs a
 front_at [] ys a l = absurd (omega arith)

@@ -1,9 +1,8 @@
 -- The marks of a span: one for each RSN from its base to below its top.
 use Rattle.std.proofs.Common.{◌≡◌, ◌≢◌, ℕ, zero, suc, ◌+◌, ◌-◌, ◌<◌, ◌≤◌, Bool, true, false, Some, List, [], ◌∷◌, refl, sym, ap, ◌∙◌, ⊎_elim, arith, subst, nat_lt, cond}
-use Rattle.std.proofs.lemmas.Bool.{cases_eq, eq-eqb, ne_eqb, cond_both, ltb-true, lt-ltb}
+use Rattle.std.proofs.lemmas.Bool.{cases_eq, eq-eqb, ne_eqb, cond_both, ltb-true, lt-ltb, cases_lt}
 use Rattle.ct_register.specs.Marks.{Mark, Marks, Rises, RisesAfter, EndsAt, AreBelow, AreFrom, GoOn, place_of, place_below_from, MarksStep}
 use Rattle.ct_law_fact.proofs.Invariant.{Span, Grows, Goes}
-use Rattle.ct_law_fact.proofs.Copies.{lt_cases}
 
 -- so many marks from an RSN on
 unfoldable pub dense : (from count : ℕ) (mark : ℕ → ℕ) → List Mark
@@ -70,7 +69,7 @@ module _ (mark : ℕ → ℕ) where
       (⊎_elim
       (λ (l : from < least). dense_high (mark (from + 1)) least (from + 1) k rises (omega arith) (let e : from + suc (suc k) ≡ from + 1 + suc k = omega arith in subst (λ x. mark least ≤ mark x) e high))
       (λ (l : least ≤ from). (let u = rises least (from + 1) (omega arith) in dense_stays (mark least) (mark (from + 1)) (least + 1) (from + 1) (suc k) rises u u))
-      (lt_cases from least))
+      (cases_lt from least))
 
 -- the marks go on
 dense_goes : (low from n k : ℕ) (mark new : ℕ → ℕ) → low ≡ from + n → n ≤ k → ((x : ℕ) → x < from + n → new x ≡ mark x) → mark (from + n) ≤ new (from + n) → GoOn low (dense from n mark) (dense from k new)

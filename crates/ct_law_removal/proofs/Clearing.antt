@@ -1,7 +1,7 @@
 -- Where a step of the cluster tells that a record was removed, its location master did it, and has no entry of it.
 use Rattle.std.proofs.Common.{◌≡◌, ℕ, zero, suc, ◌+◌, ◌≤◌, Bool, true, false, ◌||◌, List, [], ◌∷◌, ◌++◌, length, set, Option, Some, None, refl, sym, ap, ◌∙◌, arith, subst, ⊎_elim}
 use Rattle.std.specs.Prelude.{nat_lt, slice_get, Result, Ok, Err}
-use Rattle.std.proofs.lemmas.Bool.{cond_both, ltb-true, ltb-false}
+use Rattle.std.proofs.lemmas.Bool.{cond_both, ltb-true, ltb-false, cases_Bool}
 use Rattle.std.proofs.lemmas.List.Folds.{list_any-append}
 use Rattle.ct_msg.specs.declared.client.ClientOp.{ClientOp}
 use Rattle.ct_msg.specs.declared.client.ClientOp.TheVariants as op
@@ -28,7 +28,6 @@ use Rattle.ct_cluster.specs.declared.step.StepFault.{StepFault}
 use Rattle.ct_register.specs.Lines.{Lines}
 use Rattle.ct_promise.specs.Marked.{is_removal, is_removed}
 use Rattle.ct_law_shown.specs.Shown.{labels_of}
-use Rattle.ct_law_shown.proofs.Weave.{true_or_false}
 use Rattle.ct_law_shown.proofs.Hearing.{labels_are}
 use Rattle.ct_law_node.proofs.Putting.{own_node}
 use Rattle.ct_law_cluster.proofs.Fed.{fed_is}
@@ -175,4 +174,4 @@ unfolding outcome unchanged
 step_clears c rules r g db key w s order = ⊎_elim
     (λ (t : is_allowed s ≡ true). rw t (taken_clears c rules r g db key w s (applied c rules w s) order refl))
     (λ (f : is_allowed s ≡ false). rw f (λ told. absurd (cc)))
-    (true_or_false (is_allowed s))
+    (cases_Bool (is_allowed s))

@@ -6,7 +6,7 @@ use Rattle.std.specs.List.Sorted.{IsStrictlySortedBy}
 use Rattle.std.specs.Map.{keys_of}
 use Rattle.std.specs.Ordering.{is_eq}
 use Rattle.std.specs.declared.cmp.Ordering.TheVariants.{Less}
-use Rattle.std.proofs.lemmas.Bool.{cond_both}
+use Rattle.std.proofs.lemmas.Bool.{cond_both, cases_Bool}
 use Rattle.ct_bytes.specs.Key.{key_cmp}
 use Rattle.ct_bytes.specs.Words.{others}
 use Rattle.ct_msg.specs.declared.client.ClientOp.{ClientOp}
@@ -39,7 +39,6 @@ use Rattle.ct_cluster.specs.declared.step.PendingCall.{PendingCall}
 use Rattle.ct_register.specs.Lines.{Lines}
 use Rattle.ct_promise.specs.Marked.{removes, is_removed}
 use Rattle.ct_law_shown.specs.Shown.{labels_of}
-use Rattle.ct_law_shown.proofs.Weave.{true_or_false}
 use Rattle.ct_law_removal.proofs.Finishing.{Unfinished, Finishes, want_unfinished, store_unfinished, release_unfinished, unlock_unfinished, call_again_unfinished, revoke_again_unfinished, want_again_unfinished, vacuum_finishes, arrive_finishes}
 use Rattle.ct_law_removal.proofs.Removing.{removed_by, done_where_told, unfinished_at, finished_at, IsGone}
 use Rattle.ct_law_removal.proofs.Unremoved.{Silent, either, with_phase_silent, makes_silent, answers_silent, notes_silent, commit_silent, on_pupdate_silent, on_pack_silent, read_pair_silent, begin_round_silent, frozen_silent, on_freeze_silent, on_freezeack_silent, on_pull_silent, on_pullreply_silent, on_push_silent, on_pushack_silent, begin_takeover_silent, on_release_silent, on_releaseack_silent, on_take_silent, update_in_silent, retry_lead_silent}
@@ -181,7 +180,7 @@ vacuum_all_removes c n db (x ∷ m) t d k h order s told =
     (g.2.0, ap (λ (s : RecState). s.entry) stays ∙ g.2.1)))
     (λ (not_yet : removed_by d k u.outs ≡ false). (let g = vacuum_all_removes c n db m u d k a.order order.1 (record { none = not_yet }) told in
     (g.0 ∙ ap (λ (ms : List ℕ). master_of ms k) (members_stay c n db x.0 (vacuumed n t) t), g.1)))
-    (true_or_false (removed_by d k u.outs))
+    (cases_Bool (removed_by d k u.outs))
 
 pub vacuums_remove : (c : Config) (n db : ℕ) (t : Turn) (d : ℕ) (k : List ℕ) → NodeAscends t.node → Silent d k t → MayRemove n d k t (vacuums c n db t)
 unfolding vacuums db_at

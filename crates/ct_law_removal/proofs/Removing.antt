@@ -2,7 +2,7 @@
 use Rattle.std.proofs.Common.{◌≡◌, ℕ, zero, suc, ◌≤◌, Bool, true, false, ◌&&◌, ◌||◌, List, [], ◌∷◌, ◌++◌, map, length, None, refl, sym, ap, ◌∙◌, arith, subst, ⊎_elim, inl, inr}
 use Rattle.std.specs.Prelude.{◌⊎◌, nat_eq, nat_lt, bytes_eq, slice_get}
 use Rattle.std.specs.List.{AllByRecursion, list_any}
-use Rattle.std.proofs.lemmas.Bool.{cond_both, eqb-true, eq-eqb, ltb-true, ltb-false}
+use Rattle.std.proofs.lemmas.Bool.{cond_both, eqb-true, eq-eqb, ltb-true, ltb-false, or_parts, cases_Bool}
 use Rattle.std.proofs.lemmas.List.Folds.{list_any-append}
 use Rattle.ct_msg.specs.declared.client.Answer.{Answer}
 use Rattle.ct_msg.specs.declared.client.ClientOp.{ClientOp}
@@ -33,7 +33,7 @@ use Rattle.ct_promise.specs.Marked.{removes, is_removal, is_removed}
 use Rattle.ct_law_world.specs.Labels as law
 use Rattle.ct_law_world.specs.Marked as law_marked
 use Rattle.ct_law_shown.specs.Shown.{is_it, is_telling, told_of, told_by, told_by_all, heard, IsOfLine, labels_of}
-use Rattle.ct_law_shown.proofs.Weave.{true_or_false, it_is}
+use Rattle.ct_law_shown.proofs.Weave.{it_is}
 use Rattle.ct_law_removal.proofs.Finishing.{IsNoFinish, Unfinished, Finishes}
 
 -- ---- small words
@@ -45,10 +45,6 @@ and_none false = refl
 or_none : (a : Bool) → (a || false) ≡ a
 or_none true = refl
 or_none false = refl
-
-no_parts : (a b : Bool) → (a || b) ≡ false → (a ≡ false) × (b ≡ false)
-no_parts true b e = absurd (cc)
-no_parts false b e = (refl, e)
 
 -- ---- what labels tell of it
 
@@ -130,11 +126,11 @@ not_told r g db key n calls (out.Send f ∷ xs) e =
     list_any-append (is_removal r g db key) (sent_label f.sender f.generation f.msg) (labels_of n calls xs) ∙ (λ i. sent_none r g db key f.sender f.generation f.msg i || not_told r g db key n calls xs e i)
 not_told r g db key n calls (out.Answer call a ∷ xs) e =
     list_any-append (is_removal r g db key) (answered call a calls) (labels_of n calls xs) ∙ (λ i. answered_none r g db key call a calls i || not_told r g db key n calls xs e i)
-not_told r g db key n calls (out.Note x ∷ xs) e = (let p = no_parts (removes db key x) (removed_by db key xs) e in
+not_told r g db key n calls (out.Note x ∷ xs) e = (let p = or_parts (removes db key x) (removed_by db key xs) e in
     (λ i. (nat_eq (r.line n) g && p.0 i) || not_told r g db key n calls xs p.1 i) ∙ (λ i. and_none (nat_eq (r.line n) g) i || false))
 
 pub done_where_told : (r : Lines) (g db : ℕ) (key : List ℕ) (n : ℕ) (calls : List PendingCall) (xs : List Out) → is_removed r g db key (labels_of n calls xs) ≡ true → removed_by db key xs ≡ true
-done_where_told r g db key n calls xs e = ⊎_elim (λ (t : removed_by db key xs ≡ true). t) (λ (f : removed_by db key xs ≡ false). absurd (let k = sym e ∙ not_told r g db key n calls xs f in cc)) (true_or_false (removed_by db key xs))
+done_where_told r g db key n calls xs e = ⊎_elim (λ (t : removed_by db key xs ≡ true). t) (λ (f : removed_by db key xs ≡ false). absurd (let k = sym e ∙ not_told r g db key n calls xs f in cc)) (cases_Bool (removed_by db key xs))
 
 -- and they tell it of a node that is in the line
 not_in_line : (r : Lines) (g db : ℕ) (key : List ℕ) (n : ℕ) (calls : List PendingCall) (xs : List Out) → nat_eq (r.line n) g ≡ false → is_removed r g db key (labels_of n calls xs) ≡ false
@@ -147,7 +143,7 @@ not_in_line r g db key n calls (out.Answer call a ∷ xs) e =
 not_in_line r g db key n calls (out.Note x ∷ xs) e = (λ i. (e i && removes db key x) || not_in_line r g db key n calls xs e i)
 
 pub told_in_line : (r : Lines) (g db : ℕ) (key : List ℕ) (n : ℕ) (calls : List PendingCall) (xs : List Out) → is_removed r g db key (labels_of n calls xs) ≡ true → r.line n ≡ g
-told_in_line r g db key n calls xs e = ⊎_elim (λ (t : nat_eq (r.line n) g ≡ true). eqb-true (r.line n) g t) (λ (f : nat_eq (r.line n) g ≡ false). absurd (let k = sym e ∙ not_in_line r g db key n calls xs f in cc)) (true_or_false (nat_eq (r.line n) g))
+told_in_line r g db key n calls xs e = ⊎_elim (λ (t : nat_eq (r.line n) g ≡ true). eqb-true (r.line n) g t) (λ (f : nat_eq (r.line n) g ≡ false). absurd (let k = sym e ∙ not_in_line r g db key n calls xs f in cc)) (cases_Bool (nat_eq (r.line n) g))
 
 -- ---- a step at one record
 
@@ -216,5 +212,5 @@ finished_at c n db key part t d k h may told = ⊎_elim
       subst (λ (x : ℕ). IsGone n x k t (at_record c n db key part t)) p.0 (subst (λ (x : List ℕ). IsGone n db x t (at_record c n db key part t)) p.1 (gone.0, entry_after c n db key part t h gone.1)),
     )))
     (λ (unlike : is_it d k db key ≡ false). inl (sym (other_at c n db key part t d k unlike) ∙ told))
-    (true_or_false (is_it d k db key)))
+    (cases_Bool (is_it d k db key)))
     may

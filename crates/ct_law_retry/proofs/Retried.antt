@@ -16,7 +16,7 @@ use Rattle.ct_deleg.specs.Tracked.{Revocation}
 use Rattle.ct_law_world.specs.World.{Mail, sent, sends, told, answers, call_of}
 use Rattle.ct_law_world.specs.Labels as law
 use Rattle.std.specs.List.{AllByRecursion}
-use Rattle.std.proofs.lemmas.Bool.{cases_eq}
+use Rattle.std.proofs.lemmas.Bool.{cases_eq, and_parts, cases_Bool}
 use Rattle.ct_msg.specs.declared.config.Config.{Config}
 use Rattle.ct_call.specs.Rules.{Rules}
 use Rattle.ct_rules.specs.Laws.{Grows, IsFront}
@@ -31,7 +31,7 @@ use Rattle.ct_cluster.specs.Steps.{frames_of}
 use Rattle.ct_cluster.specs.declared.step.PendingCall.{PendingCall}
 use Rattle.ct_law_world.specs.World.{view_of}
 use Rattle.ct_law_shown.specs.Shown.{Era, scene, view, is_it, mails, told_by_all, heard, AllAsked, labels_of, Finds}
-use Rattle.ct_law_shown.proofs.Weave.{it_is, true_or_false}
+use Rattle.ct_law_shown.proofs.Weave.{it_is}
 use Rattle.ct_law_shown.proofs.Speaking.{Told}
 use Rattle.ct_law_wish.proofs.Wishing.{Wishful}
 use Rattle.ct_law_node.proofs.Pending.{Callers, Known, KnownAt}
@@ -205,7 +205,7 @@ just_same c era rules who calls n db0 db key0 key part t xs h k = ⊎_elim
     let next = just_next c n db0 key0 part t xs k in
     let floor = just_floor c n db0 db key0 part t xs h.known.order k in
     λ i. record { state = state i; next = next i; floor = floor i })
-    (true_or_false (is_it db key db0 key0))
+    (cases_Bool (is_it db key db0 key0))
 
 -- nobody asks, so whatever is answered is found
 finds_none : (db : ℕ) (key : List ℕ) (n : ℕ) (pend : List PendingCall) → Finds db key n pend nothing_asked
@@ -225,7 +225,7 @@ just_untold c n db0 db key0 key part t xs pend k =
     (subst (λ (d : ℕ). told_by_all d key0 (labels_of n pend (map (out_of t.node.generation n db0 key0) xs)) ≡ []) p.0
     (hear_same db0 key0 t.node.generation n pend nothing_asked xs (finds_none db0 key0 n pend) asked ∙ ap heard k.untold))))
     (λ (unlike : is_it db key db0 key0 ≡ false). hear_other db db0 key key0 t.node.generation n pend nothing_asked xs unlike (finds_none db0 key0 n pend) asked)
-    (true_or_false (is_it db key db0 key0))
+    (cases_Bool (is_it db key db0 key0))
 
 pub just_passes : (c : Config) (era : Era) (rules : Rules) (who : Callers) (calls n db : ℕ) (key : List ℕ) (part : Place → Moving → Moving) (t : Turn) (xs : List Act) (pend : List PendingCall) → NodeStays c era rules who calls n t.node → Just_sends c n db key part t xs →
     Passes c era rules who calls n pend t (at_record c n db key part t)
@@ -352,13 +352,9 @@ all_passes c era rules who calls n pend part what (x ∷ xs) t s l h =
     let one = just_passes c era rules who calls n x.db x.key part t _ pend h (s x.db x.key t h l.0) in
     passes_more c era rules who calls n pend t (at_record c n x.db x.key part t) _ one (all_passes c era rules who calls n pend part what xs (at_record c n x.db x.key part t) s l.1 one.stays)
 
-and_both : (a b : Bool) → (a && b) ≡ true → (a ≡ true) × (b ≡ true)
-and_both true b e = (refl, e)
-and_both false b e = absurd (cc)
-
 called_is : (db : ℕ) (key : List ℕ) (x : Called) → is_called_at db key x ≡ true → (x.db ≡ db) × (x.key ≡ key)
 unfolding is_called_at
-called_is db key x e = (let p = and_both _ _ e in (sym (nat_cmp-IsAntisymmetric db x.db (equal _ p.0)), sym (one_key key x.key (equal _ p.1))))
+called_is db key x e = (let p = and_parts _ _ e in (sym (nat_cmp-IsAntisymmetric db x.db (equal _ p.0)), sym (one_key key x.key (equal _ p.1))))
 
 called_not : (db : ℕ) (key : List ℕ) (x : Called) → is_called_at db key x ≡ false → is_it db key x.db x.key ≡ false
 unfolding is_called_at
@@ -366,7 +362,7 @@ called_not db key x e = ⊎_elim
     (λ (t : is_it db key x.db x.key ≡ true). (let p = it_is db x.db key x.key t in
     let own : (is_eq (nat_cmp db x.db) && is_eq (key_cmp key x.key)) ≡ true = subst (λ (d : ℕ). (is_eq (nat_cmp db d) && is_eq (key_cmp key x.key)) ≡ true) (sym p.0) (subst (λ (k : List ℕ). (is_eq (nat_cmp db db) && is_eq (key_cmp key k)) ≡ true) (sym p.1) (λ i. same_number db i && own_key key i)) in absurd (cc)))
     (λ (f : is_it db key x.db x.key ≡ false). f)
-    (true_or_false (is_it db key x.db x.key))
+    (cases_Bool (is_it db key x.db x.key))
 
 pub all_mail : (c : Config) (era : Era) (rules : Rules) (who : Callers) (calls n : ℕ) (part : Place → Moving → Moving) (what : ℕ → List ℕ → View → List Act) (xs : List Called) (t : Turn) → Sends_each c era rules who calls n part what →
     AllInside c xs → NodeStays c era rules who calls n t.node → (db : ℕ) (key : List ℕ) →

@@ -2,7 +2,7 @@
 use Rattle.std.proofs.Common.{◌≡◌, ℕ, ◌<◌, true, false, cond, List, [], ◌∷◌, ◌++◌, length, Option, Some, None, refl, sym, ap, ◌∙◌, append-nil, arith, subst}
 use Rattle.std.specs.Prelude.{nat_eq, is_none, ◌||◌}
 use Rattle.std.specs.List.{AllByRecursion}
-use Rattle.std.proofs.lemmas.Bool.{eq-eqb}
+use Rattle.std.proofs.lemmas.Bool.{eq-eqb, or_parts}
 use Rattle.ct_msg.specs.declared.client.ClientOp.{ClientOp}
 use Rattle.ct_msg.specs.declared.config.Config.{Config}
 use Rattle.ct_frame.specs.Fields.{is_db, is_node}
@@ -42,7 +42,7 @@ use Rattle.ct_law_node.proofs.Following.{IsEra, Asks, all_plain, node_of, Goes_o
 use Rattle.ct_law_node.proofs.Delivering.{whole_part}
 use Rattle.ct_law_retry.proofs.Retried.{AllInside}
 use Rattle.ct_law_retry.proofs.Resending.{pending_inside}
-use Rattle.ct_law_cluster.proofs.Vacuumed.{Found, goes_more, asks_amid, Waited, waited_finds, finds_waited, either_whole}
+use Rattle.ct_law_cluster.proofs.Vacuumed.{Found, goes_more, asks_amid, Waited, waited_finds, finds_waited}
 
 -- ---- the rule of one record
 
@@ -229,7 +229,7 @@ again_wishes P c rules n db key t order there all = wishes_at P c n db key (want
 pub wants_before : (c : Config) (rules : Rules) (n : ℕ) (xs : List Called) (t : Turn) → (want_all c rules n xs t).spent ≡ false → t.spent ≡ false
 unfolding want_all at_record acted
 wants_before c rules n [] t e = e
-wants_before c rules n (x ∷ xs) t e = either_whole t.spent (left_by c n x.db x.key (want_again rules) t).spent (wants_before c rules n xs (at_record c n x.db x.key (want_again rules) t) e)
+wants_before c rules n (x ∷ xs) t e = (or_parts t.spent (left_by c n x.db x.key (want_again rules) t).spent (wants_before c rules n xs (at_record c n x.db x.key (want_again rules) t) e)).0
 
 -- one of them, in a step from a turn t0 on, from which it came to t
 pub thaws_at : (c : Config) (era : Era) (rules : Rules) (who : Callers) (calls n : ℕ) (x : Called) (pend : List PendingCall) (ws : ℕ → List ℕ → World) (t0 t : Turn) → Thaws_from c era rules n ws t0 → x.db < length c.dbs → AllWishes (Found n pend) t.node →

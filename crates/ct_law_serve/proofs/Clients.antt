@@ -1,6 +1,7 @@
 -- Every client's call at a node that is present.
 use Rattle.std.proofs.Common.{◌≡◌, ℕ, Bool, true, false, List, [], ◌∷◌, Option, Some, None, ⊎_elim, refl, sym, ap, ◌∙◌, subst}
 use Rattle.std.specs.Prelude.{nat_lt}
+use Rattle.std.proofs.lemmas.Bool.{cases_Bool}
 use Rattle.ct_msg.specs.Client.{is_read}
 use Rattle.ct_msg.specs.declared.client.Answer.TheVariants as answer
 use Rattle.ct_msg.specs.declared.client.ClientOp.{ClientOp}
@@ -17,7 +18,6 @@ use Rattle.ct_rules_node.specs.Steps.{happens}
 use Rattle.ct_cluster.specs.Cluster.{Cluster, node_at, pending}
 use Rattle.ct_register.specs.Lines.{Lines}
 use Rattle.ct_promise.specs.Promises.{IsConfig}
-use Rattle.ct_law_shown.proofs.Weave.{true_or_false}
 use Rattle.ct_law_node.proofs.Calling.{own_pending}
 use Rattle.ct_law_cluster.proofs.Admitted.{admits}
 use Rattle.ct_law_cluster.proofs.Configured.{refusals_silent}
@@ -63,4 +63,4 @@ client_turned c rules w r h n o config there present own whole = either (refusal
     either None free = ⊎_elim
         (λ (kind : is_persistent (kind_at c (clients.db_of o)) ≡ true). persistent_turned c rules w r h n o there present own free kind)
         (λ (kind : is_persistent (kind_at c (clients.db_of o)) ≡ false). call_turned c rules w r h n o config there present own free whole kind)
-        (true_or_false (is_persistent (kind_at c (clients.db_of o))))
+        (cases_Bool (is_persistent (kind_at c (clients.db_of o))))

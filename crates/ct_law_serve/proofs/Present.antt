@@ -2,7 +2,7 @@
 use Rattle.std.proofs.Common.{◌≡◌, ◌≢◌, ℕ, ◌≤◌, Bool, true, false, ◌||◌, List, ⊎_elim, refl, sym, ap, ◌∙◌, subst, arith}
 use Rattle.std.specs.Prelude.{nat_eq, nat_lt, is_some}
 use Rattle.std.specs.List.{AllByRecursion}
-use Rattle.std.proofs.lemmas.Bool.{cases_eq, eq-eqb}
+use Rattle.std.proofs.lemmas.Bool.{cases_eq, eq-eqb, cases_Bool}
 use Rattle.ct_msg.specs.declared.config.Config.{Config}
 use Rattle.ct_frame.specs.declared.frame.Frame.{Frame}
 use Rattle.ct_frame.specs.declared.frame.Msg.{Msg}
@@ -19,7 +19,6 @@ use Rattle.ct_register.specs.Lines.{Lines}
 use Rattle.ct_law_world.specs.World.{View}
 use Rattle.ct_law_record.proofs.Law.{leads}
 use Rattle.ct_law_shown.specs.Shown.{Era, scene, view}
-use Rattle.ct_law_shown.proofs.Weave.{true_or_false}
 use Rattle.ct_law_node.proofs.Pending.{Callers, NodeKnown}
 use Rattle.ct_law_node.proofs.Staying.{NodeStays, of_era, phase_of}
 use Rattle.ct_law_node.proofs.Following.{IsEra, asks_by_law}
@@ -199,4 +198,4 @@ pub known_all : (c : Config) (rules : Rules) (w : Cluster) (r : Lines) (h : Live
 known_all c rules w r h m = ⊎_elim
     (λ (there : nat_lt m c.nodes ≡ true). (h.nodes m there).known)
     (λ (out : nat_lt m c.nodes ≡ false). subst (λ (x : Node). NodeKnown h.who w.calls m x) (sym (beyond c rules w r h m out)) (absent_known h.who w.calls m))
-    (true_or_false (nat_lt m c.nodes))
+    (cases_Bool (nat_lt m c.nodes))

@@ -2,7 +2,7 @@
 use Rattle.std.proofs.Common.{◌≡◌, ℕ, suc, true, false, List, [], ◌∷◌, ◌++◌, Option, Some, None, ⊎_elim, inl, inr, refl, sym, ap, ◌∙◌, subst, arith}
 use Rattle.std.specs.Prelude.{nat_lt, ◌&&◌, map, slice_get, is_some}
 use Rattle.std.specs.List.{AllByRecursion}
-use Rattle.std.proofs.lemmas.Bool.{and_parts}
+use Rattle.std.proofs.lemmas.Bool.{and_parts, cases_Bool}
 use Rattle.ct_msg.specs.declared.config.Config.{Config}
 use Rattle.ct_frame.specs.declared.event.Event.{Event}
 use Rattle.ct_frame.specs.declared.event.Event.TheVariants as event
@@ -25,7 +25,6 @@ use Rattle.ct_promise.specs.Promises.{IsConfig}
 use Rattle.ct_law_world.specs.World.{World, waiting_call}
 use Rattle.ct_law_shown.specs.Shown.{scene, labels_of, Finds}
 use Rattle.ct_law_shown.proofs.Speaking.{arrive_told}
-use Rattle.ct_law_shown.proofs.Weave.{true_or_false}
 use Rattle.ct_law_shown.proofs.Hearing.{frames_more}
 use Rattle.ct_law_node.proofs.Events.{arrives_at, arrives_not}
 use Rattle.ct_law_node.proofs.Plain.{IsPlain}
@@ -168,7 +167,7 @@ sent_turned c rules w r h k s db key config there present at sent of spent = ⊎
     (λ (out : (is_current s.frame (node_at s.frame.receiver w) && has_records (kind_at c db)) ≡ false).
     subst (λ (u : Turn). Turned c rules h.who w r h.ages s.frame.receiver (pending w) u) (sym (arrives_not c rules s.frame.receiver s.frame (begins (node_at s.frame.receiver w)) db key of out))
     (nothing_turned c rules w r h s.frame.receiver (pending w) there))
-    (true_or_false (is_current s.frame (node_at s.frame.receiver w) && has_records (kind_at c db)))
+    (cases_Bool (is_current s.frame (node_at s.frame.receiver w) && has_records (kind_at c db)))
 
 -- every message of a record that was sent to the node
 pub record_turned : (c : Config) (rules : Rules) (w : Cluster) (r : Lines) (h : Lives c rules w r) (n : ℕ) (f : Frame) (k : ℕ × List ℕ) → IsConfig c → nat_lt n c.nodes ≡ true → is_present (node_at n w).phase ≡ true → f.receiver ≡ n → WasSent w f → record_in f.msg ≡ Some k →

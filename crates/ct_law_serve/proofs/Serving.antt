@@ -3,7 +3,7 @@
 use Rattle.std.proofs.Common.{◌≡◌, ◌≢◌, ℕ, ◌<◌, ◌^◌, Bool, true, false, cond, List, [], ◌∷◌, ◌++◌, Option, Some, None, append-nil, ⊎_elim, refl, sym, ap, ◌∙◌, subst, arith}
 use Rattle.std.specs.Prelude.{nat_eq, nat_lt, ◌&&◌}
 use Rattle.std.specs.List.{AllByRecursion}
-use Rattle.std.proofs.lemmas.Bool.{cases_eq, ne_eqb, eq-eqb}
+use Rattle.std.proofs.lemmas.Bool.{cases_eq, ne_eqb, eq-eqb, cases_Bool}
 use Rattle.ct_msg.specs.declared.config.Config.{Config}
 use Rattle.ct_frame.specs.declared.event.Out.{Out}
 use Rattle.ct_frame.specs.declared.frame.Frame.{Frame}
@@ -36,7 +36,7 @@ use Rattle.ct_law_record.proofs.Worlds.{WorldInv}
 use Rattle.ct_law_record.proofs.MarkedRun.{Through, marks_of, unmarked, run_marks}
 use Rattle.ct_law_shown.specs.Shown.{scene, view, mails, mail_of, is_it, told_by_all, heard, labels_of, amid, IsOfLine}
 use Rattle.ct_law_shown.proofs.Hearing.{frames_more, mails_more, labels_more, accepts_heard}
-use Rattle.ct_law_shown.proofs.Weave.{Woven, weave, true_or_false}
+use Rattle.ct_law_shown.proofs.Weave.{Woven, weave}
 use Rattle.ct_law_node.proofs.Plain.{AllPlain, of_plain}
 use Rattle.ct_law_node.proofs.Staying.{NodeStays, phase_of}
 use Rattle.ct_law_node.proofs.Lining.{Is_fit, fit_own, fit_told}
@@ -301,7 +301,7 @@ module _ (c : Config) (rules : Rules) (w : Cluster) (r : Lines) (h : Lives c rul
   unremoved m db key ne = ⊎_elim
       (λ (e : is_removed r m db key (labels_of n pend v.outs) ≡ true). absurd (ne (sym (told_in_line r m db key n pend v.outs e))))
       (λ (e : is_removed r m db key (labels_of n pend v.outs) ≡ false). e)
-      (true_or_false (is_removed r m db key (labels_of n pend v.outs)))
+      (cases_Bool (is_removed r m db key (labels_of n pend v.outs)))
 
   marks : (m : ℕ) (db : ℕ) (key : List ℕ) → MarksStep (is_removed r m db key (labels_of n pend v.outs)) (marks_of (a.ghosts m db key)) (marks_of (b.ghosts m db key))
   marks m db key = ⊎_elim

@@ -1,7 +1,7 @@
 -- A step at one record of a node, in the world of each record.
 use Rattle.std.proofs.Common.{◌≡◌, ◌≢◌, ℕ, ◌<◌, ◌≤◌, Bool, true, false, cond, List, [], ◌∷◌, ◌++◌, map, length, Option, refl, sym, ap, ◌∙◌, append-nil, arith, subst, ⊎_elim, inl, inr, append_assoc}
 use Rattle.std.specs.Prelude.{nat_eq, not, ◌&&◌, ◌||◌, ◌⊎◌}
-use Rattle.std.proofs.lemmas.Bool.{cases_eq, eq-eqb}
+use Rattle.std.proofs.lemmas.Bool.{cases_eq, eq-eqb, or_right}
 use Rattle.ct_msg.specs.declared.client.ClientOp.{ClientOp}
 use Rattle.ct_msg.specs.declared.config.Config.{Config}
 use Rattle.ct_frame.specs.declared.event.Out.{Out}
@@ -56,11 +56,7 @@ self g db key n w t = ap (λ (b : Bool). cond b (view db key t.node) (w.nodes n)
 
 -- who takes a step has joined
 pub here : (w : World) (n : ℕ) → (w.joined n || nat_eq n n) ≡ true
-here w n = either (w.joined n) (nat_eq n n) (eq-eqb n n refl)
-  where
-    either : (a b : Bool) → b ≡ true → (a || b) ≡ true
-    either true b e = refl
-    either false b e = e
+here w n = or_right (w.joined n) (nat_eq n n) (eq-eqb n n refl)
 
 goes : (a j b : Bool) → a ≡ true → j ≡ true → b ≡ false → (a && j && not b) ≡ true
 goes true true false a e b = refl

@@ -1,7 +1,7 @@
 -- What a step at one record tells of that record and of others.
 use Rattle.std.proofs.Common.{◌≡◌, ℕ, ◌+◌, Bool, true, false, List, [], ◌∷◌, ◌++◌, map, Some, refl, ap, ◌∙◌, subst}
 use Rattle.std.specs.Prelude.{nat_eq, ◌&&◌}
-use Rattle.std.proofs.lemmas.Bool.{and_from, eq-eqb}
+use Rattle.std.proofs.lemmas.Bool.{and_from, eq-eqb, and_right}
 use Rattle.ct_msg.specs.declared.client.Answer.{Answer}
 use Rattle.ct_msg.specs.declared.client.Answer.TheVariants as answer
 use Rattle.ct_msg.specs.declared.client.ClientOp.{ClientOp}
@@ -168,16 +168,12 @@ mails_same at g me (act.Send receiver m ∷ xs) h =
 mails_same at g me (act.Answer call a ∷ xs) h = mails_same at g me xs h.1
 mails_same at g me (act.Finished floor ∷ xs) h = mails_same at g me xs h.1
 
-pub other_not : (a b : Bool) → b ≡ false → (a && b) ≡ false
-other_not true b e = e
-other_not false b e = refl
-
 -- and is no mail of another
 pub mails_other : (h : ℕ) (at : Place) (db : ℕ) (key : List ℕ) (g me : ℕ) (xs : List Act) → is_it db key at.db at.key ≡ false → Told at xs → mails h db key (frames_of (map (out_of g me at.db at.key) xs)) ≡ []
 unfolding mails frames_of out_of Told About
 mails_other h at db key g me [] e t = refl
 mails_other h at db key g me (act.Send receiver m ∷ xs) e t =
-    ap (λ (l : List Mail). l ++ mails h db key (frames_of (map (out_of g me at.db at.key) xs))) (one_mail h false db at.db key at.key (record { generation = g; sender = me; receiver = receiver; msg = m }) (other_not (nat_eq g h) _ e) t.0)
+    ap (λ (l : List Mail). l ++ mails h db key (frames_of (map (out_of g me at.db at.key) xs))) (one_mail h false db at.db key at.key (record { generation = g; sender = me; receiver = receiver; msg = m }) (and_right (nat_eq g h) _ e) t.0)
     ∙ mails_other h at db key g me xs e t.1
 mails_other h at db key g me (act.Answer call a ∷ xs) e t = mails_other h at db key g me xs e t.1
 mails_other h at db key g me (act.Finished floor ∷ xs) e t = mails_other h at db key g me xs e t.1

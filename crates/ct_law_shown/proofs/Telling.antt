@@ -1,6 +1,7 @@
 -- What a step at one record tells of that record is what its world tells, and it tells nothing of another.
 use Rattle.std.proofs.Common.{◌≡◌, ℕ, Bool, true, false, List, [], ◌∷◌, ◌++◌, map, Option, Some, None, refl, sym, ap, ◌∙◌, subst}
 use Rattle.std.specs.Prelude.{◌&&◌}
+use Rattle.std.proofs.lemmas.Bool.{and_right}
 use Rattle.ct_msg.specs.Client.{db_of, key_of}
 use Rattle.ct_msg.specs.declared.client.Answer.{Answer}
 use Rattle.ct_msg.specs.declared.client.ClientOp.{ClientOp}
@@ -18,7 +19,7 @@ use Rattle.ct_law_world.specs.Labels as law
 use Rattle.ct_law_world.specs.World.{told, answers, call_of}
 use Rattle.ct_law_shown.specs.Shown.{is_it, is_telling, told_of, told_by, told_by_all, heard, AllAsked, labels_of, Finds}
 use Rattle.ct_law_shown.proofs.Weave.{it_is_itself}
-use Rattle.ct_law_shown.proofs.Hearing.{other_not, asked_right}
+use Rattle.ct_law_shown.proofs.Hearing.{asked_right}
 
 pub sent_quiet : (db : ℕ) (key : List ℕ) (n g : ℕ) (m : Msg) (rest : List Label) → told_by_all db key (sent_label n g m ++ rest) ≡ told_by_all db key rest
 unfolding sent_label told_by_all told_by
@@ -90,7 +91,7 @@ answer_other db db0 key key0 n call a calls asks rest more (Some asked) e apart 
     let p = f.about call asked e in
     let it : is_it db key (db_of asked) (key_of asked) ≡ false = subst (λ (d : ℕ). is_it db key d (key_of asked) ≡ false) (sym p.0) (subst (λ (k : List ℕ). is_it db key db0 k ≡ false) (sym p.1) apart) in
     ap (λ (l : List Label). told_by_all db key (l ++ rest)) (f.found call asked e a)
-    ∙ ap (λ (b : Bool). told_of b (law.Told n asked a) ++ told_by_all db key rest) (other_not (is_telling a) _ it)
+    ∙ ap (λ (b : Bool). told_of b (law.Told n asked a) ++ told_by_all db key rest) (and_right (is_telling a) _ it)
     ∙ told_none (law.Told n asked a) (told_by_all db key rest) ∙ same
 
 pub hear_other : (db db0 : ℕ) (key key0 : List ℕ) (g n : ℕ) (calls : List PendingCall) (asks : ℕ → Option ClientOp) (xs : List Act) → is_it db key db0 key0 ≡ false →

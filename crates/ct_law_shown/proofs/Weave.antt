@@ -2,7 +2,7 @@
 use Rattle.std.proofs.Common.{◌≡◌, ℕ, ◌≤◌, Bool, true, false, List, [], ◌∷◌, ◌++◌, refl, sym, ap, ◌∙◌, ⊎_elim, inl, inr, subst, arith}
 use Rattle.std.specs.Prelude.{◌≢◌, ◌⊎◌, nat_eq, bytes_eq, ◌&&◌}
 use Rattle.std.specs.List.{AllByRecursion}
-use Rattle.std.proofs.lemmas.Bool.{cases_eq, eq-eqb, eqb-true, and_parts}
+use Rattle.std.proofs.lemmas.Bool.{cases_eq, eq-eqb, eqb-true, and_parts, and_left, cases_Bool}
 use Rattle.std.proofs.lemmas.Slice.Eq.{bytes_eq-Decides}
 use Rattle.ct_msg.specs.Client.{db_of, key_of}
 use Rattle.ct_msg.specs.declared.client.Answer.{Answer}
@@ -23,10 +23,6 @@ use Rattle.ct_register.proofs.Places.{at_same, at_other, at_key_same, at_key_oth
 use Rattle.ct_law_world.specs.Labels.{AcceptsAll}
 use Rattle.ct_law_world.specs.Labels as law
 use Rattle.ct_law_shown.specs.Shown.{is_it, is_telling, told_of, told_by, told_by_all, AllInstalled, IsOfLine}
-
-pub true_or_false : (b : Bool) → (b ≡ true) ⊎ (b ≡ false)
-true_or_false true = inl refl
-true_or_false false = inr refl
 
 -- ---- one record among all
 
@@ -122,7 +118,7 @@ rest_each g rules l db0 key0 x mid r labels t e h m db key = ⊎_elim
     (subst (λ (q : Register). AcceptsAll rules q (told_by_all db0 key0 labels) (t db0 key0)) (sym (same_record g l db0 key0 mid r e)) m))))
     (λ (unlike : is_it db key db0 key0 ≡ false). subst (λ (q : Register). AcceptsAll rules q (told_by_all db key labels) (t db key)) (sym (other_record g l db0 db key0 key mid r e unlike))
     (first_none rules (is_it db key db0 key0) x (told_by_all db key labels) (r.records g db key) (t db key) unlike (h db key)))
-    (true_or_false (is_it db key db0 key0))
+    (cases_Bool (is_it db key db0 key0))
 
 -- what the registers come to after one label
 abbrev pub Goes_on : ℕ → Config → Rules → Lines → Label → List Label → (ℕ → List ℕ → Register) → Type 0
@@ -134,10 +130,6 @@ other_lines g l db key t r e h ne = at_other l h _ r.records (λ is. ne (is ∙ 
 telling_alone : (a b : Bool) → a ≡ true → (a && b) ≡ b
 telling_alone true b e = refl
 telling_alone false b e = absurd (cc)
-
-silent_alone : (a b : Bool) → a ≡ false → (a && b) ≡ false
-silent_alone true b e = absurd (cc)
-silent_alone false b e = refl
 
 told_answer : (g : ℕ) (config : Config) (rules : Rules) (n : ℕ) (asked : ClientOp) (a : Answer) (labels : List Label) (r : Lines) (t : ℕ → List ℕ → Register) → 1 ≤ g → is_telling a ≡ true →
     r.line n ≡ g → has_records (kind_at config (db_of asked)) ≡ true → Each g rules r (Answered n asked a ∷ labels) t → Goes_on g config rules r (Answered n asked a) labels t
@@ -159,7 +151,7 @@ unfolding told_by_all told_by
 silent_answer g config rules n asked a labels r t e h = (
   r,
   silent config rules n asked a r e,
-  λ db key. first_none rules _ (law.Told n asked a) (told_by_all db key labels) (r.records g db key) (t db key) (silent_alone (is_telling a) _ e) (h db key),
+  λ db key. first_none rules _ (law.Told n asked a) (told_by_all db key labels) (r.records g db key) (t db key) (and_left (is_telling a) _ e) (h db key),
   refl,
   λ l ne. refl,
 )
@@ -203,7 +195,7 @@ unfolding IsOfLine told_by_all told_by
 one_label g config rules (Answered n asked a) labels r t real own h = ⊎_elim
     (λ (e : is_telling a ≡ true). told_answer g config rules n asked a labels r t real e (own e).0 (own e).1 h)
     (λ (e : is_telling a ≡ false). silent_answer g config rules n asked a labels r t e h)
-    (true_or_false (is_telling a))
+    (cases_Bool (is_telling a))
 one_label g config rules (Noted n (note.Vacuumed db key)) labels r t real own h = told_vacuum g config rules n db key labels r t real own.0 own.1 h
 one_label g config rules (Noted n (note.Thawed h)) labels r t real own each = (r, thaw_accepted g h n r real own, each, refl, λ l ne. refl)
 one_label g config rules _ labels r t real own h = absurd own

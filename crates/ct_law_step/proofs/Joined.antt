@@ -1,7 +1,7 @@
 -- A client's call, refused, on a record or on a persistent database: the run goes on.
 use Rattle.std.proofs.Common.{◌≡◌, ℕ, ◌+◌, Bool, true, false, cond, List, [], ◌∷◌, ◌++◌, Option, Some, None, refl, sym, ap, ◌∙◌, arith, subst, ⊎_elim, ◌≤◌}
 use Rattle.std.specs.List.{AllByRecursion}
-use Rattle.std.proofs.lemmas.Bool.{eq-eqb}
+use Rattle.std.proofs.lemmas.Bool.{eq-eqb, cases_Bool}
 use Rattle.ct_msg.specs.Client.{db_of, is_read}
 use Rattle.ct_msg.specs.declared.client.Answer.TheVariants as answer
 use Rattle.ct_msg.specs.declared.client.ClientOp.{ClientOp}
@@ -34,7 +34,6 @@ use Rattle.ct_promise.specs.Generation.{speaks_of_records, record_labels}
 use Rattle.ct_law_world.specs.World as law
 use Rattle.ct_law_shown.specs.Shown.{Era, is_telling, told_by, told_by_all, labels_of, IsOfLine, Schedules}
 use Rattle.ct_law_shown.proofs.Hearing.{told_by_more}
-use Rattle.ct_law_shown.proofs.Weave.{true_or_false}
 use Rattle.ct_law_node.proofs.Pending.{Callers}
 use Rattle.ct_law_cluster.proofs.Clusters.{ClusterStays}
 use Rattle.ct_law_cluster.proofs.Coming.{Cluster_goes}
@@ -245,7 +244,7 @@ free_taken c era rules reg w ls n (op.Unlock db key) is free h x ok e =
 free_taken c era rules reg w ls n (op.Read db key) is free h x ok e = ⊎_elim
     (λ (t : node.is_persistent (node.kind_at c db) ≡ true). read_pair_taken c era rules reg w ls n db key t free h x ok e)
     (λ (f : node.is_persistent (node.kind_at c db) ≡ false). read_taken c era rules reg w ls n db key is f free (client_tells c era rules reg w ls n (op.Read db key) x is f free h ok e) h x ok e)
-    (true_or_false (node.is_persistent (node.kind_at c db)))
+    (cases_Bool (node.is_persistent (node.kind_at c db)))
 free_taken c era rules reg w ls n (op.Commit db writes) is free h x ok e = commit_taken c era rules reg w ls n db writes (node_runs c w n (op.Commit db writes) ok) free h x ok e
 
 -- a client's call

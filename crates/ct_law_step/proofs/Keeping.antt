@@ -1,7 +1,7 @@
 -- What a message of a record tells, and what a vacuum tells, is of records of the line.
 use Rattle.std.proofs.Common.{◌≡◌, ℕ, ◌<◌, true, false, List, [], ◌∷◌, length, Some, sym, ap, ◌∙◌, subst, ⊎_elim}
 use Rattle.std.specs.Prelude.{slice_get, ◌&&◌}
-use Rattle.std.proofs.lemmas.Bool.{cond_both, and_parts}
+use Rattle.std.proofs.lemmas.Bool.{cond_both, and_parts, cases_Bool}
 use Rattle.ct_bytes.specs.Words.{others}
 use Rattle.ct_msg.specs.declared.config.Config.{Config}
 use Rattle.ct_call.specs.Rules.{Rules}
@@ -18,7 +18,6 @@ use Rattle.ct_cluster.specs.Labels.{Label}
 use Rattle.ct_cluster.specs.declared.step.PendingCall.{PendingCall}
 use Rattle.ct_law_world.specs.World.{World, Vacuums, waiting_call}
 use Rattle.ct_law_shown.specs.Shown.{Era, Finds, scene, project, amid, labels_of}
-use Rattle.ct_law_shown.proofs.Weave.{true_or_false}
 use Rattle.ct_law_node.proofs.Pending.{Callers}
 use Rattle.ct_law_node.proofs.Staying.{NodeStays, AllWishes}
 use Rattle.ct_law_node.proofs.Events.{arrives_at, arrives_not}
@@ -50,7 +49,7 @@ message_kept c era rules reg w ls k m r is h at up record_is spent =
     subst (λ (u : Turn). Tells c era reg n (pending w) u) (sym turn)
     (event_kept c era rules reg h.who w.calls n r.0 r.1 (event.Arrive m.frame.sender m.frame.msg) t (pending w) (waiting_call (state_at r.0 r.1 (node_at n w)).wish) (project era.number r.0 r.1 w) comes.0 (starts_at c era rules reg n is (h.goes.0.up n up)) kind stays comes.1 tt)))
     (λ (out : (is_current m.frame (node_at n w) && has_records (kind_at c r.0)) ≡ false). subst (λ (u : Turn). Tells c era reg n (pending w) u) (sym (arrives_not c rules n m.frame t r.0 r.1 record_is out)) tt)
-    (true_or_false (is_current m.frame (node_at n w) && has_records (kind_at c r.0)))
+    (cases_Bool (is_current m.frame (node_at n w) && has_records (kind_at c r.0)))
 
 -- ---- a vacuum
 

@@ -1,6 +1,7 @@
 -- What a node tells of a Thaw is of records of the line, and where all members have installed it, the cluster goes on.
 use Rattle.std.proofs.Common.{◌≡◌, ℕ, List, [], ◌∷◌, map, Option, Some, None, refl, sym, ap, subst, true, false, inl, ⊎_elim, ◌∙◌, ◌++◌}
 use Rattle.std.specs.List.{AllByRecursion}
+use Rattle.std.proofs.lemmas.Bool.{cases_Bool}
 use Rattle.ct_msg.specs.declared.config.Config.{Config}
 use Rattle.ct_frame.specs.declared.event.Note.TheVariants as note
 use Rattle.ct_frame.specs.declared.event.Out.TheVariants as out
@@ -38,7 +39,6 @@ use Rattle.ct_cluster.specs.Traces as traces
 use Rattle.ct_law_shown.specs.Waiting.{answerable, told_step}
 use Rattle.ct_frame.specs.declared.frame.Msg.TheVariants as msg
 use Rattle.ct_cluster.specs.Traces.{own_labels}
-use Rattle.ct_law_shown.proofs.Weave.{true_or_false}
 use Rattle.ct_law_node.proofs.Delivering.{begun}
 use Rattle.ct_law_cluster.proofs.Coming.{Cluster_goes, put_goes, goes_nowhere}
 use Rattle.ct_law_cluster.proofs.Clusters.{all_known}
@@ -108,7 +108,7 @@ installed_all : (c : Config) (era : Era) (rules : Rules) (reg : Lines) (who : Ca
 installed_all c era rules reg who calls n x is h phase = ⊎_elim
     (λ (warm : era.thawed ≡ true). absurd (let e : Installed ≡ Serving = sym phase ∙ h.serves warm in cc))
     (λ (cold : era.thawed ≡ false). is.ready cold)
-    (true_or_false era.thawed)
+    (cases_Bool era.thawed)
 
 thaw_follows : (c : Config) (era : Era) (rules : Rules) (reg : Lines) (ls : List Label) (w : Cluster) (n : ℕ) (f : Frame) → Starts c era rules reg → (h : Run_goes c era rules reg ls w) → is_up n w ≡ true → (arrives c rules n f (begins (node_at n w)) msg.Thaw).spent ≡ false →
     Follows_thaw c era rules reg h.who w n (arrives c rules n f (begins (node_at n w)) msg.Thaw)

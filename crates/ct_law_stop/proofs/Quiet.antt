@@ -2,6 +2,7 @@
 use Rattle.std.proofs.Common.{◌≡◌, ℕ, Bool, true, false, List, [], ◌∷◌, ◌++◌, length, Option, Some, None, ⊎_elim, refl, sym, ap, ◌∙◌, subst, arith}
 use Rattle.std.specs.Prelude.{map, nat_lt}
 use Rattle.std.specs.List.{AllByRecursion}
+use Rattle.std.proofs.lemmas.Bool.{cases_Bool}
 use Rattle.ct_msg.specs.declared.config.Config.{Config}
 use Rattle.ct_frame.specs.declared.frame.Frame.{Frame}
 use Rattle.ct_call.specs.Rules.{Rules}
@@ -23,7 +24,6 @@ use Rattle.ct_law_world.specs.World.{Mail}
 use Rattle.ct_law_record.proofs.MarkLists.{marks_stay}
 use Rattle.ct_law_record.proofs.MarkedRun.{marks_of}
 use Rattle.ct_law_shown.specs.Shown.{mail_of, mails}
-use Rattle.ct_law_shown.proofs.Weave.{true_or_false}
 use Rattle.ct_law_node.proofs.Pending.{NodeKnown}
 use Rattle.ct_law_line.proofs.Ages.{LinesLive}
 use Rattle.ct_law_line.proofs.Lives.{ReplySays, MailSays, NodeLives, Lives}
@@ -149,7 +149,7 @@ idle_after c rules w r h = quiet_after c rules w r h (unchanged w) r.holder (rec
 pub after_taken : (c : Config) (rules : Rules) (w : Cluster) (r : Lines) (h : Lives c rules w r) (s : Step) → (is_allowed s ≡ true → fault_of c w s ≡ None → After c rules r h.ages (came_of w s (steps c rules w s))) →
     After c rules r h.ages (outcome c rules w s)
 unfolding outcome applied steps_or came_of
-after_taken c rules w r h s goes = ⊎_elim (λ (t : is_allowed s ≡ true). rw t (either (fault_of c w s) refl t)) (λ (f : is_allowed s ≡ false). rw f (idle_after c rules w r h)) (true_or_false (is_allowed s))
+after_taken c rules w r h s goes = ⊎_elim (λ (t : is_allowed s ≡ true). rw t (either (fault_of c w s) refl t)) (λ (f : is_allowed s ≡ false). rw f (idle_after c rules w r h)) (cases_Bool (is_allowed s))
   where
     either : (f : Option StepFault) → fault_of c w s ≡ f → is_allowed s ≡ true → After c rules r h.ages (came_of w s (steps_or c rules w s (fault_of c w s)))
     either (Some f) e t = subst (λ (x : Option StepFault). After c rules r h.ages (came_of w s (steps_or c rules w s x))) (sym e) (idle_after c rules w r h)

@@ -1,7 +1,7 @@
 -- All holds after a stop: each world of the node's line has the event that it leaves, and the node keeps no record.
 use Rattle.std.proofs.Common.{◌≡◌, ◌≢◌, ℕ, zero, suc, ◌<◌, ◌≤◌, ◌^◌, Bool, true, false, cond, ◌||◌, List, [], ◌∷◌, Option, Some, None, ⊎_elim, refl, sym, ap, ◌∙◌, subst, arith}
 use Rattle.std.specs.Prelude.{nat_eq, nat_lt, slice_get, slice_set}
-use Rattle.std.proofs.lemmas.Bool.{cases_eq, cond_both, ne_eqb, eq-eqb, ltb-true}
+use Rattle.std.proofs.lemmas.Bool.{cases_eq, cond_both, ne_eqb, eq-eqb, ltb-true, or_right}
 use Rattle.std.proofs.lemmas.List.{length-set}
 use Rattle.ct_bytes.specs.Words.{is_this_node}
 use Rattle.ct_msg.specs.declared.config.Config.{Config}
@@ -294,11 +294,7 @@ module _ (c : Config) (rules : Rules) (w : Cluster) (r : Lines) (h : Lives c rul
 
 -- who has a line has installed it, but for the first
 one_or_later : (g : ℕ) (has : Bool) → g ≢ 0 → (2 ≤ g → has ≡ true) → (nat_eq g 1 || has) ≡ true
-one_or_later g has ne f = ⊎_elim (λ (is : g ≡ 1). ap (λ (t : Bool). t || has) (eq-eqb g 1 is)) (λ (other : g ≢ 1). second (nat_eq g 1) has (f (omega arith))) (cases_eq g 1)
-  where
-    second : (t u : Bool) → u ≡ true → (t || u) ≡ true
-    second true u e = refl
-    second false u e = e
+one_or_later g has ne f = ⊎_elim (λ (is : g ≡ 1). ap (λ (t : Bool). t || has) (eq-eqb g 1 is)) (λ (other : g ≢ 1). or_right (nat_eq g 1) has (f (omega arith))) (cases_eq g 1)
 
 left_after : (c : Config) (rules : Rules) (w : Cluster) (r : Lines) (h : Lives c rules w r) (n : ℕ) → nat_lt n c.nodes ≡ true → After c rules r h.ages (record { cluster = stopped_cluster c n w; trace = Stopped n ∷ [] })
 unfolding with_node

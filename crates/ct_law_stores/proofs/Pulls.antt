@@ -4,7 +4,7 @@ use Rattle.std.specs.Prelude.{nat_eq, slice_get}
 use Rattle.std.specs.List.{find, AllByRecursion}
 use Rattle.std.specs.Ordering.{nat_cmp, is_eq}
 use Rattle.std.specs.BTreeMap.{is_at}
-use Rattle.std.proofs.lemmas.Bool.{cond_both, eqb-true, eq-eqb}
+use Rattle.std.proofs.lemmas.Bool.{cond_both, eqb-true, eq-eqb, ne_eqb}
 use Rattle.ct_msg.specs.declared.config.Config.{Config}
 use Rattle.ct_frame.specs.declared.frame.PTable.{PTable}
 use Rattle.ct_merge.specs.Rule.{ptable_at, is_ptable_at}
@@ -19,14 +19,11 @@ table_of db p = record { db = db; seq = p.seq; pairs = listed p.pairs }
 cmp_flips : (a b : ℕ) → is_eq (nat_cmp a b) ≡ nat_eq b a
 cmp_flips a b = grind arith
 
-differ : (a b : ℕ) → (a ≡ b → ⊥) → nat_eq a b ≡ false
-differ a b n = cond_both (nat_eq a b) true false (λ (_ : Bool). nat_eq a b ≡ false) (λ t. absurd (n (eqb-true a b t))) (λ f. f)
-
 below_none : (c : Config) (i : ℕ) (ds : List Database) (db : ℕ) → db < i → ptable_at db (ptables_of c i ds) ≡ None
 unfolding ptables_of
 below_none c i [] db l = refl
 below_none c i (d ∷ ds) db l = cond_both (is_persistent (kind_at c i)) (table_of i d.store ∷ ptables_of c (i + 1) ds) (ptables_of c (i + 1) ds) (λ (xs : List PTable). ptable_at db xs ≡ None)
-    (λ _. (let f : is_eq (nat_cmp db i) ≡ false = cmp_flips db i ∙ differ i db (λ e. absurd (omega (arith, e))) in rw f (below_none c (i + 1) ds db (omega arith))))
+    (λ _. (let f : is_eq (nat_cmp db i) ≡ false = cmp_flips db i ∙ ne_eqb i db (λ e. absurd (omega (arith, e))) in rw f (below_none c (i + 1) ds db (omega arith))))
     (λ _. below_none c (i + 1) ds db (omega arith))
 
 -- at the place of a persistent database stands its table
@@ -42,5 +39,5 @@ pulled c i (suc j) (d ∷ ds) l p =
     = subst (λ (n : ℕ). ptable_at n (ptables_of c (i + 1) ds) ≡ Some (table_of n (or_untouched (slice_get ds j)).store)) e
     (pulled c (i + 1) j ds (omega arith) (subst (λ (n : ℕ). is_persistent (kind_at c n) ≡ true) (sym e) p)) in
     cond_both (is_persistent (kind_at c i)) (table_of i d.store ∷ ptables_of c (i + 1) ds) (ptables_of c (i + 1) ds) (λ (xs : List PTable). ptable_at (i + suc j) xs ≡ Some (table_of (i + suc j) (or_untouched (slice_get ds j)).store))
-    (λ _. (let f : is_eq (nat_cmp (i + suc j) i) ≡ false = cmp_flips (i + suc j) i ∙ differ i (i + suc j) (λ k. absurd (omega (arith, k))) in rw f rest))
+    (λ _. (let f : is_eq (nat_cmp (i + suc j) i) ≡ false = cmp_flips (i + suc j) i ∙ ne_eqb i (i + suc j) (λ k. absurd (omega (arith, k))) in rw f rest))
     (λ _. rest)

@@ -2,7 +2,7 @@
 use Rattle.std.proofs.Common.{◌≡◌, ◌≢◌, ℕ, zero, suc, ◌+◌, ◌<◌, ◌≤◌, Bool, true, false, cond, ◌||◌, List, [], ◌∷◌, ◌++◌, length, map, Option, None, Some, refl, sym, ap, ◌∙◌, subst, arith, ⊎_elim, inl, inr}
 use Rattle.std.specs.Prelude.{is_some, ◌⊎◌}
 use Rattle.std.specs.List.{filter, list_any, AllByRecursion}
-use Rattle.std.proofs.lemmas.Bool.{cond_both, eqb-true}
+use Rattle.std.proofs.lemmas.Bool.{cond_both, eqb-true, or_cases}
 use Rattle.ct_bytes.proofs.Words.{this_node_is}
 use Rattle.ct_bytes.proofs.AddressOrder.{address_is}
 use Rattle.ct_bytes.specs.Words.{is_this_node}
@@ -22,10 +22,6 @@ unfolding holder_in
 holder_none a [] h = refl
 holder_none a (x ∷ xs) h = rw h.0 (holder_none a xs h.1)
 
-either_of : (a b : Bool) → (a || b) ≡ true → (a ≡ true) ⊎ (b ≡ true)
-either_of true b e = inl refl
-either_of false b e = inr e
-
 holder_head : (a : Address) (x : Assigned) (xs : List Assigned) (n : ℕ) → same_address a x.address ≡ true → x.node ≡ Some n → holder_in a (x ∷ xs) ≡ Some n
 unfolding holder_in
 holder_head a x xs n t e = rw t e
@@ -44,7 +40,7 @@ share_holder a n [] apart e = absurd (cc)
 share_holder a n (x ∷ xs) apart e =
     cond_both (is_this_node n x.node) (x.address ∷ share n xs) (share n xs) (λ (l : List Address). list_any (same_address a) l ≡ true → holder_in a (x ∷ xs) ≡ Some n)
     (λ here some. ⊎_elim (λ (t : same_address a x.address ≡ true). holder_head a x xs n t (this_node_is n x.node here))
-    (λ (u : list_any (same_address a) (share n xs) ≡ true). holder_tail a x xs n apart (share_holder a n xs apart.1 u)) (either_of (same_address a x.address) (list_any (same_address a) (share n xs)) some))
+    (λ (u : list_any (same_address a) (share n xs) ≡ true). holder_tail a x xs n apart (share_holder a n xs apart.1 u)) (or_cases (same_address a x.address) (list_any (same_address a) (share n xs)) some))
     (λ _ some. holder_tail a x xs n apart (share_holder a n xs apart.1 some)) e
 
 item : (n : ℕ) (x : Assigned) (xs : List Assigned) (o : Option ℕ) → x.node ≡ o → share n (assigned_in xs) ≡ share n xs → share n (assigned_in (x ∷ xs)) ≡ share n (x ∷ xs)

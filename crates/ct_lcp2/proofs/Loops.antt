@@ -3,6 +3,7 @@ use Rattle.std.proofs.Common.{◌≡◌, ℕ, zero, suc, ◌+◌, ◌-◌, ◌<�
 use Rattle.std.specs.Prelude.{if◌then◌else◌, map, not, ◌||◌, ◌==◌}
 use Rattle.std.specs.List.Sorted.{IsStrictlySortedBy}
 use Rattle.std.proofs.lemmas.List.{take-append-drop}
+use Rattle.std.proofs.lemmas.Bool.{and_right, and_left, and_from, le-ltb, lt-ltb}
 use Rattle.ct_bytes.specs.Address.{address_cmp}
 use Rattle.ct_bytes.specs.declared.address.Address.{Address}
 use Rattle.ct_bytes.specs.declared.address.Address.TheVariants.{V4}
@@ -34,36 +35,20 @@ mapped_at f (a ∷ here) (suc i) h = mapped_at f here i (omega arith)
 pub own_at : (here : List Address) (sums : List ℕ) (i : ℕ) → sums ≡ map (λ a. sum_to a (others a here)) here → i < length here → get_or sums i 0 ≡ sum_to (at here i) (others (at here i) here)
 own_at here sums i e h = ap (λ l. get_or l i 0) e ∙ mapped_at (λ a. sum_to a (others a here)) here i h
 
-yes : (m n : ℕ) → m < n → nat_lt m n ≡ true
-yes m n h = grind arith
-
-no : (m n : ℕ) → n ≤ m → nat_lt m n ≡ false
-no m n h = grind arith
-
-both_true : (s t : Bool) → s ≡ true → t ≡ true → (s && t) ≡ true
-both_true s t h k = ap (λ b. b && t) h ∙ k
-
-left_false : (s t : Bool) → s ≡ false → (s && t) ≡ false
-left_false s t h = ap (λ b. b && t) h
-
-right_false : (s t : Bool) → t ≡ false → (s && t) ≡ false
-right_false true t h = h
-right_false false t h = refl
-
 module _ (a : Address) (here there : List Address) (sum weight_there weight own : ℕ) where
   pub may : sum ≡ sum_to a there → weight_there ≡ imbalance there → weight ≡ imbalance here → own ≡ sum_to a (others a here) → sum + weight_there < weight → sum < own → may_fail_back a here there ≡ true
   unfolding imbalance
   may s t w o less near =
-      both_true (nat_lt (sum_to a there + imbalance there) (imbalance here)) (nat_lt (sum_to a there) (sum_to a (others a here))) (yes (sum_to a there + imbalance there) (imbalance here) (omega (arith, s, t, w, less))) (yes (sum_to a there) (sum_to a (others a here)) (omega (arith, s, o, near)))
+      and_from (nat_lt (sum_to a there + imbalance there) (imbalance here)) (nat_lt (sum_to a there) (sum_to a (others a here))) (lt-ltb (sum_to a there + imbalance there) (imbalance here) (omega (arith, s, t, w, less))) (lt-ltb (sum_to a there) (sum_to a (others a here)) (omega (arith, s, o, near)))
 
   pub may_not_by_weight : sum ≡ sum_to a there → weight_there ≡ imbalance there → weight ≡ imbalance here → weight ≤ sum + weight_there → may_fail_back a here there ≡ false
   unfolding imbalance
   may_not_by_weight s t w more =
-      left_false (nat_lt (sum_to a there + imbalance there) (imbalance here)) (nat_lt (sum_to a there) (sum_to a (others a here))) (no (sum_to a there + imbalance there) (imbalance here) (omega (arith, s, t, w, more)))
+      and_left (nat_lt (sum_to a there + imbalance there) (imbalance here)) (nat_lt (sum_to a there) (sum_to a (others a here))) (le-ltb (sum_to a there + imbalance there) (imbalance here) (omega (arith, s, t, w, more)))
 
   pub may_not_by_sum : sum ≡ sum_to a there → own ≡ sum_to a (others a here) → own ≤ sum → may_fail_back a here there ≡ false
   may_not_by_sum s o far =
-      right_false (nat_lt (imbalance (a ∷ there)) (imbalance here)) (nat_lt (sum_to a there) (sum_to a (others a here))) (no (sum_to a there) (sum_to a (others a here)) (omega (arith, s, o, far)))
+      and_right (nat_lt (imbalance (a ∷ there)) (imbalance here)) (nat_lt (sum_to a there) (sum_to a (others a here))) (le-ltb (sum_to a there) (sum_to a (others a here)) (omega (arith, s, o, far)))
 
   pub new_sum : sum ≡ sum_to a there → weight_there ≡ imbalance there → weight ≡ imbalance here → own ≡ sum_to a (others a here) → imbalance (others a here) + sum_to a (others a here) ≡ imbalance here
       → weight - own + (sum + weight_there) ≡ imbalance (others a here) + imbalance (a ∷ there)

@@ -1,6 +1,6 @@
 -- Addresses at their nodes, before and after one of them is sent to another.
 use Rattle.std.proofs.Common.{◌≡◌, ℕ, suc, ◌+◌, ◌*◌, ◌<◌, ◌≤◌, Bool, true, false, nat_eq, List, [], ◌∷◌, ◌++◌, length, Option, Some, None, refl, sym, ap, ◌∙◌, subst, arith}
-use Rattle.std.specs.Prelude.{if◌then◌else◌, is_some, map, not, ◌==◌, ◌&&◌, ◌↔◌, IsTrue}
+use Rattle.std.specs.Prelude.{if◌then◌else◌, is_some, map, not, ◌&&◌, ◌↔◌, IsTrue}
 use Rattle.std.specs.List.{AllByRecursion}
 use Rattle.std.specs.List.Sorted.{IsStrictlySortedBy}
 use Rattle.std.specs.Ordering.{nat_cmp, is_lt}
@@ -11,6 +11,7 @@ use Rattle.ct_frame.specs.Fields.{ascends, ascends_after, assigned_before}
 use Rattle.std.specs.declared.cmp.Ordering.{Ordering}
 use Rattle.std.specs.declared.cmp.Ordering.TheVariants.{Less, Equal, Greater}
 use Rattle.std.proofs.lemmas.Bool.Decides.{nat_tests}
+use Rattle.std.proofs.lemmas.Bool.{and_parts}
 use Rattle.ct_bytes.specs.Address.{address_cmp, same_address}
 use Rattle.ct_bytes.specs.declared.address.Address.{Address}
 use Rattle.ct_bytes.specs.declared.address.Address.TheVariants.{V4, V6}
@@ -317,15 +318,11 @@ is_less Less h = refl
 is_less Equal h = absurd (cc)
 is_less Greater h = absurd (cc)
 
-first_of : (s t : Bool) → (s && t) ≡ true → (s ≡ true) × (t ≡ true)
-first_of true t h = (refl, h)
-first_of false t h = absurd (cc)
-
 ascend_after : (x : Assigned) (xs : List Assigned) → ascends_after assigned_before x xs ≡ true → Ascend (x ∷ xs)
 unfolding IsStrictlySortedBy
 ascend_after x [] h = (tt, tt)
 ascend_after x (y ∷ ys) h =
-    let p = first_of (assigned_before x y) (ascends_after assigned_before y ys) h in
+    let p = and_parts (assigned_before x y) (ascends_after assigned_before y ys) h in
     let less = is_less (address_cmp x.address y.address) p.0 in
     let more = ascend_after y ys p.1 in
     ((less, all_weaken (λ b. address_cmp y.address b ≡ Less) (λ b. address_cmp x.address b ≡ Less) (λ b k. rises x.address y.address b less k) (addresses ys) more.0), more)

@@ -10,7 +10,7 @@ use Rattle.ct_bytes.specs.declared.address.Address.{Address}
 use Rattle.ct_frame.specs.declared.frame.Assigned.{Assigned}
 use Rattle.ct_lcp2.specs.Distance.{sum_to, imbalance}
 use Rattle.ct_lcp2.specs.Best.{best, best_from}
-use Rattle.ct_lcp2.specs.Placing.{Ascend, sent, moved, homeless, total, held, others, may_fail_back, failbacks, choice_before, source_before, places, sources, next_place, next_failback, one_placed, one_failed_back, filled, failed_back, repeated, if_some, begun, targets_of, placement, placed, source_of, addresses, is_able, must_leave, freed, places_at, failbacks_of}
+use Rattle.ct_lcp2.specs.Placing.{Ascend, sent, moved, homeless, total, held, others, may_fail_back, failbacks, choice_before, source_before, places, sources, next_place, next_failback, one_placed, one_failed_back, filled, failed_back, repeated, if_some, vacated, targets_of, placement, placed, source_of, addresses, is_able, must_leave, freed, places_at, failbacks_of}
 use Rattle.ct_lcp2.specs.declared.choice.Choice.{Choice}
 use Rattle.ct_lcp2.specs.declared.choice.Source.{Source}
 use Rattle.ct_lcp2.specs.declared.placement.Placement.{Placement}
@@ -100,11 +100,11 @@ failback_end able targets p e =
 -- ---- the whole
 
 pub whole : (able able' : List ℕ) (given given' : List Assigned) (targets : List ℕ) (p q r : Placement) → able' ≡ able → given' ≡ given
-    → targets ≡ targets_of able' given' → p ≡ begun able' given' → q ≡ filled able' p → r ≡ failed_back able' targets q → r ≡ placement able given
+    → targets ≡ targets_of able' given' → p ≡ vacated able' given' → q ≡ filled able' p → r ≡ failed_back able' targets q → r ≡ placement able given
 unfolding placement
 whole able able' given given' targets p q r ea eg et ep eq er =
-    er ∙ ap (failed_back able' targets) eq ∙ ap (λ s. failed_back able' targets (filled able' s)) ep ∙ ap (λ ts. failed_back able' ts (filled able' (begun able' given'))) et
-    ∙ ap (λ ns. failed_back ns (targets_of ns given') (filled ns (begun ns given'))) ea ∙ ap (λ xs. failed_back able (targets_of able xs) (filled able (begun able xs))) eg
+    er ∙ ap (failed_back able' targets) eq ∙ ap (λ s. failed_back able' targets (filled able' s)) ep ∙ ap (λ ts. failed_back able' ts (filled able' (vacated able' given'))) et
+    ∙ ap (λ ns. failed_back ns (targets_of ns given') (filled ns (vacated ns given'))) ea ∙ ap (λ xs. failed_back able (targets_of able xs) (filled able (vacated able xs))) eg
 
 -- steps of the second kind keep the addresses in their order
 filled_keeps : (n : ℕ) (able : List ℕ) (p : Placement) → Ascend p.at → Ascend (repeated n (one_placed able) p).at
@@ -161,9 +161,9 @@ none_moves (n ∷ ns) targets xs e =
 pub all_failed_back : (able : List ℕ) (given : List Assigned) → Ascend given → AllByRecursion (λ node. failbacks node (targets_of able given) (placed able given) ≡ []) able
 unfolding placement
 all_failed_back able given h =
-    let p = filled able (begun able given) in
+    let p = filled able (vacated able given) in
     let q = failed_back able (targets_of able given) p in
-    let asc : Ascend p.at = filled_keeps (homeless (begun able given).at) able (begun able given) (subst (IsStrictlySortedBy address_cmp) (sym (addresses_begun able given)) h) in
+    let asc : Ascend p.at = filled_keeps (homeless (vacated able given).at) able (vacated able given) (subst (IsStrictlySortedBy address_cmp) (sym (addresses_begun able given)) h) in
     none_moves able (targets_of able given) q.at (none_is_best source_before (sources able (targets_of able given) q.at)
     (no_step (λ s. moved s.choice.address (Some s.node) s.choice.node q) (next_failback able (targets_of able given) q.at)
     (none_left {size = λ r. total r.at} {Good = λ r. Ascend r.at} {next = one_failed_back able (targets_of able given)} (failbacks_end able (targets_of able given)) (total p.at) p asc (le_refl (total p.at)))))
@@ -196,7 +196,7 @@ failback_keeps able targets p q e = by (next_failback able targets p.at) e
 pub same_addresses : (able : List ℕ) (given : List Assigned) → addresses (placed able given) ≡ addresses given
 unfolding placement
 same_addresses able given =
-    let start = begun able given in
+    let start = vacated able given in
     let p = filled able start in
     kept_by (one_failed_back able (targets_of able given)) (failback_keeps able (targets_of able given)) (total p.at) p
     ∙ kept_by (one_placed able) (place_keeps able) (homeless start.at) start
@@ -316,7 +316,7 @@ failback_able able targets t p q g e = by (next_failback able targets p.at) refl
 pub placed_able : (able : List ℕ) (given : List Assigned) → Able able (placed able given)
 unfolding placement
 placed_able able given =
-    let start = begun able given in
+    let start = vacated able given in
     let p = filled able start in
     repeats_keep (λ r. Able able r.at) (one_failed_back able (targets_of able given)) (failback_able able (targets_of able given) (targets_able able able given (all_able able able))) (total p.at) p
     (repeats_keep (λ r. Able able r.at) (one_placed able) (place_able able) (homeless start.at) start (freed_able able given))

@@ -1,6 +1,6 @@
 -- LCP2: which node holds which address, in three steps. Addresses leave the nodes that are not able; addresses with no
 -- node are placed where they are farthest from the others; addresses fail back to nodes that held none at first.
-use Rattle.std.specs.Prelude.{ℕ, zero, suc, ◌+◌, Bool, true, false, not, ◌&&◌, ◌||◌, ◌==◌, nat_lt, nat_eq, is_some, if◌then◌else◌, List, [], ◌∷◌, ◌++◌, map, Option, None, Some, option_map}
+use Rattle.std.specs.Prelude.{ℕ, zero, suc, ◌+◌, Bool, false, not, ◌&&◌, ◌||◌, ◌==◌, nat_lt, nat_eq, is_some, if◌then◌else◌, List, [], ◌∷◌, ◌++◌, map, Option, None, Some, option_map}
 use Rattle.std.specs.List.{filter, list_any}
 use Rattle.std.specs.List.Sorted.{IsStrictlySortedBy}
 use Rattle.ct_bytes.specs.Words.{is_nil, is_this_node}
@@ -77,8 +77,8 @@ moves_away able [] = []
 moves_away able (x ∷ xs) =
     if must_leave able x.node then record { address = x.address; source = x.node; target = None } ∷ moves_away able xs else moves_away able xs
 
-abbrev pub begun : List ℕ → List Assigned → Placement
-begun able given = record { at = map (freed able) given; moves = moves_away able given }
+abbrev pub vacated : List ℕ → List Assigned → Placement
+vacated able given = record { at = map (freed able) given; moves = moves_away able given }
 
 -- ---- step two: addresses with no node
 
@@ -185,7 +185,7 @@ targets_of able given = filter (λ node. is_nil (held node given)) able
 
 -- the placement over the able nodes that is made of the given one, and its moves in order
 unfoldable pub placement : List ℕ → List Assigned → Placement
-placement able given = failed_back able (targets_of able given) (filled able (begun able given))
+placement able given = failed_back able (targets_of able given) (filled able (vacated able given))
 
 -- where the addresses stand then
 abbrev pub placed : List ℕ → List Assigned → List Assigned

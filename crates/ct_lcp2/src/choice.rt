@@ -1,6 +1,5 @@
 //! What may be done with an address, and which of it comes first.
 ghost use Rattle.std.specs.Prelude.{◌≡◌};
-ghost use Rattle.ct_bytes.specs.Address.{address_before, same_address};
 ghost use Rattle.ct_lcp2.specs.Best.{better};
 ghost use Rattle.ct_lcp2.specs.Placing.{choice_before, source_before};
 
@@ -22,29 +21,6 @@ pub struct Source {
     pub choice: Choice,
 }
 
-/// Are these the same address?
-pub fn is_same(a: Address, b: Address) -> bool
-    ensures { result ≡ same_address a b }
-{
-    match (a, b) {
-        (Address::V4(a), Address::V4(b)) => a == b,
-        (Address::V6(a), Address::V6(b)) => a == b,
-        (Address::V4(_), Address::V6(_)) => false,
-        (Address::V6(_), Address::V4(_)) => false,
-    }
-}
-
-pub fn is_before(a: Address, b: Address) -> bool
-    ensures { result ≡ address_before a b }
-{
-    match (a, b) {
-        (Address::V4(a), Address::V4(b)) => a < b,
-        (Address::V6(a), Address::V6(b)) => a < b,
-        (Address::V4(_), Address::V6(_)) => true,
-        (Address::V6(_), Address::V4(_)) => false,
-    }
-}
-
 impl Choice {
     /// The least sum comes first, of equal ones the lower address, and then the lower node.
     fn comes_before(&self, other: &Choice) -> bool
@@ -52,8 +28,8 @@ impl Choice {
     {
         self.sum < other.sum
             || (self.sum == other.sum
-                && (is_before(self.address, other.address)
-                    || (is_same(self.address, other.address) && self.node < other.node)))
+                && (self.address < other.address
+                    || (self.address == other.address && self.node < other.node)))
     }
 
     /// This one where it comes before the best so far.

@@ -6,7 +6,7 @@ ghost use Rattle.ct_lcp2.specs.Best.{best, best_from};
 ghost use Rattle.ct_lcp2.specs.Distance.{imbalance, sum_to};
 ghost use Rattle.ct_lcp2.specs.Placing.{Ascend, choice_before, failbacks, failbacks_of, failed_back, held, is_behind, next_failback, others, with_source};
 
-use crate::choice::{Choice, Source, is_same};
+use crate::choice::{Choice, Source};
 use crate::distance::{distance, imbalance, sum_to};
 use crate::placement::Placement;
 use crate::start::held;
@@ -23,7 +23,7 @@ fn sum_to_others(address: Address, here: &[Address]) -> u64
 {
     let mut sum = 0;
     for other in here {
-        if !is_same(address, *other) {
+        if address != *other {
             let d = u64::from(distance(address, *other));
             sum += d * d;
         }

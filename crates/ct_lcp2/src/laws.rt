@@ -8,7 +8,7 @@ ghost use Rattle.ct_lcp2.specs.Distance.{distance, IsAgreed};
 ghost use Rattle.ct_lcp2.specs.Best.{best};
 ghost use Rattle.ct_lcp2.specs.declared.choice.Choice.{Choice};
 ghost use Rattle.ct_lcp2.specs.declared.choice.Source.{Source};
-ghost use Rattle.ct_lcp2.specs.Placing.{addresses, Ascend, begun, choice_before, source_before, failbacks, filled, must_leave, placed, places, targets_of};
+ghost use Rattle.ct_lcp2.specs.Placing.{addresses, Ascend, vacated, choice_before, source_before, failbacks, filled, must_leave, placed, places, targets_of};
 
 /// The distance of two addresses of one family is the greatest number of first bits in which they agree, and 0 across
 /// the families.
@@ -20,7 +20,7 @@ pub fn distance_is_greatest()
 
 /// Each of the steps goes on as long as it can: in the end no address can be placed, and no address may fail back.
 pub fn steps_end()
-    ensures placed { (able : List ℕ) (given : List Assigned) → places able (filled able (begun able given)).at ≡ [] }
+    ensures placed { (able : List ℕ) (given : List Assigned) → places able (filled able (vacated able given)).at ≡ [] }
     ensures failed_back { (able : List ℕ) (given : List Assigned) → Ascend given → AllByRecursion (λ node. failbacks node (targets_of able given) (placed able given) ≡ []) able }
 {}
 

@@ -1,16 +1,15 @@
 //! Placements of addresses on nodes.
-ghost use Rattle.std.specs.Prelude.{◌≡◌, ◌≤◌, ◌↔◌, IfOk, IsTrue, OnOk, length};
-ghost use Rattle.ct_frame.specs.Fields.{ascends, assigned_before};
+ghost use Rattle.std.specs.Prelude.{◌≡◌, ◌≤◌, ◌↔◌, IfOk, IsTrue, OnOk, OnErr, length};
 ghost use Rattle.ct_lcp2.specs.Placing.{moved, placement, sent, seated, Ascend};
 
-use crate::choice::{is_before, is_same};
 use crate::failback::fail_back;
-use crate::start::{begin, targets_of};
+use crate::start::{targets_of, vacate};
 use crate::vacant::fill;
 use ct_bytes::address::Address;
 use ct_bytes::items::Items;
 use ct_bytes::memory::NoMemory;
 use ct_frame::frame::Assigned;
+use ct_frame::order::ascends;
 use std::alloc::Global;
 
 /// The nodes, those of them that are able to hold addresses, and where the addresses stand, by ascending address.
@@ -39,7 +38,7 @@ pub struct Placement {
 fn seated(x: &Assigned, address: Address, node: u32) -> Assigned
     ensures { result ≡ seated address node x.now }
 {
-    if is_same(address, x.address) {
+    if address == x.address {
         return Assigned {
             address: x.address,
             node: Some(node),
@@ -67,7 +66,7 @@ fn sent(
 }
 
 impl Placement {
-    /// Puts an address at its target, and notes the move.
+    /// Puts an address at its target, and notes the move. Without memory nothing changes.
     pub fn carry_out(
         &mut self,
         alloc: Global,
@@ -75,7 +74,8 @@ impl Placement {
         source: Option<u32>,
         target: u32,
     ) -> Result<(), NoMemory>
-        ensures { OnOk result (self.new ≡ moved address source target self.old) }
+        ensures ok { OnOk result (self.new ≡ moved address source target self.old) }
+        ensures err { OnErr result (self.new ≡ self.old) }
     {
         let at = sent(alloc, self.at.as_slice(), address, target)?;
         self.moves.push(Move {
@@ -88,28 +88,11 @@ impl Placement {
     }
 }
 
-/// Does each address come before the next?
-fn neighbours_ascend(at: &[Assigned]) -> bool
-    ensures { result ≡ ascends assigned_before at.now }
-{
-    let Some((first, rest)) = at.split_first() else {
-        return true;
-    };
-    let mut last = first;
-    for x in rest {
-        if !is_before(last.address, x.address) {
-            return false;
-        }
-        last = x;
-    }
-    true
-}
-
 /// Do the addresses ascend, none twice?
 pub fn do_ascend(at: &[Assigned]) -> bool
     ensures { IsTrue result ↔ Ascend at.now }
 {
-    neighbours_ascend(at)
+    ascends(at)
 }
 
 /// The placement that is made of the given one.
@@ -129,7 +112,7 @@ pub fn place(alloc: Global, given: &Addresses) -> Result<Placement, NoMemory>
     let able = given.able.as_slice();
     let at = given.at.as_slice();
     let targets = targets_of(alloc, able, at)?;
-    let mut placement = begin(alloc, able, at)?;
+    let mut placement = vacate(alloc, able, at)?;
     fill(alloc, able, &mut placement)?;
     fail_back(alloc, able, &targets, &mut placement)?;
     Ok(placement)

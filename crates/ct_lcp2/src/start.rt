@@ -1,7 +1,7 @@
 //! Before addresses are placed: who is able, who leaves, and who may be a target.
 ghost use Rattle.std.specs.Prelude.{◌≡◌, IfOk};
 ghost use Rattle.ct_bytes.specs.Words.{is_this_node};
-ghost use Rattle.ct_lcp2.specs.Placing.{begun, freed, held, is_able, must_leave, targets_of};
+ghost use Rattle.ct_lcp2.specs.Placing.{vacated, freed, held, is_able, must_leave, targets_of};
 
 use crate::placement::{Move, Placement};
 use ct_bytes::address::Address;
@@ -51,8 +51,8 @@ fn must_leave(able: &[u32], at: Option<u32>) -> bool
 
 /// Addresses leave the nodes that are not able.
 #[tactic(auto, unfolding(crate::specs::Placing::moves_away))]
-pub fn begin(alloc: Global, able: &[u32], given: &[Assigned]) -> Result<Placement, NoMemory>
-    ensures { IfOk result (λ p. p ≡ begun able.now given.now) }
+pub fn vacate(alloc: Global, able: &[u32], given: &[Assigned]) -> Result<Placement, NoMemory>
+    ensures { IfOk result (λ p. p ≡ vacated able.now given.now) }
 {
     let mut at = Vec::with_capacity(alloc, given.len())?;
     let mut moves = Vec::new(alloc);

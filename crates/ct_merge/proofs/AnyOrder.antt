@@ -7,6 +7,7 @@ use Rattle.std.specs.Ordering.{is_eq, nat_cmp, bool_cmp, ordering_then}
 use Rattle.std.specs.Cmp.{IsTotalOrder, alike_right, nat_cmp_total}
 use Rattle.std.specs.List.{filter, find, list_all}
 use Rattle.std.specs.List.Sorted.{IsStrictlySortedBy}
+use Rattle.std.proofs.lemmas.Bool.{and_from, and_parts}
 use Rattle.ct_frame.specs.declared.frame.TableRow.{TableRow}
 use Rattle.ct_frame.specs.declared.round.Pull.{Pull}
 use Rattle.ct_merge.specs.declared.held.HeldRow.{HeldRow}
@@ -16,19 +17,19 @@ use Rattle.ct_merge.specs.Held.{is_in_order, is_own, held_rows, row_order, row_r
 use Rattle.ct_merge.specs.Orders.{row_order_total, row_rank_total, ptable_order_total, ptable_rank_total, address_order_total, address_rank_total}
 use Rattle.ct_merge.specs.Gathered.{nothing, gathered_all, greater}
 use Rattle.ct_merge.specs.Rule.{are_in_order, greatest, told, HasOneOfEach}
-use Rattle.ct_merge.proofs.Ordered.{first, second, both, rows_ascend, ptables_ascend, addresses_ascend, no_items, one_item}
+use Rattle.ct_merge.proofs.Ordered.{rows_ascend, ptables_ascend, addresses_ascend, no_items, one_item}
 use Rattle.ct_merge.proofs.Folding.{based, based_is, all_joined, all_joined_ascends, find_all_joined}
 use Rattle.ct_merge.proofs.Rules.{gathered_vbase, gathered_pbase, gathered_rows, gathered_ptables, gathered_addresses, gathered_nodes, from_zero, none_yet, equal}
 use Rattle.ct_merge.proofs.Among.{In, in_of, contains_of, in_filter, into_filter, told_by, told_too, same_best, one_there, same_list}
 
 each_of : (test : Pull → Bool) (pulls : List Pull) → list_all test pulls ≡ true → (p : Pull) → In p pulls → test p ≡ true
 each_of test [] h p i = absurd i
-each_of test (q ∷ qs) h p (inl e) = subst (λ z. test z ≡ true) e (first _ _ h)
-each_of test (q ∷ qs) h p (inr i) = each_of test qs (second _ _ h) p i
+each_of test (q ∷ qs) h p (inl e) = subst (λ z. test z ≡ true) e (and_parts _ _ h).0
+each_of test (q ∷ qs) h p (inr i) = each_of test qs (and_parts _ _ h).1 p i
 
 all_of : (test : Pull → Bool) (pulls : List Pull) → ((p : Pull) → In p pulls → test p ≡ true) → list_all test pulls ≡ true
 all_of test [] h = refl
-all_of test (q ∷ qs) h = both _ _ (h q (inl refl)) (all_of test qs (λ p i. h p (inr i)))
+all_of test (q ∷ qs) h = and_from _ _ (h q (inl refl)) (all_of test qs (λ p i. h p (inr i)))
 
 greater_left : (a b c : ℕ) → c ≤ a → c ≤ greater a b
 greater_left a b c h = grind arith

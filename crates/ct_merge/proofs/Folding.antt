@@ -8,13 +8,14 @@ use Rattle.std.specs.List.{filter, find}
 use Rattle.std.specs.List.Sorted.{IsStrictlySortedBy}
 use Rattle.std.proofs.lemmas.List.Elements.{filter-append}
 use Rattle.std.proofs.lemmas.List.Folds.{list_all_at}
+use Rattle.std.proofs.lemmas.Bool.{and_parts}
 use Rattle.ct_frame.specs.declared.round.Pull.{Pull}
-use Rattle.ct_merge.specs.Placing.{better_of, best_from, all_placed}
+use Rattle.ct_merge.specs.Placing.{better_of, best_from, all_inserted}
 use Rattle.ct_merge.specs.Gathered.{greater, joined}
 use Rattle.ct_merge.specs.Held.{is_in_order}
 use Rattle.ct_merge.specs.Rule.{are_in_order, greatest, told}
-use Rattle.ct_merge.proofs.Ordered.{first, second, joined_ascends}
-use Rattle.ct_merge.proofs.Places.{find_all_placed, find_alone}
+use Rattle.ct_merge.proofs.Ordered.{joined_ascends}
+use Rattle.ct_merge.proofs.Places.{find_all_inserted, find_alone}
 
 -- the greatest base after more pulls
 abbrev pub based : (Pull → ℕ) → List Pull → ℕ → ℕ
@@ -66,7 +67,7 @@ module _ {X : Type 0} (order rank : X → X → Ordering) (o : IsTotalOrder orde
   pub all_joined_ascends : (pulls : List Pull) (b : ℕ) (items : List X) → are_in_order pulls ≡ true → IsStrictlySortedBy order items → IsStrictlySortedBy order (all_joined order rank base held pulls b items)
   all_joined_ascends [] b items k h = h
   all_joined_ascends (pull ∷ pulls) b items k h =
-      all_joined_ascends pulls (greater b (base pull)) (joined order rank b items (base pull) (held pull)) (second _ _ k) (joined_ascends order rank o b items (base pull) (held pull) h (holds pull (first _ _ k)))
+      all_joined_ascends pulls (greater b (base pull)) (joined order rank b items (base pull) (held pull)) (and_parts _ _ k).1 (joined_ascends order rank o b items (base pull) (held pull) h (holds pull (and_parts _ _ k).0))
 
   module _ (at : X → Bool) (alike : (x y : X) → order x y ≡ Equal → at x ≡ at y) (one : (x y : X) → at x ≡ true → at y ≡ true → order x y ≡ Equal) where
     best_append : (so_far : Option X) (xs ys : List X) → best_from rank so_far (xs ++ ys) ≡ best_from rank (best_from rank so_far xs) ys
@@ -75,14 +76,14 @@ module _ {X : Type 0} (order rank : X → X → Ordering) (o : IsTotalOrder orde
 
     -- one more pull: `lt` and `gt` are how the base so far stands to its base, `eqb` and `eqn` whether each of them is the greatest
     step_by : (items more rest : List X) → IsStrictlySortedBy order items → IsStrictlySortedBy order more → (lt gt eqb eqn : Bool) → (lt ≡ true → eqb ≡ true → ⊥) → (lt ≡ false → gt ≡ true → eqn ≡ true → ⊥) → (lt ≡ false → gt ≡ false → eqb ≡ eqn)
-        → best_from rank (if if lt then eqn else eqb then find at (if lt then more else if gt then items else all_placed order rank more items) else None) rest
+        → best_from rank (if if lt then eqn else eqb then find at (if lt then more else if gt then items else all_inserted order rank more items) else None) rest
         ≡ best_from rank (if eqb then find at items else None) (if eqn then filter at more ++ rest else rest)
     step_by items more rest h k true gt true eqn c1 c2 c3 = absurd (c1 refl refl)
     step_by items more rest h k true gt false true c1 c2 c3 = ap (λ f. best_from rank f rest) (find_alone order rank o at alike one more k) ∙ sym (best_append None (filter at more) rest)
     step_by items more rest h k true gt false false c1 c2 c3 = refl
     step_by items more rest h k false true eqb true c1 c2 c3 = absurd (c2 refl refl refl)
     step_by items more rest h k false true eqb false c1 c2 c3 = refl
-    step_by items more rest h k false false true true c1 c2 c3 = ap (λ f. best_from rank f rest) (find_all_placed order rank o at alike one more items h) ∙ sym (best_append (find at items) (filter at more) rest)
+    step_by items more rest h k false false true true c1 c2 c3 = ap (λ f. best_from rank f rest) (find_all_inserted order rank o at alike one more items h) ∙ sym (best_append (find at items) (filter at more) rest)
     step_by items more rest h k false false false false c1 c2 c3 = refl
     step_by items more rest h k false false true false c1 c2 c3 = absurd (true≢false (c3 refl refl))
     step_by items more rest h k false false false true c1 c2 c3 = absurd (true≢false (sym (c3 refl refl)))
@@ -105,8 +106,8 @@ module _ {X : Type 0} (order rank : X → X → Ordering) (o : IsTotalOrder orde
         → find at (all_joined order rank base held pulls b items) ≡ best_from rank (if b == p then find at items else None) (filter at (told base held p pulls))
     find_all_joined [] b items k h p e = ap (λ t. if t then find at items else None) (sym (itself b p e))
     find_all_joined (pull ∷ pulls) b items k h p e =
-        find_all_joined pulls (greater b (base pull)) (joined order rank b items (base pull) (held pull)) (second _ _ k) (joined_ascends order rank o b items (base pull) (held pull) h (holds pull (first _ _ k))) p e
-        ∙ step p b (base pull) items (held pull) (filter at (told base held p pulls)) h (holds pull (first _ _ k)) (greater_le (greater b (base pull)) (greatest base pulls) p (e ∙ based_is base pulls (greater b (base pull))))
+        find_all_joined pulls (greater b (base pull)) (joined order rank b items (base pull) (held pull)) (and_parts _ _ k).1 (joined_ascends order rank o b items (base pull) (held pull) h (holds pull (and_parts _ _ k).0)) p e
+        ∙ step p b (base pull) items (held pull) (filter at (told base held p pulls)) h (holds pull (and_parts _ _ k).0) (greater_le (greater b (base pull)) (greatest base pulls) p (e ∙ based_is base pulls (greater b (base pull))))
         ∙ ap (λ l. best_from rank (if b == p then find at items else None) l) (sym (filter_told pull pulls p))
 
 -- each of some pulls in order is in order

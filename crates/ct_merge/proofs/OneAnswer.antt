@@ -16,7 +16,7 @@ use Rattle.ct_frame.specs.Fields.{ascends, row_before, ptable_before, assigned_b
 use Rattle.ct_merge.specs.declared.merged.Merged.{Merged}
 use Rattle.ct_merge.specs.declared.merged.MergedAll.{MergedAll}
 use Rattle.ct_merge.specs.declared.merged.PMerged.{PMerged}
-use Rattle.ct_merge.specs.Orders.{address_cmp_total}
+use Rattle.ct_bytes.proofs.AddressOrder.{address_total}
 use Rattle.ct_merge.specs.Rule.{row_at, IsVolatileMerge, IsPersistentMerge, IsAddressMerge, IsMerge}
 use Rattle.ct_merge.proofs.Ordered.{in_order, is_lt_then, is_lt_nat}
 use Rattle.ct_merge.proofs.Rules.{place_cmp, place_total}
@@ -63,7 +63,7 @@ abbrev assigned_order : Assigned → Assigned → Ordering
 assigned_order a b = address_cmp a.address b.address
 
 one_assigned : (pulls : List Pull) (m n : List Assigned) → IsAddressMerge pulls m → IsAddressMerge pulls n → m ≡ n
-one_assigned pulls m n a b = one_list assigned_order (on_total (λ x. x.address) address_cmp_total) assigned_before (λ x y. refl) m n a.0 b.0 (λ z. a.1 z.address ∙ sym (b.1 z.address))
+one_assigned pulls m n a b = one_list assigned_order (on_total (λ x. x.address) address_total) assigned_before (λ x y. refl) m n a.0 b.0 (λ z. a.1 z.address ∙ sym (b.1 z.address))
 
 -- what the rule makes of pulls is one
 pub one_merge : (pulls : List Pull) (m n : MergedAll) → IsMerge pulls m → IsMerge pulls n → m ≡ n

@@ -7,6 +7,7 @@ use Rattle.std.specs.Ordering.{is_lt, ordering_then}
 use Rattle.std.specs.Cmp.{IsTotalOrder}
 use Rattle.std.specs.List.{AllByRecursion}
 use Rattle.std.specs.List.Sorted.{IsStrictlySortedBy}
+use Rattle.std.proofs.lemmas.Bool.{and_from, and_parts}
 use Rattle.ct_bytes.specs.Key.{key_cmp}
 use Rattle.ct_bytes.specs.Address.{address_before}
 use Rattle.ct_frame.specs.declared.frame.TableRow.{TableRow}
@@ -18,20 +19,8 @@ use Rattle.ct_merge.specs.declared.held.HeldAddress.{HeldAddress}
 use Rattle.ct_merge.specs.Held.{is_in_order, row_order, ptable_order, address_order, based_rows, held_rows, rows_of, ptables_of, addresses_of}
 use Rattle.ct_merge.specs.Orders.{row_order_total, ptable_order_total, address_order_total}
 use Rattle.ct_merge.specs.Gathered.{joined, assigned_to}
-use Rattle.ct_merge.specs.Placing.{all_placed}
-use Rattle.ct_merge.proofs.Places.{all_placed_ascends}
-
-pub first : (a b : Bool) → (a && b) ≡ true → a ≡ true
-first true b h = refl
-first false b h = h
-
-pub second : (a b : Bool) → (a && b) ≡ true → b ≡ true
-second true b h = h
-second false b h = absurd (cc)
-
-pub both : (a b : Bool) → a ≡ true → b ≡ true → (a && b) ≡ true
-both true b p q = q
-both false b p q = p
+use Rattle.ct_merge.specs.Placing.{all_inserted}
+use Rattle.ct_merge.proofs.Places.{all_inserted_ascends}
 
 less_of : (r : Ordering) → is_lt r ≡ true → r ≡ Less
 less_of Less h = refl
@@ -42,15 +31,15 @@ module _ {X Y : Type 0} (order : X → X → Ordering) (o : IsTotalOrder order) 
   below_chain : (x : X) (y : Y) (ys : List Y) → order x (f y) ≡ Less → ascends_after before y ys ≡ true → AllByRecursion (λ z. order x z ≡ Less) (map f ys)
   below_chain x y [] p h = tt
   below_chain x y (z ∷ zs) p h =
-      let q = o.trans x (f y) (f z) p (less_of _ (sym (is y z) ∙ first _ _ h)) in
-      (q, below_chain x z zs q (second _ _ h))
+      let q = o.trans x (f y) (f z) p (less_of _ (sym (is y z) ∙ (and_parts _ _ h).0)) in
+      (q, below_chain x z zs q (and_parts _ _ h).1)
 
   from_chain : (y : Y) (ys : List Y) → ascends_after before y ys ≡ true → IsStrictlySortedBy order (f y ∷ map f ys)
   unfolding IsStrictlySortedBy
   from_chain y [] h = (tt, tt)
   from_chain y (z ∷ zs) h =
-      let p = less_of _ (sym (is y z) ∙ first _ _ h) in
-      ((p, below_chain (f y) z zs p (second _ _ h)), from_chain z zs (second _ _ h))
+      let p = less_of _ (sym (is y z) ∙ (and_parts _ _ h).0) in
+      ((p, below_chain (f y) z zs p (and_parts _ _ h).1), from_chain z zs (and_parts _ _ h).1)
 
   -- each comes before the next, so the list is in order
   pub in_order : (ys : List Y) → ascends before ys ≡ true → IsStrictlySortedBy order (map f ys)
@@ -62,7 +51,7 @@ module _ {X Y : Type 0} (order : X → X → Ordering) (before : Y → Y → Boo
   chain_after : (x : X) (xs : List X) → IsStrictlySortedBy order (x ∷ xs) → ascends_after before (g x) (map g xs) ≡ true
   unfolding IsStrictlySortedBy
   chain_after x [] h = refl
-  chain_after x (y ∷ ys) h = both _ _ (is x y ∙ ap is_lt h.0.0) (chain_after y ys h.1)
+  chain_after x (y ∷ ys) h = and_from _ _ (is x y ∙ ap is_lt h.0.0) (chain_after y ys h.1)
 
   -- the list is in order, so each comes before the next
   pub chained : (xs : List X) → IsStrictlySortedBy order xs → ascends before (map g xs) ≡ true
@@ -137,7 +126,7 @@ addresses_ascend pull h = in_order address_order address_order_total address_bef
 -- the items of a base stay in order with those of one more base
 pub joined_ascends : {X : Type 0} (order rank : X → X → Ordering) (o : IsTotalOrder order) (base : ℕ) (items : List X) (new : ℕ) (more : List X) → IsStrictlySortedBy order items → IsStrictlySortedBy order more → IsStrictlySortedBy order (joined order rank base items new more)
 joined_ascends order rank o base items new more h k =
-    elim (nat_lt base new) as (λ b. IsStrictlySortedBy order (if b then more else if nat_lt new base then items else all_placed order rank more items)) [
+    elim (nat_lt base new) as (λ b. IsStrictlySortedBy order (if b then more else if nat_lt new base then items else all_inserted order rank more items)) [
       | true ↦ k
-      | false ↦ elim (nat_lt new base) as (λ b. IsStrictlySortedBy order (if b then items else all_placed order rank more items)) [ true ↦ h | false ↦ all_placed_ascends order rank o more items h ]
+      | false ↦ elim (nat_lt new base) as (λ b. IsStrictlySortedBy order (if b then items else all_inserted order rank more items)) [ true ↦ h | false ↦ all_inserted_ascends order rank o more items h ]
     ]

@@ -1,5 +1,5 @@
 -- What is gathered of pulls in order is what the rule makes of them.
-use Rattle.std.proofs.Common.{◌≡◌, ℕ, Bool, true, false, cond, ◌==◌, ◌≤◌, length, drop, List, [], ◌∷◌, Some, None, refl, sym, ◌∙◌, ap, subst, arith}
+use Rattle.std.proofs.Common.{◌≡◌, ℕ, Bool, true, false, cond, ◌==◌, ◌≤◌, length, drop, List, [], ◌∷◌, ◌++◌, Some, None, refl, sym, ◌∙◌, ap, subst, arith}
 use Rattle.std.specs.Prelude.{if◌then◌else◌, map, Result, Ok, Err, IfOk}
 use Rattle.std.specs.declared.cmp.Ordering.{Ordering}
 use Rattle.std.specs.declared.cmp.Ordering.TheVariants.{Less, Equal, Greater}
@@ -7,8 +7,9 @@ use Rattle.std.specs.Ordering.{is_eq, nat_cmp, ordering_then}
 use Rattle.std.specs.Option.{option_map}
 use Rattle.std.specs.Cmp.{IsTotalOrder, alike_right, nat_cmp_total, on_total, then_total, tied_then}
 use Rattle.std.specs.Cmp.Lexicographic.{nat_list_cmp_total}
-use Rattle.std.specs.List.{find}
+use Rattle.std.specs.List.{filter, find, flat_map}
 use Rattle.std.proofs.lemmas.List.{drop_all}
+use Rattle.ct_bytes.proofs.AddressOrder.{address_total}
 use Rattle.ct_bytes.specs.Key.{key_cmp}
 use Rattle.ct_bytes.specs.Address.{address_cmp}
 use Rattle.ct_bytes.specs.declared.address.Address.{Address}
@@ -23,9 +24,9 @@ use Rattle.ct_merge.specs.declared.held.HeldPTable.{HeldPTable}
 use Rattle.ct_merge.specs.declared.held.HeldAddress.{HeldAddress}
 use Rattle.ct_merge.specs.Placing.{best_from, best}
 use Rattle.ct_merge.specs.Held.{is_row_at, row_order, row_rank, ptable_order, ptable_rank, address_order, address_rank, rows_of, ptables_of, addresses_of}
-use Rattle.ct_merge.specs.Orders.{row_order_total, ptable_order_total, address_cmp_total, address_order_total}
+use Rattle.ct_merge.specs.Orders.{row_order_total, ptable_order_total, address_order_total}
 use Rattle.ct_merge.specs.Gathered.{Gathered, nothing, gathered, gathered_all, greater, assigned_to, finished}
-use Rattle.ct_merge.specs.Rule.{are_in_order, vparent, pparent, is_ptable_at, rows_at, ptables_at, addresses_at, IsVolatileMerge, IsPersistentMerge, IsAddressMerge, IsMerge}
+use Rattle.ct_merge.specs.Rule.{are_in_order, told, vparent, pparent, is_ptable_at, rows_at, ptables_at, addresses_at, IsVolatileMerge, IsPersistentMerge, IsAddressMerge, IsMerge}
 use Rattle.ct_merge.proofs.Ordered.{rows_ascend, ptables_ascend, addresses_ascend, chained, row_is, ptable_is, assigned_is, no_items}
 use Rattle.ct_merge.proofs.Folding.{based, based_is, all_joined, all_joined_ascends, find_all_joined}
 
@@ -105,9 +106,15 @@ based_zero : (pulls : List Pull) → based (λ p. 0) pulls 0 ≡ 0
 based_zero [] = refl
 based_zero (pull ∷ pulls) = based_zero pulls
 
+-- what is told of one base by all pulls is what they hold
+all_told : (pulls : List Pull) → told (λ p. 0) addresses_of 0 pulls ≡ flat_map addresses_of pulls
+all_told [] = refl
+all_told (pull ∷ pulls) = ap (λ xs. addresses_of pull ++ xs) (all_told pulls)
+
 pub addresses_found : (pulls : List Pull) → are_in_order pulls ≡ true → (address : Address) → find (λ h. is_eq (address_cmp address h.address)) (all_joined address_order address_rank (λ p. 0) addresses_of pulls 0 []) ≡ best address_rank (addresses_at address pulls)
 addresses_found pulls k address =
-    find_all_joined address_order address_rank address_order_total (λ p. 0) addresses_of addresses_ascend (λ h. is_eq (address_cmp address h.address)) (alike_at address_cmp address_cmp_total (λ h. h.address) address) (one_at address_cmp address_cmp_total (λ h. h.address) address) pulls 0 [] k (no_items address_order) 0 (sym (based_zero pulls))
+    find_all_joined address_order address_rank address_order_total (λ p. 0) addresses_of addresses_ascend (λ h. is_eq (address_cmp address h.address)) (alike_at address_cmp address_total (λ h. h.address) address) (one_at address_cmp address_total (λ h. h.address) address) pulls 0 [] k (no_items address_order) 0 (sym (based_zero pulls))
+    ∙ ap (λ xs. best address_rank (filter (λ h. is_eq (address_cmp address h.address)) xs)) (all_told pulls)
 
 pub addresses_are : (pulls : List Pull) → are_in_order pulls ≡ true → IsAddressMerge pulls (map assigned_to (all_joined address_order address_rank (λ p. 0) addresses_of pulls 0 []))
 addresses_are pulls k = (

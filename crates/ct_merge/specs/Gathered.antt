@@ -11,7 +11,7 @@ use Rattle.ct_merge.specs.declared.held.HeldAddress.{HeldAddress}
 use Rattle.ct_merge.specs.declared.merged.Merged.{Merged}
 use Rattle.ct_merge.specs.declared.merged.MergedAll.{MergedAll}
 use Rattle.ct_merge.specs.declared.merged.PMerged.{PMerged}
-use Rattle.ct_merge.specs.Placing.{placed, all_placed}
+use Rattle.ct_merge.specs.Placing.{inserted, all_inserted}
 use Rattle.ct_merge.specs.Held.{row_order, row_rank, ptable_order, ptable_rank, address_order, address_rank, rows_of, ptables_of, addresses_of}
 
 -- the members whose pulls were added, ascending; the greatest generation from which the volatile databases of one of
@@ -35,17 +35,17 @@ greater a b = if nat_lt a b then b else a
 -- the items of a base with those of one more base: of a greater base they take the place of all, of a smaller one none
 -- is taken, and of the same each is put in its place
 abbrev pub joined : {X : Type 0} → (X → X → Ordering) → (X → X → Ordering) → ℕ → List X → ℕ → List X → List X
-joined order rank base items new more = if nat_lt base new then more else if nat_lt new base then items else all_placed order rank more items
+joined order rank base items new more = if nat_lt base new then more else if nat_lt new base then items else all_inserted order rank more items
 
 -- one more pull
 abbrev pub gathered : Pull → Gathered → Gathered
 gathered pull g = record {
-  nodes = placed nat_cmp nat_cmp pull.node g.nodes;
+  nodes = inserted nat_cmp nat_cmp pull.node g.nodes;
   vbase = greater g.vbase pull.vbase;
   rows = joined row_order row_rank g.vbase g.rows pull.vbase (rows_of pull);
   pbase = greater g.pbase pull.pbase;
   ptables = joined ptable_order ptable_rank g.pbase g.ptables pull.pbase (ptables_of pull);
-  addresses = all_placed address_order address_rank (addresses_of pull) g.addresses;
+  addresses = all_inserted address_order address_rank (addresses_of pull) g.addresses;
 }
 
 -- more pulls, one after the other

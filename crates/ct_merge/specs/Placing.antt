@@ -27,14 +27,14 @@ module _ {X : Type 0} (rank : X → X → Ordering) where
 -- `order` tells which item has the lower place
 module _ {X : Type 0} (order rank : X → X → Ordering) where
   -- the list with one more item: in its place, and where one stands there, the better of the two
-  abbrev pub placed : X → List X → List X
-  placed x [] = x ∷ []
-  placed x (y ∷ ys) = match_ordering (order x y) (x ∷ y ∷ ys) (better rank x y ∷ ys) (y ∷ placed x ys)
+  abbrev pub inserted : X → List X → List X
+  inserted x [] = x ∷ []
+  inserted x (y ∷ ys) = match_ordering (order x y) (x ∷ y ∷ ys) (better rank x y ∷ ys) (y ∷ inserted x ys)
 
   -- the list with more items, one after the other
-  abbrev pub all_placed : List X → List X → List X
-  all_placed [] ys = ys
-  all_placed (x ∷ xs) ys = all_placed xs (placed x ys)
+  abbrev pub all_inserted : List X → List X → List X
+  all_inserted [] ys = ys
+  all_inserted (x ∷ xs) ys = all_inserted xs (inserted x ys)
 
 -- from which of two lists the next item comes when the first is put into the second: from the one whose first item has
 -- the lower place, or from both

@@ -1,6 +1,6 @@
 -- What a round makes of the pulls of its members, by key, place and address.
 use Rattle.std.specs.Prelude.{◌≡◌, ◌≤◌, ◌+◌, ℕ, Bool, true, ◌==◌, List, [], ◌∷◌, ◌++◌, Option, if◌then◌else◌, Contains}
-use Rattle.std.specs.List.{filter, find, list_all, list_any}
+use Rattle.std.specs.List.{filter, find, flat_map, list_all, list_any}
 use Rattle.std.specs.Option.{option_map}
 use Rattle.std.specs.Ordering.{nat_cmp}
 use Rattle.std.specs.BTreeMap.{is_at}
@@ -66,9 +66,9 @@ ptable_at db ptables = find (is_ptable_at db) ptables
 abbrev pub IsPersistentMerge : List Pull → PMerged → Type 0
 IsPersistentMerge pulls m = (m.parent ≡ pparent pulls) × (ascends ptable_before m.ptables ≡ true) × ((db : ℕ) → ptable_at db m.ptables ≡ option_map (λ h. h.ptable) (best ptable_rank (ptables_at db pulls)))
 
--- what all pulls hold of an address
+-- of the addresses that pulls hold, pull by pull, those that are this one
 abbrev pub addresses_at : Address → List Pull → List HeldAddress
-addresses_at address pulls = filter (λ h. is_at (address_cmp address) h.address) (told (λ p. 0) addresses_of 0 pulls)
+addresses_at address pulls = filter (λ h. is_at (address_cmp address) h.address) (flat_map addresses_of pulls)
 
 abbrev pub assigned_at : Address → List Assigned → Option Assigned
 assigned_at address assigned = find (λ a. is_at (address_cmp address) a.address) assigned

@@ -2,7 +2,6 @@
 ghost use Rattle.std.specs.Prelude.{◌≡◌, IfOk};
 ghost use Rattle.std.specs.Ordering.{nat_cmp};
 ghost use Rattle.std.specs.Cmp.{nat_cmp_total};
-ghost use Rattle.ct_bytes.specs.Address.{address_cmp};
 ghost use Rattle.ct_merge.specs.Held.{is_own, row_order, row_rank, ptable_order, ptable_rank, address_order, address_rank, based_rows, held_ptables, held_addresses};
 ghost use Rattle.ct_merge.specs.Orders.{row_order_total, ptable_order_total, address_order_total};
 
@@ -127,25 +126,13 @@ impl Candidate for HeldPTable {
     ghost total = { ptable_order_total };
 }
 
-/// The order of addresses.
-fn address_order(a: Address, b: Address) -> Ordering
-    ensures { result ≡ address_cmp a b }
-{
-    match (a, b) {
-        (Address::V4(m), Address::V4(n)) => m.cmp(&n),
-        (Address::V6(m), Address::V6(n)) => m.cmp(&n),
-        (Address::V4(_), Address::V6(_)) => Ordering::Less,
-        (Address::V6(_), Address::V4(_)) => Ordering::Greater,
-    }
-}
-
 impl Candidate for HeldAddress {
     ghost order = { address_order };
 
     ghost rank = { address_rank };
 
     fn order(&self, other: &HeldAddress) -> Ordering {
-        address_order(self.address, other.address)
+        self.address.cmp(&other.address)
     }
 
     fn rank(&self, other: &HeldAddress) -> Ordering {

@@ -5,7 +5,7 @@ ghost use Rattle.std.specs.Vec.{vec_len, vec_capacity};
 ghost use Rattle.std.specs.VecDeque.{deque_len};
 ghost use Rattle.std.specs.Cmp.{IsTotalOrder};
 ghost use Rattle.std.specs.List.Sorted.{IsStrictlySortedBy};
-ghost use Rattle.ct_merge.specs.Placing.{better, all_placed, turn};
+ghost use Rattle.ct_merge.specs.Placing.{better, all_inserted, turn};
 ghost use Rattle.ct_merge.specs.Gathered.{joined};
 
 use ct_bytes::memory::NoMemory;
@@ -52,8 +52,8 @@ fn turn<T: Candidate>(more: &VecDeque<T>, kept: &VecDeque<T>) -> Ordering
 /// Takes the next item of the two lists as they are merged.
 fn take_next<T: Candidate>(more: &mut VecDeque<T>, kept: &mut VecDeque<T>) -> Option<T>
     requires { IsStrictlySortedBy T.order more.old.items }
-    ensures next { IfSome result (λ x. all_placed T.order T.rank more.old.items kept.old.items ≡ x ∷ all_placed T.order T.rank more.new.items kept.new.items) }
-    ensures end { IfNone result (all_placed T.order T.rank more.old.items kept.old.items ≡ []) }
+    ensures next { IfSome result (λ x. all_inserted T.order T.rank more.old.items kept.old.items ≡ x ∷ all_inserted T.order T.rank more.new.items kept.new.items) }
+    ensures end { IfNone result (all_inserted T.order T.rank more.old.items kept.old.items ≡ []) }
     ensures ascends { IsStrictlySortedBy T.order more.new.items }
     ensures shorter { OnSome result (deque_len more.new + deque_len kept.new < deque_len more.old + deque_len kept.old) }
 {
@@ -73,7 +73,7 @@ fn merge<T: Candidate>(more: Vec<T>, kept: Vec<T>, room: Vec<T>) -> Vec<T>
     requires ascends { IsStrictlySortedBy T.order more.items }
     requires empty { room.items ≡ [] }
     requires fits { vec_len more + vec_len kept ≤ vec_capacity room }
-    ensures { result.items ≡ all_placed T.order T.rank more.items kept.items }
+    ensures { result.items ≡ all_inserted T.order T.rank more.items kept.items }
 {
     let mut merged = room;
     let mut more = VecDeque::from_vec(more);

@@ -1,11 +1,10 @@
 -- What a configuration may be made of.
-use Rattle.std.specs.Prelude.{ℕ, ◌≡◌, ◌+◌, Bool, false, ◌||◌, ◌==◌, nat_lt, nat_eq, if◌then◌else◌, List, [], ◌∷◌, ◌++◌, length, Option, Some, None, Result, Ok, Err, option_map}
+use Rattle.std.specs.Prelude.{ℕ, ◌≡◌, ◌+◌, Bool, ◌||◌, nat_lt, nat_eq, if◌then◌else◌, List, [], ◌∷◌, ◌++◌, length, Option, Some, None, Result, Ok, Err, option_map}
 use Rattle.std.specs.List.{list_any}
 use Rattle.std.specs.List.Sorted.{IsPermutation, IsStrictlySortedBy}
 use Rattle.std.specs.Cmp.Lexicographic.{pointwise}
 use Rattle.ct_bytes.specs.Address.{address_cmp, same_address}
 use Rattle.ct_bytes.specs.declared.address.Address.{Address}
-use Rattle.ct_bytes.specs.declared.address.Address.TheVariants.{V4, V6}
 use Rattle.ct_msg.specs.declared.config.Config.{Config}
 use Rattle.ct_msg.specs.declared.config.ConfigFault.{ConfigFault}
 use Rattle.ct_msg.specs.declared.config.ConfigFault.TheVariants.{BadNodes, TooMany, Repeated, NoMemory}
@@ -45,11 +44,12 @@ config_fault nodes dbs addresses =
     else (if nat_lt 15 (length dbs) || nat_lt 64 (length addresses) then Some TooMany
     else option_map Repeated (first_place (repeated_name dbs) (repeated_address addresses)))
 
--- a configuration is made of what has no fault: `g_lock` before the databases, and the addresses in ascending order
+-- a configuration is made of what has no fault: `g_lock` before the databases, and the addresses in ascending order.
+-- Memory is wanting only there
 abbrev pub Configures : Result Config ConfigFault → ℕ → List DbDecl → List Address → Type 0
 Configures (Ok c) nodes dbs addresses =
     (config_fault nodes dbs addresses ≡ None) × (c.nodes ≡ nodes) × (c.dbs ≡ lock_db ∷ dbs) × IsPermutation addresses c.addresses × IsStrictlySortedBy address_cmp c.addresses
 Configures (Err (BadNodes n)) nodes dbs addresses = config_fault nodes dbs addresses ≡ Some (BadNodes n)
 Configures (Err TooMany) nodes dbs addresses = config_fault nodes dbs addresses ≡ Some TooMany
 Configures (Err (Repeated i)) nodes dbs addresses = config_fault nodes dbs addresses ≡ Some (Repeated i)
-Configures (Err NoMemory) nodes dbs addresses = Unit {0}
+Configures (Err NoMemory) nodes dbs addresses = config_fault nodes dbs addresses ≡ None

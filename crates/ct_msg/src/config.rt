@@ -1,7 +1,7 @@
 //! What a cluster is made of: its nodes, its databases and its addresses.
 ghost use Rattle.std.specs.Prelude.{◌≡◌, ◌<◌, ◌^◌, ◌∷◌, [], IfOk, length};
 ghost use Rattle.ct_bytes.specs.Address.{same_address};
-ghost use Rattle.ct_msg.specs.Config.{Configures, lock_db, repeated_address, repeat_from, same_name};
+ghost use Rattle.ct_msg.specs.Config.{Configures, lock_db, repeated_address, repeated_name, same_name};
 ghost use Rattle.std.specs.List.{list_any};
 
 use ct_bytes::address::Address;
@@ -110,11 +110,14 @@ impl<T: Drop> From<AllocFailed<T>> for ConfigFault {
     }
 }
 
-/// The database that every cluster has first.
+/// The name of the database that every cluster has first.
+const LOCK_NAME: &[u8] = b"g_lock";
+
+/// That database.
 fn lock_db(alloc: Global) -> Result<DbDecl, NoMemory>
     ensures { IfOk result (λ d. d ≡ lock_db) }
 {
-    match DbName::new(alloc, b"g_lock") {
+    match DbName::new(alloc, LOCK_NAME) {
         Ok(name) => Ok(DbDecl {
             name,
             kind: DbKind::Volatile,
@@ -122,6 +125,12 @@ fn lock_db(alloc: Global) -> Result<DbDecl, NoMemory>
         Err(BytesFault::NoMemory) => Err(NoMemory),
         Err(BytesFault::BadLength(_) | BytesFault::BadByte(_)) => unreachable!(),
     }
+}
+
+fn is_lock_db(db: &DbDecl) -> bool
+    ensures { result ≡ same_name db.now lock_db }
+{
+    db.name.bytes() == LOCK_NAME
 }
 
 fn has_name(before: &[DbDecl], db: &DbDecl) -> bool
@@ -136,14 +145,14 @@ fn has_address(before: &[Address], address: &Address) -> bool
     before.iter().any(|a| *address == *a)
 }
 
-/// The place of the first name that is the first database's or that of one before.
+/// The place of the first name that is `g_lock` or that of one before.
 #[tactic(auto, using(crate::proofs::Repeats::repeat_more))]
-fn repeated_name(first: &DbDecl, dbs: &[DbDecl]) -> Option<u32>
+fn repeated_name(dbs: &[DbDecl]) -> Option<u32>
     requires { length dbs.now < 2 ^ 32 }
-    ensures { result ≡ repeat_from same_name (first.now ∷ []) 0 dbs.now }
+    ensures { result ≡ repeated_name dbs.now }
 {
     for (i, db) in dbs.iter().enumerate() {
-        if db.name == first.name || has_name(&dbs[..i], db) {
+        if is_lock_db(db) || has_name(&dbs[..i], db) {
             return Some(i as u32);
         }
     }
@@ -177,6 +186,7 @@ pub struct Config {
 
 impl Config {
     /// The configuration of these. `g_lock` comes before the databases, and the addresses come in ascending order.
+    /// Want of memory comes only where nothing else is to be refused.
     pub fn new(
         alloc: Global,
         nodes: u32,
@@ -191,14 +201,13 @@ impl Config {
         if dbs.len() > 15 || addresses.len() > 64 {
             return Err(ConfigFault::TooMany);
         }
-        let lock = lock_db(alloc)?;
-        if let Some(place) = repeated_name(&lock, &dbs) {
+        if let Some(place) = repeated_name(&dbs) {
             return Err(ConfigFault::Repeated(place));
         }
         if let Some(place) = repeated_address(&addresses) {
             return Err(ConfigFault::Repeated(place));
         }
-        dbs.insert(0, lock)?;
+        dbs.insert(0, lock_db(alloc)?)?;
         addresses.sort()?;
         Ok(Config {
             nodes,

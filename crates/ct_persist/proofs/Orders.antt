@@ -7,6 +7,7 @@ use Rattle.std.specs.Ordering.{is_lt, ordering_reverse, match_ordering}
 use Rattle.std.specs.List.{AllByRecursion, list_all}
 use Rattle.std.specs.List.Sorted.{IsStrictlySortedBy}
 use Rattle.std.specs.Map.{keys_of}
+use Rattle.std.proofs.lemmas.Bool.{and_parts, and_from}
 use Rattle.ct_bytes.specs.Key.{key_cmp}
 use Rattle.ct_msg.specs.declared.client.Pair.{Pair}
 use Rattle.ct_frame.specs.Fields.{ascends, ascends_after, pair_before, is_kept}
@@ -23,22 +24,10 @@ less Less h = refl
 less Equal h = absurd (cc)
 less Greater h = absurd (cc)
 
-both : (a b : Bool) → a ≡ true → b ≡ true → (a && b) ≡ true
-both true b p q = q
-both false b p q = absurd (cc)
-
-first : (a b : Bool) → (a && b) ≡ true → a ≡ true
-first true b h = refl
-first false b h = absurd (cc)
-
-second : (a b : Bool) → (a && b) ≡ true → b ≡ true
-second true b h = h
-second false b h = absurd (cc)
-
 listed_after : (k v : List ℕ) (m : Pairs V) → Ascends ((k, v) ∷ m) → ascends_after pair_before (record { key = k; value = v }) (listed m) ≡ true
 unfolding IsStrictlySortedBy
 listed_after k v [] a = refl
-listed_after k v (e ∷ m) a = both _ _ (is_less (key_cmp k e.0) a.0.0) (listed_after e.0 e.1 m a.1)
+listed_after k v (e ∷ m) a = and_from _ _ (is_less (key_cmp k e.0) a.0.0) (listed_after e.0 e.1 m a.1)
 
 -- what a map has is in order
 pub listed_ascends : (m : Pairs V) → IsKept m → IsTrue (ascends pair_before (listed m))
@@ -51,7 +40,7 @@ some_bytes (b ∷ bs) n = grind arith
 
 full_listed : (m : Pairs V) → Full m → list_all is_kept (listed m) ≡ true
 full_listed [] f = refl
-full_listed (e ∷ m) f = both _ _ (some_bytes e.1 f.0) (full_listed m f.1)
+full_listed (e ∷ m) f = and_from _ _ (some_bytes e.1 f.0) (full_listed m f.1)
 
 pub listed_kept : (m : Pairs V) → IsKept m → IsTrue (list_all is_kept (listed m))
 listed_kept m k = full_listed m k.1
@@ -64,8 +53,8 @@ keyed_after : (p : Pair) (ps : List Pair) → ascends_after pair_before p ps ≡
 unfolding IsStrictlySortedBy
 keyed_after p [] h = (tt, tt)
 keyed_after p (r ∷ ps) h =
-    let l = less (key_cmp p.key r.key) (first _ _ h) in
-    let rest = keyed_after r ps (second _ _ h) in
+    let l = less (key_cmp p.key r.key) (and_parts _ _ h).0 in
+    let rest = keyed_after r ps (and_parts _ _ h).1 in
     ((l, above p.key r.key _ l rest.0), rest)
 
 keyed_ascends : (ps : List Pair) → ascends pair_before ps ≡ true → Ascends (keyed ps)
@@ -79,7 +68,7 @@ not_empty (b ∷ bs) h = λ e. cc
 
 keyed_full : (ps : List Pair) → list_all is_kept ps ≡ true → Full (keyed ps)
 keyed_full [] h = tt
-keyed_full (p ∷ ps) h = (not_empty p.value (first _ _ h), keyed_full ps (second _ _ h))
+keyed_full (p ∷ ps) h = (not_empty p.value (and_parts _ _ h).0, keyed_full ps (and_parts _ _ h).1)
 
 -- pairs in order, none empty, are a map that is kept
 pub keyed_kept : (ps : List Pair) → IsTrue (ascends pair_before ps) → IsTrue (list_all is_kept ps) → IsKept (keyed ps)

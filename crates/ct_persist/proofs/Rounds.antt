@@ -2,6 +2,7 @@
 use Rattle.std.proofs.Common.{◌≡◌, ◌+◌, ℕ, suc, Bool, true, false, ◌&&◌, nat_eq, nat_lt, List, [], ◌∷◌, length, refl, ◌∙◌, ap, arith}
 use Rattle.std.specs.Prelude.{if◌then◌else◌}
 use Rattle.std.specs.Bool.{IsTrue}
+use Rattle.std.proofs.lemmas.Bool.{and_parts}
 use Rattle.ct_msg.specs.declared.client.Pair.{Pair}
 use Rattle.ct_store.specs.Map.{Pairs}
 use Rattle.ct_persist.specs.declared.store.Updated.{Updated}
@@ -48,16 +49,12 @@ third true true e h = h
 third true false e h = absurd (cc)
 third false d e h = absurd (cc)
 
-front : (c d : Bool) → (c && d) ≡ true → c ≡ true
-front true d h = refl
-front false d h = absurd (cc)
-
 -- where each is the next one and fits, each is a commit
 pub all_commits : (us : List Update) (p : Persisted) → IsTrue (each_next us p) → commits us p ≡ writes_of us
 unfolding commits each_next
 all_commits [] p h = refl
 all_commits (u ∷ us) p h =
-    let done = is_done (nat_lt p.seq u.seq) (nat_eq u.seq (p.seq + 1)) (fits u.writes p.pairs) _ (above (front _ _ (front _ _ h))) h in
+    let done = is_done (nat_lt p.seq u.seq) (nat_eq u.seq (p.seq + 1)) (fits u.writes p.pairs) _ (above (and_parts _ _ (and_parts _ _ h).0).0) h in
     ap (λ a. with_commit a u.writes (commits us (answered a u.seq u.writes p))) done ∙ ap (λ cs. u.writes ∷ cs) (all_commits us _ (third (nat_eq u.seq (p.seq + 1)) (fits u.writes p.pairs) _ h))
   where
     above : nat_eq u.seq (p.seq + 1) ≡ true → nat_lt p.seq u.seq ≡ true

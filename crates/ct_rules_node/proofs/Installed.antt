@@ -1,6 +1,6 @@
 -- An installation, seen at one key.
 use Rattle.std.proofs.Common.{◌≡◌, ◌≢◌, ℕ, Bool, true, false, cond, ◌==◌, nat_lt, List, [], ◌∷◌, Option, Some, None, refl, sym, ◌∙◌, ap, subst, eqb-true}
-use Rattle.std.proofs.lemmas.Bool.{cond_both, eqb-false}
+use Rattle.std.proofs.lemmas.Bool.{cond_both, eqb-false, and_from, and_parts}
 use Rattle.std.specs.Prelude.{map, nat_eq}
 use Rattle.std.specs.declared.cmp.Ordering.TheVariants.{Less}
 use Rattle.std.specs.Ordering.{is_eq, is_lt, nat_cmp}
@@ -13,7 +13,7 @@ use Rattle.ct_frame.specs.declared.frame.TableRow.{TableRow}
 use Rattle.ct_frame.specs.Fields.{ascends, row_before}
 use Rattle.ct_merge.specs.Held.{is_row_at}
 use Rattle.ct_merge.specs.Rule.{row_at}
-use Rattle.ct_merge.proofs.Ordered.{in_order, is_lt_then, first, second, both}
+use Rattle.ct_merge.proofs.Ordered.{in_order, is_lt_then}
 use Rattle.ct_merge.proofs.Rules.{place_cmp, place_total}
 use Rattle.ct_store.specs.Map.{Pairs, Ascends, look, write}
 use Rattle.ct_store.proofs.Maps.{one_key, equal, key_total, written, not_written, write_ascends}
@@ -36,10 +36,10 @@ in_places rows h = in_order place_cmp place_total row_before place row_is rows h
 
 -- a row that is at a place has its number and key
 pub same_db : (db : ℕ) (key : List ℕ) (row : TableRow) → is_row_at db key row ≡ true → db ≡ row.db
-same_db db key row t = nat_cmp-IsAntisymmetric db row.db (equal _ (first _ _ t))
+same_db db key row t = nat_cmp-IsAntisymmetric db row.db (equal _ (and_parts _ _ t).0)
 
 pub same_key : (db : ℕ) (key : List ℕ) (row : TableRow) → is_row_at db key row ≡ true → key ≡ row.key
-same_key db key row t = one_key key row.key (equal _ (second _ _ t))
+same_key db key row t = one_key key row.key (equal _ (and_parts _ _ t).1)
 
 pub same_number : (n : ℕ) → is_eq (nat_cmp n n) ≡ true
 same_number n = ap is_eq (tied_itself nat_cmp_total n)
@@ -48,7 +48,7 @@ pub own_key : (key : List ℕ) → is_eq (key_cmp key key) ≡ true
 own_key key = ap is_eq (tied_itself key_total key)
 
 pub own_place : (row : TableRow) → is_row_at row.db row.key row ≡ true
-own_place row = both _ _ (same_number row.db) (own_key row.key)
+own_place row = and_from _ _ (same_number row.db) (own_key row.key)
 
 -- at another place is another number or another key
 not_at : (db : ℕ) (key : List ℕ) (row : TableRow) → is_row_at db key row ≡ false → db ≡ row.db → key ≢ row.key

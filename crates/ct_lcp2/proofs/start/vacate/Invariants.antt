@@ -1,7 +1,7 @@
 use Rattle.std.proofs.Common.{◌≡◌, ◌++◌, drop}
 use Rattle.std.specs.Prelude.{map}
 use Rattle.ct_lcp2.specs.Placing.{freed, moves_away}
-use Rattle.ct_lcp2.proofs.start.begin.Given as goal
+use Rattle.ct_lcp2.proofs.start.vacate.Given as goal
 
 abbrev pub invariant-loop-x : goal.invariant-loop-x
 invariant-loop-x l =
