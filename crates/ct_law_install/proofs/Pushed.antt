@@ -20,7 +20,7 @@ use Rattle.ct_lcp2.proofs.Choices.{all_append, all_weaken}
 use Rattle.ct_rules.specs.declared.state.RecState.{RecState}
 use Rattle.ct_rules.specs.declared.state.Wish.{Wish}
 use Rattle.ct_rules_node.specs.Admission.{is_sound, record_in}
-use Rattle.ct_rules_node.specs.Laws.{first_row, NodeAscends, StaysInOrder}
+use Rattle.ct_rules_node.specs.Laws.{NodeAscends, StaysInOrder}
 use Rattle.ct_rules.specs.State.{rsn_of}
 use Rattle.ct_rules_node.specs.Node.{Node, Frozen, Nothing, Database, Committing, is_among, is_present, is_present_in, is_frozen_in, db_at, state_at, untouched}
 use Rattle.ct_rules_node.specs.Rounds.{installs, installed_node, installed_db, makes_rows, row_of, frozen_state}
@@ -254,7 +254,7 @@ module _ (c : Config) (rules : Rules) (w : Cluster) (r : Lines) (h : Lives c rul
         some = λ ne. (let q = k.some ne in (
           q.0,
           or_grows (nat_eq vbase 1) (r.installed vbase n) (s.installed vbase n) (grown vbase n) q.1,
-          λ db key. q.2 db key ∙ ap (λ (z : View). first_row (row_of n db key z.state.copy)) (sym (views n vbase db key)),
+          λ db key. q.2 db key ∙ ap (λ (z : View). row_of n db key z.state.copy) (sym (views n vbase db key)),
         ));
         order = k.order;
         polder = k.polder;

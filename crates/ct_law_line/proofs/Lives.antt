@@ -14,7 +14,6 @@ use Rattle.ct_merge.specs.Rule.{row_at}
 use Rattle.ct_merge.proofs.Among.{In}
 use Rattle.ct_rules.specs.State.{nothing_kept}
 use Rattle.ct_rules_node.specs.Node.{is_persistent, kind_at, Node, Phase, Idle, Freezing, Frozen, Committing, Lead, Nothing, Freezes, Pulls, Installs, Completed, is_among, is_present, name_of, db_at, state_at}
-use Rattle.ct_rules_node.specs.Laws.{first_row}
 use Rattle.ct_rules_node.specs.Rounds.{row_of}
 use Rattle.ct_rules_node.specs.Admission.{record_in}
 use Rattle.ct_cluster.specs.Cluster.{Cluster, is_up, node_at}

@@ -11,7 +11,6 @@ use Rattle.ct_frame.specs.declared.frame.TableRow.{TableRow}
 use Rattle.ct_call.specs.Rules.{Rules}
 use Rattle.ct_rules_node.specs.Node.{Node, Phase, Nothing, Idle, Serving, Installed, Freezing, Frozen, is_present, is_present_in, db_at, state_at}
 use Rattle.ct_rules_node.specs.Clients.{is_committing, is_locked}
-use Rattle.ct_rules_node.specs.Laws.{first_row}
 use Rattle.ct_rules_node.specs.Rounds.{row_of}
 use Rattle.ct_cluster.specs.Cluster.{Cluster, node_at}
 use Rattle.ct_register.specs.Register.{Register}
@@ -115,7 +114,7 @@ replied_still r a b records n g vbase pbase table x y before after promise views
   still = k.still;
   past = λ h. not_freezing y.phase g h after;
   stuck = λ ne line. absurd (apart ne (sym line));
-  some = λ ne. (let q = k.some ne in (q.0, q.1, λ db key. q.2 db key ∙ ap (λ (v : View). first_row (row_of n db key v.state.copy)) (sym (views vbase db key (apart ne)))));
+  some = λ ne. (let q = k.some ne in (q.0, q.1, λ db key. q.2 db key ∙ ap (λ (v : View). row_of n db key v.state.copy) (sym (views vbase db key (apart ne)))));
   order = k.order;
   polder = k.polder;
   phad = k.phad;
