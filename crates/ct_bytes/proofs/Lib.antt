@@ -1,6 +1,6 @@
 pub mod AddressOrder
-mod Addresses
-mod Numbers
-mod Reading
-mod Spellings
+pub mod Addresses
+pub mod Numbers
+pub mod Reading
+pub mod Spellings
 pub mod Words
