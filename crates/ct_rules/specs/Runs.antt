@@ -139,6 +139,10 @@ revoking = record delegating {
   wish = Some (record { call = 6; request = 0; op = op.Lock 1 a });
 }
 
+-- a recall of another node waits in place of the call
+abbrev pub recalled : RecState
+recalled = record revoking { wish = None; waiting = record { least = 0; node = 2; request = 4; kind = kind.Lock } ∷ [] }
+
 -- node 2 alone is missing
 abbrev pub revoking_one : RecState
 revoking_one = record revoking { tracking = record { tracked = 0 ∷ 2 ∷ []; revoking = Some (record { rsn = 0; missing = 2 ∷ [] }) } }

@@ -9,7 +9,7 @@ ghost use Rattle.ct_msg.specs.declared.client.Answer.TheVariants as answer;
 ghost use Rattle.ct_msg.specs.declared.client.ClientOp.TheVariants as op;
 ghost use Rattle.ct_msg.specs.declared.client.Why.TheVariants as why;
 ghost use Rattle.ct_rules.specs.Moves.{moved};
-ghost use Rattle.ct_rules.specs.Runs.{a, a_at, appending, asked, b, b_at, comes, delegating, deleted, deleting, full, gave, given_up, happens, leaves, leaves_asked, locked, made_anew, old_copy, one_read_waits, passed, passed_back, passed_on, r_at, read_only, reading, reads_wait, revoked, revoking, revoking_for_write, revoking_one, stayed, stored_copy, storing, wishing, x, y};
+ghost use Rattle.ct_rules.specs.Runs.{a, a_at, appending, asked, b, b_at, comes, delegating, deleted, deleting, full, gave, given_up, happens, leaves, leaves_asked, locked, made_anew, old_copy, one_read_waits, passed, passed_back, passed_on, r_at, read_only, reading, reads_wait, recalled, revoked, revoking, revoking_for_write, revoking_one, stayed, stored_copy, storing, wishing, x, y};
 ghost use Rattle.ct_rules.specs.State.{a_copy, nobody, nothing_kept, plain};
 ghost use Rattle.ct_deleg.specs.Tracked.{untracked};
 ghost use Rattle.ct_rules.specs.declared.event.Act.TheVariants as act;
@@ -80,6 +80,16 @@ pub fn refused_record_stays()
     ensures { comes (a_at 1 0) 0 (msg.Refuse 1 a 1 2) passed_back ≡ leaves (a_at 1 0) stayed [] }
 {}
 
+/// A refusal of another request than the one that the record was passed for changes nothing.
+pub fn refuse_of_another_request_changes_nothing()
+    ensures { comes (a_at 1 0) 0 (msg.Refuse 1 a 2 2) passed_back ≡ leaves (a_at 1 0) passed_back [] }
+{}
+
+/// A record that is passed for another request than the one that waits is refused, and the wish stays.
+pub fn pass_of_another_request_is_refused()
+    ensures { comes (b_at 1) 0 (msg.Pass 1 b 2 0 []) wishing ≡ leaves (b_at 1) wishing (act.Send 0 (msg.Refuse 1 b 2 0) ∷ []) }
+{}
+
 /// A gift that no request waits for stays at the location master under the next RSN.
 pub fn unasked_gift_is_kept()
     ensures { comes (a_at 1 0) 0 (msg.Give 1 a 1 []) passed_on ≡ leaves (a_at 1 0) deleted [] }
@@ -118,6 +128,16 @@ pub fn grant_answers_the_read()
 /// A lock at a holder that handed out copies waits, and these are called in.
 pub fn lock_revokes_the_copies()
     ensures { happens (r_at 1) (event.Want 6 (op.Lock 1 a)) delegating ≡ leaves (r_at 1) revoking (act.Send 0 (msg.Revoke 1 a 0) ∷ act.Send 2 (msg.Revoke 1 a 0) ∷ []) }
+{}
+
+/// So does a write, which is made beside no copy for reading.
+pub fn write_revokes_the_copies()
+    ensures { happens (r_at 1) (event.Want 6 (op.Write 1 a y)) delegating ≡ leaves (r_at 1) (record revoking { wish = Some (record { call = 6; request = 0; op = op.Write 1 a y }) }) (act.Send 0 (msg.Revoke 1 a 0) ∷ act.Send 2 (msg.Revoke 1 a 0) ∷ []) }
+{}
+
+/// So does a recall for the lock, which waits until all have acknowledged.
+pub fn recall_revokes_the_copies()
+    ensures { comes (r_at 1) 1 (msg.Recall 1 a 0 2 4 kind.Lock) delegating ≡ leaves (r_at 1) recalled (act.Send 0 (msg.Revoke 1 a 0) ∷ act.Send 2 (msg.Revoke 1 a 0) ∷ []) }
 {}
 
 /// An acknowledgement that others are missing to changes the missing nodes alone.

@@ -5,3 +5,5 @@ pub mod Vacuums
 pub mod Recoveries
 pub mod Commits
 pub mod Addresses
+pub mod Rounds
+pub mod Refusals

@@ -5,6 +5,8 @@ ghost use Rattle.ct_runs.specs.Vacuums.{VacuumThenRecreate, GiveAfterVacuum, Vac
 ghost use Rattle.ct_runs.specs.Recoveries.{RoundEndsVacuum, DifferentBases, BrokenOffRound, RestartedNode, SurvivingMaster, MasterBeforeReader};
 ghost use Rattle.ct_runs.specs.Commits.{CommitUnderLock, DisjointRounds, FreezeDuringCommit};
 ghost use Rattle.ct_runs.specs.Addresses.{Takeover, Failback, Session};
+ghost use Rattle.ct_runs.specs.Rounds.{CallWaitsAcrossARound, FreezeClearsAKey, RoundLowersTheFloor};
+ghost use Rattle.ct_runs.specs.Refusals.{RefusedCalls, RefusedSteps};
 
 /// On one node a client locks, stores, unlocks and reads.
 pub fn lock_on_one_node()
@@ -129,4 +131,29 @@ pub fn failback()
 /// A session with a round, a takeover, a commit, a write and reads.
 pub fn session()
     ensures { Session }
+{}
+
+/// A call that waits when a round begins, in the queue of a location master that has an entry, is answered after it.
+pub fn call_waits_across_a_round()
+    ensures { CallWaitsAcrossARound }
+{}
+
+/// A freeze leaves the copy of a record, and neither its entry nor its queue.
+pub fn freeze_clears_a_key()
+    ensures { FreezeClearsAKey }
+{}
+
+/// A vacuum raises the floor, and a round lowers it again: the record is made anew under the RSN 0.
+pub fn round_lowers_the_floor()
+    ensures { RoundLowersTheFloor }
+{}
+
+/// A client is refused by the first reason that holds, and a call that waits ends with its node.
+pub fn refused_calls()
+    ensures { RefusedCalls }
+{}
+
+/// Of each kind of step the refusals, in their order: the first that holds is told.
+pub fn refused_steps()
+    ensures { RefusedSteps }
 {}
