@@ -254,16 +254,16 @@ pub record Marking (base joint top least : ℕ) (mark place : ℕ → ℕ) (vers
   pub none : top ≤ base → length versions ≡ 0
 
 -- of the places: they rise with the rank, from the top on they are the whole list, and absent copies stand for an empty reading
-pub record Global (ps : List ℕ) (m holder top least base joint : ℕ) (versions : List (List ℕ)) (value : List ℕ) (place mark : ℕ → ℕ) (readers : List ℕ) (revoking : Bool) (running : Option Vacuuming) : Type 0 where
+pub record Global (ps : List ℕ) (m holder least joint : ℕ) (span : Span) (versions : List (List ℕ)) (value : List ℕ) (place : ℕ → ℕ) (readers : List ℕ) (revoking : Bool) (running : Option Vacuuming) : Type 0 where
   pub rises : (a b : ℕ) → a ≤ b → place a ≤ place b
-  pub whole : (a : ℕ) → top ≤ a → place a ≡ length versions
+  pub whole : (a : ℕ) → span.top ≤ a → place a ≡ length versions
   pub within : (a : ℕ) → place a ≤ length versions
   pub absent : Emptied place versions 0
-  pub vacuum : (v : Vacuuming) → running ≡ Some v → Emptying ps m holder top versions place readers revoking v
-  pub marks : Marking base joint top least mark place versions value
+  pub vacuum : (v : Vacuuming) → running ≡ Some v → Emptying ps m holder span.top versions place readers revoking v
+  pub marks : Marking span.base joint span.top least span.mark place versions value
 
 abbrev pub GlobalInv : List ℕ → ℕ → Ghost → Type 0
-GlobalInv ps m g = Global ps m g.entry.holder g.top g.entry.least g.base g.joint g.register.versions g.entry.value g.place g.mark g.readers g.revoking g.vacuum
+GlobalInv ps m g = Global ps m g.entry.holder g.entry.least g.joint (span_of g) g.register.versions g.entry.value g.place g.readers g.revoking g.vacuum
 
 -- a node is in the middle of a step, the others as they were
 pub record Good (ps : List ℕ) (m me : ℕ) (nodes : ℕ → Node) (g : Ghost) (node : Node) : Type 0 where
