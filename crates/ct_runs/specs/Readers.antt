@@ -122,3 +122,41 @@ LateGrant = Prints (record { nodes = 3; dbs = lock_db ∷ a_db (codes "r") ReadO
     line.Answered 5 (answer.Locked (codes "x")) ∷
     []
     )
+
+-- a write beside a copy for reading is made once that is called in, and who reads afterwards reads it
+abbrev pub WriteCallsCopiesIn : Type 0
+WriteCallsCopiesIn = Prints (record { nodes = 2; dbs = lock_db ∷ a_db (codes "t") ReadOnly ∷ []; addresses = [] }) (
+    step.Client 0 (op.Write 1 (codes "b") (codes "x")) ∷
+    step.Client 1 (op.Read 1 (codes "b")) ∷
+    step.Deliver 1 ∷
+    step.Deliver 2 ∷
+    step.Deliver 3 ∷
+    step.Deliver 4 ∷
+    step.Client 0 (op.Write 1 (codes "b") (codes "y")) ∷
+    step.Client 1 (op.Read 1 (codes "b")) ∷
+    step.Deliver 5 ∷
+    step.Deliver 6 ∷
+    step.Client 1 (op.Read 1 (codes "b")) ∷
+    step.Deliver 7 ∷
+    step.Deliver 8 ∷
+    step.Deliver 9 ∷
+    step.Deliver 10 ∷
+    []
+    ) (
+    line.Answered 1 answer.Written ∷
+    sent 1 1 0 1 (msg.Call 1 (codes "b") 1 kind.Read) ∷
+    sent 2 0 0 1 (msg.Recall 1 (codes "b") 0 1 1 kind.Read) ∷
+    sent 3 0 1 1 (msg.Grant 1 (codes "b") 1 0 (codes "x")) ∷
+    sent 4 0 0 1 (msg.Done 1 (codes "b") 1 1) ∷
+    line.Answered 2 (answer.Read (codes "x")) ∷
+    sent 5 0 1 1 (msg.Revoke 1 (codes "b") 0) ∷
+    line.Answered 4 (answer.Read (codes "x")) ∷
+    sent 6 1 0 1 (msg.RevokeAck 1 (codes "b") 0) ∷
+    line.Answered 3 answer.Written ∷
+    sent 7 1 0 1 (msg.Call 1 (codes "b") 2 kind.Read) ∷
+    sent 8 0 0 1 (msg.Recall 1 (codes "b") 0 1 2 kind.Read) ∷
+    sent 9 0 1 1 (msg.Grant 1 (codes "b") 2 1 (codes "y")) ∷
+    sent 10 0 0 1 (msg.Done 1 (codes "b") 1 2) ∷
+    line.Answered 5 (answer.Read (codes "y")) ∷
+    []
+    )

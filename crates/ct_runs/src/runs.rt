@@ -1,6 +1,6 @@
 //! Runs that are worked out by the definitions: each shows what its name says, message by message.
 ghost use Rattle.ct_runs.specs.Migrations.{LockOnOneNode, FirstLock, RecordMoves, RepeatedPass, LostPass, Functions};
-ghost use Rattle.ct_runs.specs.Readers.{CopyForReading, CopiesAreCalledIn, LateGrant};
+ghost use Rattle.ct_runs.specs.Readers.{CopyForReading, CopiesAreCalledIn, LateGrant, WriteCallsCopiesIn};
 ghost use Rattle.ct_runs.specs.Vacuums.{VacuumThenRecreate, GiveAfterVacuum, VacuumAsksAgain, LockEndsVacuum};
 ghost use Rattle.ct_runs.specs.Recoveries.{RoundEndsVacuum, DifferentBases, BrokenOffRound, RestartedNode, SurvivingMaster, MasterBeforeReader};
 ghost use Rattle.ct_runs.specs.Commits.{CommitUnderLock, DisjointRounds, FreezeDuringCommit};
@@ -131,6 +131,11 @@ pub fn failback()
 /// A session with a round, a takeover, a commit, a write and reads.
 pub fn session()
     ensures { Session }
+{}
+
+/// A write beside a copy for reading is made once that is called in, and who reads afterwards reads it.
+pub fn write_calls_copies_in()
+    ensures { WriteCallsCopiesIn }
 {}
 
 /// A call that waits when a round begins, in the queue of a location master that has an entry, is answered after it.
