@@ -20,7 +20,7 @@ use Rattle.ct_law_line.proofs.Ages.{Ages}
 use Rattle.ct_law_line.proofs.Lives.{Lives, PhaseSays}
 use Rattle.ct_law_line.proofs.Faces.{Turned}
 use Rattle.ct_law_freeze.proofs.Arriving.{freezes_turned, freezeack_turned, pushack_turned}
-use Rattle.ct_law_freeze.proofs.Freezing.{HasCome, CommitsPersist}
+use Rattle.ct_law_freeze.proofs.Freezing.{HasCome}
 use Rattle.ct_law_freeze.proofs.Rounding.{pull_turned}
 use Rattle.ct_law_heir.proofs.Last.{replies_turned}
 use Rattle.ct_law_install.proofs.Pushes.{push_turned}
@@ -31,33 +31,22 @@ use Rattle.ct_law_absent.proofs.Dropped.{is_of_round, dropped}
 -- ---- messages of a round
 
 -- at every node, whatever its phase
-pub round_turned : (c : Config) (rules : Rules) (w : Cluster) (r : Lines) (h : Lives c rules w r) (n : ℕ) (f : Frame) (m : Msg) → IsConfig c → nat_lt n c.nodes ≡ true → f.msg ≡ m → is_of_round m ≡ true → HasCome w n f → CommitsPersist c (node_at n w) →
+pub round_turned : (c : Config) (rules : Rules) (w : Cluster) (r : Lines) (h : Lives c rules w r) (n : ℕ) (f : Frame) (m : Msg) → IsConfig c → nat_lt n c.nodes ≡ true → f.msg ≡ m → is_of_round m ≡ true → HasCome w n f →
     (happens c rules n (begins (node_at n w)) (event.Arrive f)).spent ≡ false → Turned c rules h.who w r h.ages n (pending w) (happens c rules n (begins (node_at n w)) (event.Arrive f))
 unfolding is_of_round
-round_turned c rules w r h n f (msg.Freeze members) config there is e come persist whole = freezes_turned c rules w r h n f members config there is come persist
-round_turned c rules w r h n f msg.FreezeAck config there is e come persist whole = freezeack_turned c rules w r h n f there is
-round_turned c rules w r h n f msg.Pull config there is e come persist whole = pull_turned c rules w r h n f there is
-round_turned c rules w r h n f (msg.PullReply vbase pbase table ptables addresses) config there is e come persist whole = replies_turned c rules w r h n f vbase pbase table ptables addresses there is come
-round_turned c rules w r h n f (msg.Push members table ptables assigned) config there is e come persist whole = push_turned c rules w r h n f members table ptables assigned there is come whole
-round_turned c rules w r h n f msg.PushAck config there is e come persist whole = pushack_turned c rules w r h n f there is come.sent
-round_turned c rules w r h n f _ config there is e come persist whole = absurd (cc)
+round_turned c rules w r h n f (msg.Freeze members) config there is e come whole = freezes_turned c rules w r h n f members config there is come
+round_turned c rules w r h n f msg.FreezeAck config there is e come whole = freezeack_turned c rules w r h n f there is
+round_turned c rules w r h n f msg.Pull config there is e come whole = pull_turned c rules w r h n f there is
+round_turned c rules w r h n f (msg.PullReply vbase pbase table ptables addresses) config there is e come whole = replies_turned c rules w r h n f vbase pbase table ptables addresses there is come
+round_turned c rules w r h n f (msg.Push members table ptables assigned) config there is e come whole = push_turned c rules w r h n f members table ptables assigned there is come whole
+round_turned c rules w r h n f msg.PushAck config there is e come whole = pushack_turned c rules w r h n f there is come.sent
+round_turned c rules w r h n f _ config there is e come whole = absurd (cc)
 
 -- ---- a node that is not present
-
--- no commit waits there
-no_commit : (c : Config) (rules : Rules) (who : Callers) (w : Cluster) (r : Lines) (a : Ages) (n : ℕ) (x : Node) (p : Phase) → PhaseSays c rules who w r a n x p → is_present p ≡ false → (db : ℕ) → (db_at db x).commit ≡ None
-unfolding PhaseSays is_present
-no_commit c rules who w r a n x Idle says e = says.2
-no_commit c rules who w r a n x (Freezing g l) says e = says.6
-no_commit c rules who w r a n x (Frozen g) says e = says.5
-no_commit c rules who w r a n x _ says e = absurd (cc)
 
 module _ (c : Config) (rules : Rules) (w : Cluster) (r : Lines) (h : Lives c rules w r) (n : ℕ) (config : IsConfig c) (there : nat_lt n c.nodes ≡ true) (absent : is_present (node_at n w).phase ≡ false) where
   abbrev x : Node
   x = node_at n w
-
-  none_persist : CommitsPersist c x
-  none_persist db k e = absurd (let z : None ≡ Some k = sym (no_commit c rules h.who w r h.ages n x x.phase (h.nodes n there).phase absent db) ∙ e in cc)
 
   -- where nothing comes of the event
   nothing_comes : (e : Event) → happens c rules n (begins x) e ≡ begins x → Turned c rules h.who w r h.ages n (pending w) (happens c rules n (begins x) e)
@@ -66,7 +55,7 @@ module _ (c : Config) (rules : Rules) (w : Cluster) (r : Lines) (h : Lives c rul
   pub arrives_turned : (f : Frame) → HasCome w n f → (happens c rules n (begins x) (event.Arrive f)).spent ≡ false → Turned c rules h.who w r h.ages n (pending w) (happens c rules n (begins x) (event.Arrive f))
   unfolding happens
   arrives_turned f come whole = ⊎_elim
-      (λ (e : is_of_round f.msg ≡ true). round_turned c rules w r h n f f.msg config there refl e come none_persist whole)
+      (λ (e : is_of_round f.msg ≡ true). round_turned c rules w r h n f f.msg config there refl e come whole)
       (λ (e : is_of_round f.msg ≡ false). nothing_comes (event.Arrive f) (dropped c rules n f x absent f.msg e))
       (cases_Bool (is_of_round f.msg))
 

@@ -315,7 +315,7 @@ module _ (c : Config) (rules : Rules) (w : Cluster) (r : Lines) (h : Lives c rul
     present = eq-eqb g g refl;
     knows = refl;
     promise = promised;
-    lead = refl;
+    lead = λ _. refl;
     size = size;
     known = record { order = known.order; dbs = known.dbs };
     waits = waits;
@@ -338,6 +338,7 @@ module _ (c : Config) (rules : Rules) (w : Cluster) (r : Lines) (h : Lives c rul
     waits = waits;
     formed = subst (λ (j : ℕ). (db : ℕ) (key : List ℕ) → Is_formed (scene c (era_of s b j) rules db key) n (view db key y)) (sym line_now) formed;
     commits = λ db k e. absurd (let z : None ≡ Some k = sym (no_commit db) ∙ e in cc);
+    persist = λ db k e. absurd (let z : None ≡ Some k = sym (no_commit db) ∙ e in cc);
     phase = (
       (λ z. (let e = line_now in let l = later_one in absurd (omega arith))),
       subst (λ (j : ℕ). NodeStays c (era_of s b j) rules h.who v.calls n (record y { lead = Nothing })) (sym line_now) begun_stays,
