@@ -60,7 +60,7 @@ use Rattle.ct_law_line.proofs.Joining
 use Rattle.ct_law_freeze.proofs.Freezing.{HasCome}
 use Rattle.ct_law_freeze.proofs.Stood.{lead_later}
 use Rattle.ct_law_freeze.proofs.Turning.{sent_still}
-use Rattle.ct_law_stop.proofs.Quiet.{marks_stay}
+use Rattle.ct_law_record.proofs.MarkLists.{marks_stay}
 use Rattle.ct_law_stop.proofs.Stopped.{had_stays}
 use Rattle.ct_law_install.proofs.Made.{released_untold, released_frames, done_so, installs_outs, given_up, push_is}
 use Rattle.ct_law_install.proofs.Viewed
