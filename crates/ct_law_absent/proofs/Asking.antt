@@ -35,9 +35,9 @@ use Rattle.ct_law_cluster.proofs.Configured.{refusals_silent}
 use Rattle.ct_law_cluster.proofs.Served.{client_serves, call_kind, has_database}
 use Rattle.ct_law_line.proofs.Lives.{Lives}
 use Rattle.ct_law_line.proofs.Faces.{Turned}
-use Rattle.ct_law_freeze.proofs.Declining.{refused_turned}
-use Rattle.ct_law_freeze.proofs.Finishing.{store_turned, unlock_turned, read_turned}
-use Rattle.ct_law_freeze.proofs.Held.{outs_labels}
+use Rattle.ct_law_held.proofs.Declining.{refused_turned}
+use Rattle.ct_law_held.proofs.Finishing.{store_turned, unlock_turned, read_turned}
+use Rattle.ct_law_held.proofs.Held.{outs_labels}
 use Rattle.ct_law_stop.proofs.Wordless.{wordless_turned}
 
 -- ---- which calls are served

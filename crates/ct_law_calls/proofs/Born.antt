@@ -18,18 +18,18 @@ use Rattle.ct_cluster.specs.Cluster.{Cluster, node_at, or_absent, wished, wished
 use Rattle.ct_cluster.specs.declared.step.PendingCall.{PendingCall}
 use Rattle.ct_promise.specs.Born.{Rows, WishIsSound, IsBornWith, log_of}
 use Rattle.ct_law_wish.proofs.Wishing.{Wishful}
-use Rattle.ct_law_node.proofs.Pending.{Callers, Known, KnownAt, CommitFits, is_call, pending_has}
+use Rattle.ct_law_node.proofs.Pending.{look_head, look_tail, next_index, zero_more, Callers, Known, KnownAt, CommitFits, is_call, pending_has}
 use Rattle.ct_law_birth.proofs.BornCalls.{caller_in, callers_in, born_known}
 use Rattle.ct_cluster.specs.Traces.{asked_in}
 use Rattle.ct_law_calls.specs.Law.{CallsFromRows}
 use Rattle.ct_law_calls.proofs.Running.{calls_run}
 use Rattle.ct_rules_node.specs.Laws.{AllAscend}
 use Rattle.ct_lcp2.proofs.Choices.{all_append}
-use Rattle.ct_law_calls.proofs.Accounts.{Wished, Committed, wish_call, commit_call, place_call, place_commit, place_wish}
+use Rattle.ct_law_account.proofs.Accounts.{Wished, Committed, wish_call, commit_call, place_call, place_commit, place_wish}
 use Rattle.ct_rules_node.proofs.Numbered.{numbered_all, numbered_any}
-use Rattle.ct_law_calls.proofs.Records.{wants_place}
+use Rattle.ct_law_account.proofs.Records.{wants_place}
 use Rattle.ct_law_calls.proofs.Clusters.{Calls}
-use Rattle.ct_law_calls.proofs.Waiting.{look_head, look_tail, next_index, commit_any}
+use Rattle.ct_law_calls.proofs.Waiting.{commit_any}
 use Rattle.ct_law_calls.proofs.Telling.{by_log, nodes_any}
 
 swap_eq : (a b : ℕ) (v : Bool) → nat_eq a b ≡ v → nat_eq b a ≡ v
@@ -160,9 +160,6 @@ wish_place who calls n db key x (Some y) w e is wants h = (let same : y ≡ w = 
 commit_place : (db : ℕ) (x : Node) (y : Committing) → (db_at db x).commit ≡ Some y → place_call (op.Commit db y.writes) x ≡ Some y.call
 unfolding clients.is_commit commit_call
 commit_place db x y e = place_commit (op.Commit db y.writes) x refl ∙ ap commit_call e
-
-zero_more : (k : ℕ) → k ≡ 0 + k
-zero_more k = omega arith
 
 born_places : (config : Config) (g : ℕ) (members : List ℕ) (row : Rows) (w : Cluster) → IsBornWith config g members row w → (n : ℕ) → AllByRecursion (AtPlaces n (node_at n w)) (pending_in n 0 (node_at n w).dbs)
 unfolding state_at db_at KnownAt

@@ -28,9 +28,9 @@ use Rattle.ct_cluster.specs.declared.step.StepFault.{StepFault}
 use Rattle.ct_law_node.proofs.Putting.{own_node, other_node}
 use Rattle.ct_law_cluster.proofs.Fed.{fed_is}
 use Rattle.ct_law_cluster.proofs.Faulting.{runs}
-use Rattle.ct_law_calls.proofs.Opened.{Opened, without, without_all, answered_by, AllOpen, was_open, stays_case}
-use Rattle.ct_law_calls.proofs.Accounts.{Stands, Account, wish_like, commit_like, with_call, own_call, other_call, none_other}
-use Rattle.ct_law_calls.proofs.Events.{open_at, IsNew, happens_kept}
+use Rattle.ct_law_account.proofs.Opened.{Opened, without, without_all, answered_by, AllOpen, was_open, stays_case}
+use Rattle.ct_law_account.proofs.Accounts.{Stands, Account, wish_like, commit_like, with_call, own_call, other_call, none_other}
+use Rattle.ct_law_account.proofs.Events.{open_at, IsNew, happens_kept}
 
 -- ---- what lines leave of the open calls
 

@@ -1,9 +1,3 @@
-pub mod Opened
-pub mod Accounts
-pub mod Records
-pub mod Turns
-pub mod Clients
-pub mod Events
 pub mod Clusters
 pub mod Waiting
 pub mod Stops

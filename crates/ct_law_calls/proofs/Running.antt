@@ -1,7 +1,7 @@
 -- Through every list of steps the calls that wait are exactly the open ones, and no answer is unasked.
 use Rattle.std.proofs.Common.{◌≡◌, ℕ, zero, suc, ◌<◌, true, false, List, [], ◌∷◌, length, replicate, Option, Some, None, refl, sym, ap, ◌∙◌, subst, arith, ⊎_elim}
 use Rattle.std.specs.Prelude.{slice_get, Result, Ok, Err}
-use Rattle.std.proofs.lemmas.Bool.{cases_Bool}
+use Rattle.std.proofs.lemmas.Bool.{ltb-true, lt-ltb, cases_Bool}
 use Rattle.ct_msg.specs.declared.config.Config.{Config}
 use Rattle.ct_call.specs.Rules.{Rules}
 use Rattle.ct_store.specs.Map.{look}
@@ -9,7 +9,8 @@ use Rattle.ct_rules_node.specs.Node as node
 use Rattle.ct_rules_node.specs.Node.{Node, Database, state_at, db_at, or_nothing, or_untouched, untouched}
 use Rattle.ct_rules_node.specs.Laws.{AllAscend, NodeAscends}
 use Rattle.ct_rules_node.proofs.Starting.{starts_in_order}
-use Rattle.ct_register.proofs.Opened.{untouched_one}
+use Rattle.ct_register.proofs.Opened.{one_of_all, one_below, up_below, untouched_one}
+use Rattle.ct_law_cluster.proofs.Opening.{many}
 use Rattle.ct_cluster.specs.Cluster as cluster
 use Rattle.ct_cluster.specs.Cluster.{Cluster, everyone, or_absent, node_at}
 use Rattle.ct_cluster.specs.Faults.{fault_of, is_allowed}
@@ -23,7 +24,7 @@ use Rattle.ct_promise.specs.Promises.{CallsStand}
 use Rattle.ct_law_shown.specs.Waiting.{Outcome, unchanged, came_of, outcome, outcome_of}
 use Rattle.ct_law_calls.specs.Law.{NoneUnasked, CallsRun, LawOfCalls, PromiseOfCalls}
 use Rattle.ct_law_calls.proofs.Asked.{asked_more, outcome_asked}
-use Rattle.ct_law_calls.proofs.Accounts.{Wished, Committed, Stands}
+use Rattle.ct_law_account.proofs.Accounts.{Wished, Committed, Stands}
 use Rattle.ct_law_calls.proofs.Clusters.{Calls}
 use Rattle.ct_law_calls.proofs.Telling.{by_log, calls_stand, step_logs}
 
@@ -61,28 +62,6 @@ calls_run c rules w log (s ∷ ss) h = (let run = ran_one c rules w log s in let
 
 -- ---- the opening
 
-one_of_all : (P : Node → Type 0) (x : Node) → P cluster.absent → P x → (k n : ℕ) → P (or_absent (slice_get (replicate k x) n))
-unfolding or_absent
-one_of_all P x none all zero n = none
-one_of_all P x none all (suc k) zero = all
-one_of_all P x none all (suc k) (suc n) = one_of_all P x none all k n
-
-one_below : (x : Node) (k n : ℕ) → n < k → or_absent (slice_get (replicate k x) n) ≡ x
-unfolding or_absent
-one_below x zero n l = absurd (omega arith)
-one_below x (suc k) zero l = refl
-one_below x (suc k) (suc n) l = one_below x k n (omega arith)
-
-up_below : (k n : ℕ) → cluster.is_true (slice_get (replicate k true) n) ≡ true → n < k
-unfolding cluster.is_true
-up_below zero n up = absurd (cc)
-up_below (suc k) zero up = omega arith
-up_below (suc k) (suc n) up = (let a = up_below k n up in omega arith)
-
-many : {X : Type 0} (k : ℕ) (x : X) → length (replicate k x) ≡ k
-many zero x = refl
-many (suc k) x = ap suc (many k x)
-
 -- no call waits where nothing is kept, and none is open
 empty_stands : (n : ℕ) (x : Node) → NodeAscends x → ((db : ℕ) → db_at db x ≡ untouched) → Stands n (by_log []) x
 unfolding asked_in state_at untouched or_nothing Wishful Committed
@@ -109,8 +88,8 @@ pub opened_calls : (c : Config) → Calls c (cluster.opening c) (by_log [])
 unfolding cluster.opening node_at cluster.is_up asked_in
 opened_calls c = record {
   size = many c.nodes (node.opening c (everyone c));
-  there = λ n up. up_below c.nodes n up;
-  sized = λ n l. ap (λ (x : Node). length x.dbs) (one_below (node.opening c (everyone c)) c.nodes n l) ∙ (starts_in_order c (everyone c)).0;
+  there = λ n up. ltb-true n c.nodes (up_below c.nodes n up);
+  sized = λ n l. ap (λ (x : Node). length x.dbs) (one_below (node.opening c (everyone c)) c.nodes n (lt-ltb n c.nodes l)) ∙ (starts_in_order c (everyone c)).0;
   nodes = λ n. one_of_all (λ (x : Node). Stands n (by_log []) x) (node.opening c (everyone c)) (empty_stands n cluster.absent absent_order absent_none) (empty_stands n (node.opening c (everyone c)) (starts_in_order c (everyone c)).1 (opened_none c)) c.nodes n;
   given = λ k v e. absurd (cc);
 }

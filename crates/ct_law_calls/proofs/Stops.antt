@@ -23,8 +23,8 @@ use Rattle.ct_law_wish.proofs.Wishing.{Wishful}
 use Rattle.ct_law_node.proofs.Pending.{is_call}
 use Rattle.ct_law_node.proofs.Putting.{own_node, other_node}
 use Rattle.ct_law_cluster.proofs.Faulting.{runs}
-use Rattle.ct_law_calls.proofs.Opened.{Opened, without, without_all, is_one, was_open, is_later, stays_open}
-use Rattle.ct_law_calls.proofs.Accounts.{Wished, Committed, Stands}
+use Rattle.ct_law_account.proofs.Opened.{Opened, without, without_all, is_one, was_open, is_later, stays_open}
+use Rattle.ct_law_account.proofs.Accounts.{Wished, Committed, Stands}
 use Rattle.ct_law_calls.proofs.Clusters.{node_of, closes, AllAnswered, opened_by, Calls, Calls_after, others_stand, start_calls, step_calls}
 use Rattle.ct_law_calls.proofs.Waiting.{Fits, stands_fit, stands_any}
 

@@ -19,12 +19,12 @@ use Rattle.ct_cluster.specs.declared.step.Line.TheVariants as line
 use Rattle.ct_cluster.specs.declared.step.PendingCall.{PendingCall}
 use Rattle.ct_cluster.specs.declared.step.Step.{Step}
 use Rattle.ct_cluster.specs.declared.step.Step.TheVariants as step
-use Rattle.ct_law_node.proofs.Pending.{is_call}
+use Rattle.ct_law_node.proofs.Pending.{is_call, next_index, zero_more}
 use Rattle.ct_lcp2.proofs.Choices.{all_append}
 use Rattle.ct_promise.specs.Promises.{CallsStand}
 use Rattle.ct_law_shown.specs.Waiting.{answerable, answered, told_line, told_lines, told_step}
-use Rattle.ct_law_calls.proofs.Opened.{Opened, without, case_open, some_none}
-use Rattle.ct_law_calls.proofs.Accounts.{Stands, with_call, own_call, other_call, like_stands}
+use Rattle.ct_law_account.proofs.Opened.{Opened, without, case_open, some_none}
+use Rattle.ct_law_account.proofs.Accounts.{Stands, with_call, own_call, other_call, like_stands}
 use Rattle.ct_law_calls.proofs.Waiting.{Fits, stands_fit, stands_any}
 use Rattle.ct_law_calls.proofs.Clusters.{closes, AllAnswered, opened_by, Calls, Calls_after}
 use Rattle.ct_law_calls.proofs.Stops.{every_step}
@@ -107,9 +107,6 @@ unfolding Fits IsOpen
 fits_open n who [] h = tt
 fits_open n who (x ∷ xs) h = (h.0.0, fits_open n who xs h.1)
 
-next_index : (i k : ℕ) → i + suc k ≡ (i + 1) + k
-next_index i k = omega arith
-
 nodes_open : (who : Opened) (i : ℕ) (ns : List Node) → ((k : ℕ) → Stands (i + k) who (or_absent (slice_get ns k))) → AllByRecursion (IsOpen who) (pending_from i ns)
 unfolding pending_from or_absent
 nodes_open who i [] all = tt
@@ -134,17 +131,11 @@ nodes_any f i (suc k) (x ∷ ns) e = any_more f (pending_in i 0 x.dbs) (pending_
 pending_open : (c : Config) (w : Cluster) (who : Opened) → Calls c w who → AllByRecursion (IsOpen who) (pending w)
 unfolding pending node_at
 pending_open c w who h = numbered_all (λ x. x.call) (IsOpen who) (pending_from 0 w.nodes) (nodes_open who 0 w.nodes (λ k. subst (λ (j : ℕ). Stands j who (or_absent (slice_get w.nodes k))) (zero_more k) (h.nodes k)))
-  where
-    zero_more : (k : ℕ) → k ≡ 0 + k
-    zero_more k = omega arith
 
 pending_any : (c : Config) (w : Cluster) (who : Opened) (k n : ℕ) (o : ClientOp) → Calls c w who → who k ≡ Some (n, o) → list_any (is_call k) (pending w) ≡ true
 unfolding pending node_at
 pending_any c w who k n o h e = numbered_any (λ x. x.call) (is_call k) (pending_from 0 w.nodes)
     ∙ nodes_any (is_call k) 0 n w.nodes (subst (λ (j : ℕ). list_any (is_call k) (pending_in j 0 (or_absent (slice_get w.nodes n)).dbs) ≡ true) (zero_more n) (stands_any n who (or_absent (slice_get w.nodes n)) k o (h.nodes n) e))
-  where
-    zero_more : (k : ℕ) → k ≡ 0 + k
-    zero_more k = omega arith
 
 pub calls_stand : (c : Config) (w : Cluster) (log : List OpenCall) → Calls c w (by_log log) → CallsStand w log
 unfolding IsOpen is_call

@@ -20,10 +20,10 @@ use Rattle.ct_rules_node.proofs.Installed.{own_key}
 use Rattle.ct_cluster.specs.Cluster.{wished, wished_in, committing, pending_in}
 use Rattle.ct_cluster.specs.declared.step.PendingCall.{PendingCall}
 use Rattle.ct_law_wish.proofs.Wishing.{Wishful}
-use Rattle.ct_law_node.proofs.Pending.{is_call}
+use Rattle.ct_law_node.proofs.Pending.{is_call, look_tail, look_head, next_index, zero_more, node_any}
 use Rattle.ct_lcp2.proofs.Choices.{all_append}
-use Rattle.ct_law_calls.proofs.Opened.{Opened}
-use Rattle.ct_law_calls.proofs.Accounts.{Wished, Committed, wish_call, commit_call, place_commit, place_wish, Stands}
+use Rattle.ct_law_account.proofs.Opened.{Opened}
+use Rattle.ct_law_account.proofs.Accounts.{Wished, Committed, wish_call, commit_call, place_commit, place_wish, Stands}
 
 -- the call is open, of its node and with what it asked
 unfoldable pub Fits : ℕ → Opened → PendingCall → Type 0
@@ -33,17 +33,6 @@ wished_fits : (who : Opened) (n db : ℕ) (key : List ℕ) (w : Option Wish) →
 unfolding Wishful Wished wished Fits
 wished_fits who n db key None h = tt
 wished_fits who n db key (Some w) h = ((h.0, refl), tt)
-
-pub look_tail : (P : List ℕ → Option RecState → Type 0) (e : List ℕ × RecState) (m : Pairs RecState) → Ascends (e ∷ m) → ((key : List ℕ) → P key None) → ((key : List ℕ) → P key (look key (e ∷ m))) → (key : List ℕ) → P key (look key m)
-unfolding IsStrictlySortedBy
-look_tail P e m h none all key = cases (is_eq (key_cmp key e.0)) refl
-  where
-    cases : (b : Bool) → is_eq (key_cmp key e.0) ≡ b → P key (look key m)
-    cases true t = subst (λ (k : List ℕ). P k (look k m)) (sym (one_key key e.0 (equal _ t))) (subst (λ (x : Option RecState). P e.0 x) (sym (below_unseen e.0 m h.0)) (none e.0))
-    cases false t = subst (λ (b : Bool). P key (cond b (Some e.1) (look key m))) t (all key)
-
-pub look_head : (P : List ℕ → Option RecState → Type 0) (e : List ℕ × RecState) (m : Pairs RecState) → ((key : List ℕ) → P key (look key (e ∷ m))) → P e.0 (Some e.1)
-look_head P e m all = subst (λ (b : Bool). P e.0 (cond b (Some e.1) (look e.0 m))) (own_key e.0) (all e.0)
 
 unfoldable KnownAt : Opened → ℕ → ℕ → List ℕ → Option RecState → Type 0
 KnownAt who n db key s = Wishful (Wished n who db key) (or_nothing s).wish
@@ -94,19 +83,6 @@ records_any : (n : ℕ) (m : Pairs RecState) (key : List ℕ) (w : Wish) → (or
 unfolding wished_in or_nothing
 records_any n [] key w e = absurd (cc)
 records_any n (x ∷ m) key w e = records_case n m x.1 (look key m) w (is_eq (key_cmp key x.0)) (λ k. records_any n m key w k) e
-
-pub next_index : (i k : ℕ) → i + suc k ≡ (i + 1) + k
-next_index i k = omega arith
-
-zero_more : (k : ℕ) → k ≡ 0 + k
-zero_more k = omega arith
-
-node_any : (n i k : ℕ) (ds : List Database) (key : List ℕ) (w : Wish) → (or_nothing (look key (or_untouched (slice_get ds k)).records)).wish ≡ Some w → list_any (is_call w.call) (pending_in n i ds) ≡ true
-unfolding pending_in or_untouched untouched or_nothing
-node_any n i k [] key w e = absurd (cc)
-node_any n i zero (d ∷ ds) key w e = left_any (is_call w.call) (wished_in n d.records ++ committing n i d.commit) (pending_in n (i + 1) ds)
-    (left_any (is_call w.call) (wished_in n d.records) (committing n i d.commit) (records_any n d.records key w e))
-node_any n i (suc k) (d ∷ ds) key w e = right_any (is_call w.call) (wished_in n d.records ++ committing n i d.commit) (pending_in n (i + 1) ds) (node_any n (i + 1) k ds key w e)
 
 node_fits : (who : Opened) (n i : ℕ) (ds : List Database) → AllAscend ds → ((k : ℕ) (key : List ℕ) → KnownAt who n (i + k) key (look key (or_untouched (slice_get ds k)).records)) → ((k : ℕ) → Committed n who (i + k) (or_untouched (slice_get ds k)).commit) →
     AllByRecursion (Fits n who) (pending_in n i ds)

@@ -17,7 +17,7 @@ use Rattle.ct_cluster.specs.Cluster.{everyone, node_at, or_absent, numbers}
 use Rattle.ct_law_world.specs.World as law
 use Rattle.ct_law_world.specs.World.{View}
 use Rattle.ct_law_record.proofs.Law.{opening_leads}
-use Rattle.ct_register.proofs.Opened.{untouched_one}
+use Rattle.ct_register.proofs.Opened.{one_of_all, one_below, up_below, untouched_one}
 use Rattle.ct_register.specs.Register.{newborn}
 use Rattle.ct_law_shown.specs.Shown.{Era, scene, view, mails, project}
 use Rattle.ct_law_node.proofs.Pending.{Callers, CommitFits, DatabaseKnown, NodeKnown, none_known}
@@ -74,26 +74,7 @@ pub first_is_era : (c : Config) → list_all is_node (everyone c) ≡ true → I
 unfolding everyone
 first_is_era c real = record { real = real; ascend = numbers_ascend 0 c.nodes; positive = omega arith; asks = λ rules db key. asks_by_law (scene c (first_era c) rules db key) law.opening (newborn []) (λ es. opening_leads (scene c (first_era c) rules db key) es real) }
 
--- one of many that are alike, or what stands for one that is not there
-one_of_all : (P : Node → Type 0) (x : Node) → P cluster.absent → P x → (k n : ℕ) → P (or_absent (slice_get (replicate k x) n))
-unfolding or_absent
-one_of_all P x none all zero n = none
-one_of_all P x none all (suc k) zero = all
-one_of_all P x none all (suc k) (suc n) = one_of_all P x none all k n
-
-one_below : (x : Node) (k n : ℕ) → nat_lt n k ≡ true → or_absent (slice_get (replicate k x) n) ≡ x
-unfolding or_absent
-one_below x zero n lt = absurd (let a = lt in grind arith)
-one_below x (suc k) zero lt = refl
-one_below x (suc k) (suc n) lt = one_below x k n (grind arith)
-
-up_below : (k n : ℕ) → cluster.is_true (slice_get (replicate k true) n) ≡ true → nat_lt n k ≡ true
-unfolding cluster.is_true
-up_below zero n up = absurd (cc)
-up_below (suc k) zero up = grind arith
-up_below (suc k) (suc n) up = (let a = up_below k n up in grind arith)
-
-many : {X : Type 0} (k : ℕ) (x : X) → length (replicate k x) ≡ k
+pub many : {X : Type 0} (k : ℕ) (x : X) → length (replicate k x) ≡ k
 many zero x = refl
 many (suc k) x = ap suc (many k x)
 

@@ -198,16 +198,16 @@ all_go c era rules who calls n db (x ∷ m) pend ws t0 t real member small insid
     (asks_amid era.number (scene c era rules db x.0) n (ws db x.0) pend t0 t (asks x.0) (g.1 db x.0)) (whole_before c n db m u spent) in
     all_go c era rules who calls n db m pend ws t0 u real member small inside asks (waited_on c era rules who calls n db x.0 pend t g.0 there all) (goes_more c era rules who calls n pend ws t0 t u g step) spent
 
-past_db : (ds : List Database) (db : ℕ) → nat_lt db (length ds) ≡ false → or_untouched (slice_get ds db) ≡ untouched
+pub past_db : (ds : List Database) (db : ℕ) → length ds ≤ db → or_untouched (slice_get ds db) ≡ untouched
 unfolding or_untouched
 past_db [] db e = refl
-past_db (d ∷ ds) zero e = absurd (grind arith)
-past_db (d ∷ ds) (suc k) e = past_db ds k (grind arith)
+past_db (d ∷ ds) zero e = absurd (omega arith)
+past_db (d ∷ ds) (suc k) e = past_db ds k (omega arith)
 
 -- a database that is not declared has no records
 no_records : (c : Config) (n db : ℕ) (t : Turn) → nat_lt db (length t.node.dbs) ≡ false → vacuum_all c n db (db_at db t.node).records t ≡ t
 unfolding db_at vacuum_all untouched
-no_records c n db t e = ap (λ (d : Database). vacuum_all c n db d.records t) (past_db t.node.dbs db e)
+no_records c n db t e = ap (λ (d : Database). vacuum_all c n db d.records t) (past_db t.node.dbs db (ltb-false db (length t.node.dbs) e))
 
 -- A vacuum of a database: the node stays as it was, and the world of every record follows.
 pub vacuums_follow : (c : Config) (era : Era) (rules : Rules) (who : Callers) (w : Cluster) (n db : ℕ) (ws : ℕ → List ℕ → World) → IsShown era.number n w ws → IsEra c era → ((d : ℕ) → d < length c.dbs → is_db d ≡ true) → is_among n era.members ≡ true →

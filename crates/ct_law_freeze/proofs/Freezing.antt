@@ -31,8 +31,13 @@ use Rattle.ct_law_freeze.proofs.Ends.{is_ended, ends_out, ends_outs, ended_is}
 use Rattle.ct_law_freeze.proofs.Freed
 use Rattle.ct_law_freeze.proofs.Freed.{Freeing}
 use Rattle.ct_law_freeze.proofs.Telling.{all_ended, all_here, all_elsewhere, ends_accepted, All_untold, All_owned, All_differ}
-use Rattle.ct_law_freeze.proofs.Names.{names_differ, locks_have_records}
+use Rattle.ct_law_plain.proofs.Names.{names_differ}
 use Rattle.ct_law_freeze.proofs.Stood.{Stood}
+
+-- the database of locks has records
+locks_have_records : (c : Config) → IsConfig c → has_records (kind_at c 0) ≡ true
+unfolding has_records kind_at kind_in
+locks_have_records c h = subst (λ (ds : List DbDecl). has_records (kind_in (slice_get ds 0)) ≡ true) (sym h.2.2) refl
 
 -- what must be asked of an event beside what a face asks: a message that comes was sent, to this node
 pub record HasCome (w : Cluster) (n : ℕ) (f : Frame) : Type 0 where
@@ -141,4 +146,4 @@ freed_there c rules who w v r a n pend x config live same ne s own untold = reco
         (subst (λ (j : ℕ). is_some ((a.worlds (r.line n) 0 (name_of c j)).nodes n).state.locked ≡ true) (let j : k ≡ 0 + k = omega arith in j) (s.locks ne k y e))
 
     differ : All_differ c 0 x.dbs
-    differ k l y z e f apart = names_differ c config (0 + k) (0 + l) (let a = has_commit x.dbs k y e in let b = own.size in omega arith) (let a = has_commit x.dbs l z f in let b = own.size in omega arith) (omega arith)
+    differ k l y z e f apart = λ same. (let is = names_differ c c.nodes config.0 config.1 config.2 (0 + k) (0 + l) (let a = has_commit x.dbs k y e in let b = own.size in omega arith) (let a = has_commit x.dbs l z f in let b = own.size in omega arith) same in absurd (omega arith))

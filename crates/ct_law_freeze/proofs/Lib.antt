@@ -1,17 +1,7 @@
 pub mod Ends
 pub mod Freed
 pub mod Telling
-pub mod Names
 pub mod Froze
 pub mod Stood
 pub mod Freezing
 pub mod Turning
-pub mod Leading
-pub mod Rounding
-pub mod Arriving
-pub mod Holding
-pub mod Held
-pub mod Finishing
-pub mod Again
-pub mod Gathering
-pub mod Declining

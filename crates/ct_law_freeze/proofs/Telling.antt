@@ -27,24 +27,9 @@ use Rattle.ct_promise.specs.Marked.{is_removal, is_removed, removes}
 use Rattle.ct_promise.proofs.Follows.{filter_more}
 use Rattle.ct_law_shown.specs.Shown.{labels_of, is_it}
 use Rattle.ct_law_shown.proofs.Hearing.{labels_more, frames_more}
-use Rattle.ct_law_shown.proofs.Weave.{it_is}
+use Rattle.ct_law_shown.proofs.Weave.{it_is, same_record, other_record}
 use Rattle.ct_law_freeze.proofs.Ends.{is_ended, ends_out, ends_outs}
 use Rattle.ct_law_freeze.proofs.Freed.{ended_register}
-
--- ---- one record among all
-
-same_record : (g : ℕ) (l db : ℕ) (key : List ℕ) (t : Register) (r : Lines) → l ≡ g → (with_record l db key t r).records g db key ≡ t
-same_record g l db key t r e =
-    ap (λ (f : ℕ → List ℕ → Register). f db key) (at_same l g _ r.records (sym e)) ∙ ap (λ (f : List ℕ → Register). f key) (at_same db db _ (r.records l) refl) ∙ at_key_same key key t (r.records l db) refl
-
-other_record : (g : ℕ) (l db d : ℕ) (key k : List ℕ) (t : Register) (r : Lines) → l ≡ g → is_it d k db key ≡ false → (with_record l db key t r).records g d k ≡ r.records g d k
-unfolding is_it
-other_record g l db d key k t r e unlike = ap (λ (f : ℕ → List ℕ → Register). f d k) (at_same l g _ r.records (sym e)) ∙ ⊎_elim
-    (λ (is : d ≡ db). ap (λ (f : List ℕ → Register). f k) (at_same db d _ (r.records l) is)
-    ∙ at_key_other key k t (r.records l db) (λ same. absurd (let a = eq-eqb db d (sym is) in let b = (bytes_eq-Decides key k).1 (sym same) in cc))
-    ∙ ap (λ (x : ℕ). r.records l x k) (sym is) ∙ ap (λ (x : ℕ). r.records x d k) e)
-    (λ (ne : d ≢ db). ap (λ (f : List ℕ → Register). f k) (at_other db d _ (r.records l) ne) ∙ ap (λ (x : ℕ). r.records x d k) e)
-    (cases_eq d db)
 
 -- ---- the registers after all ends
 

@@ -49,10 +49,10 @@ use Rattle.ct_law_line.proofs.Apart.{Fresh, AllFresh, is_led, replies_away, node
 use Rattle.ct_law_line.proofs.Begetting.{begotten, begotten_live}
 use Rattle.ct_law_line.proofs.Begotten.{all_heirs, replied, none_among}
 use Rattle.ct_law_line.proofs.Rounds.{counts, round_accepted}
-use Rattle.ct_law_freeze.proofs.Leading.{node_lead}
-use Rattle.ct_law_freeze.proofs.Rounding.{Says_round, sends, sends_untold, sends_mails, sends_all, says_mail}
-use Rattle.ct_law_freeze.proofs.Arriving.{to_all, posts_outs, posts_node, all_say}
-use Rattle.ct_law_freeze.proofs.Again.{push_says}
+use Rattle.ct_law_lead.proofs.Leading.{node_lead}
+use Rattle.ct_law_lead.proofs.Rounding.{Says_round, sends, sends_untold, sends_mails, sends_all, says_mail}
+use Rattle.ct_law_lead.proofs.Arriving.{to_all, posts_outs, posts_node, all_say}
+use Rattle.ct_law_lead.proofs.Again.{push_says}
 use Rattle.ct_law_freeze.proofs.Turning.{sent_still}
 use Rattle.ct_law_heir.proofs.Drawn.{all_drawn}
 use Rattle.ct_law_heir.proofs.Low.{pushed_low, pushed_order}

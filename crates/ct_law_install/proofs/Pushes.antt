@@ -21,8 +21,8 @@ use Rattle.ct_register.specs.Lines.{Lines}
 use Rattle.ct_law_line.proofs.Lives.{Lives, MailSays, RoundSays, ReplySays}
 use Rattle.ct_law_line.proofs.Faces.{Turned}
 use Rattle.ct_law_freeze.proofs.Freezing.{HasCome}
-use Rattle.ct_law_freeze.proofs.Leading.{Led, lead_turned}
-use Rattle.ct_law_freeze.proofs.Rounding.{Says_round, idle_led, one_led}
+use Rattle.ct_law_lead.proofs.Leading.{Led, lead_turned}
+use Rattle.ct_law_lead.proofs.Rounding.{Says_round, idle_led, one_led}
 use Rattle.ct_law_freeze.proofs.Turning.{was_said}
 use Rattle.ct_law_install.proofs.Made.{installs_spent, push_is}
 use Rattle.ct_law_install.proofs.Pushed.{installs_turned}

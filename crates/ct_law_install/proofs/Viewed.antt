@@ -37,7 +37,7 @@ use Rattle.ct_law_line.proofs.Apart.{state_none}
 use Rattle.ct_law_line.proofs.Begun.{left_of_frozen, begun_is_view}
 use Rattle.ct_law_line.proofs.Best.{find_in, all_tested}
 use Rattle.ct_law_freeze.proofs.Freezing.{HasCome}
-use Rattle.ct_law_freeze.proofs.Rounding.{frozen_of}
+use Rattle.ct_law_lead.proofs.Rounding.{frozen_of}
 use Rattle.ct_law_freeze.proofs.Turning.{was_said}
 use Rattle.ct_law_install.proofs.Made.{made_low}
 

@@ -92,7 +92,7 @@ wished_fits who calls n db key None h = tt
 wished_fits who calls n db key (Some w) h = (h.0, tt)
 
 -- every key of a map, by its look
-look_tail : (P : List ℕ → Option RecState → Type 0) (e : List ℕ × RecState) (m : Pairs RecState) → Ascends (e ∷ m) → ((key : List ℕ) → P key None) → ((key : List ℕ) → P key (look key (e ∷ m))) → (key : List ℕ) → P key (look key m)
+pub look_tail : (P : List ℕ → Option RecState → Type 0) (e : List ℕ × RecState) (m : Pairs RecState) → Ascends (e ∷ m) → ((key : List ℕ) → P key None) → ((key : List ℕ) → P key (look key (e ∷ m))) → (key : List ℕ) → P key (look key m)
 unfolding IsStrictlySortedBy
 look_tail P e m h none all key = cases (is_eq (key_cmp key e.0)) refl
   where
@@ -100,7 +100,7 @@ look_tail P e m h none all key = cases (is_eq (key_cmp key e.0)) refl
     cases true t = subst (λ (k : List ℕ). P k (look k m)) (sym (one_key key e.0 (equal _ t))) (subst (λ (x : Option RecState). P e.0 x) (sym (below_unseen e.0 m h.0)) (none e.0))
     cases false t = subst (λ (b : Bool). P key (cond b (Some e.1) (look key m))) t (all key)
 
-look_head : (P : List ℕ → Option RecState → Type 0) (e : List ℕ × RecState) (m : Pairs RecState) → ((key : List ℕ) → P key (look key (e ∷ m))) → P e.0 (Some e.1)
+pub look_head : (P : List ℕ → Option RecState → Type 0) (e : List ℕ × RecState) (m : Pairs RecState) → ((key : List ℕ) → P key (look key (e ∷ m))) → P e.0 (Some e.1)
 look_head P e m all = subst (λ (b : Bool). P e.0 (cond b (Some e.1) (look e.0 m))) (own_key e.0) (all e.0)
 
 pub none_known : (who : Callers) (calls n db : ℕ) (key : List ℕ) → KnownAt who calls n db key None
@@ -140,10 +140,10 @@ unfolding CommitFits committing Fits
 committing_fits who calls n db None h = tt
 committing_fits who calls n db (Some x) h = (h.0, tt)
 
-next_index : (i k : ℕ) → i + suc k ≡ (i + 1) + k
+pub next_index : (i k : ℕ) → i + suc k ≡ (i + 1) + k
 next_index i k = omega arith
 
-zero_more : (k : ℕ) → k ≡ 0 + k
+pub zero_more : (k : ℕ) → k ≡ 0 + k
 zero_more k = omega arith
 
 node_fits : (who : Callers) (calls n i : ℕ) (ds : List Database) → AllAscend ds →
@@ -156,7 +156,7 @@ node_fits who calls n i (d ∷ ds) h all =
     (all_append (Fits who) (wished_in n d.records) (committing n i d.commit) (records_fit who calls n i d.records h.0 first.records) (committing_fits who calls n i d.commit first.commit))
     (node_fits who calls n (i + 1) ds h.1 (λ k. subst (λ (j : ℕ). DatabaseKnown who calls n j (or_untouched (slice_get ds k))) (next_index i k) (all (suc k))))
 
-node_any : (n i k : ℕ) (ds : List Database) (key : List ℕ) (w : Wish) → (or_nothing (look key (or_untouched (slice_get ds k)).records)).wish ≡ Some w → list_any (is_call w.call) (pending_in n i ds) ≡ true
+pub node_any : (n i k : ℕ) (ds : List Database) (key : List ℕ) (w : Wish) → (or_nothing (look key (or_untouched (slice_get ds k)).records)).wish ≡ Some w → list_any (is_call w.call) (pending_in n i ds) ≡ true
 unfolding pending_in or_untouched untouched or_nothing
 node_any n i k [] key w e = absurd (cc)
 node_any n i zero (d ∷ ds) key w e = left_any (is_call w.call) (wished_in n d.records ++ committing n i d.commit) (pending_in n (i + 1) ds)

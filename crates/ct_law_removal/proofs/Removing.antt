@@ -25,6 +25,7 @@ use Rattle.ct_rules_node.specs.Laws.{unless_blank, NodeAscends, left_by}
 use Rattle.ct_rules_node.proofs.AtRecord.{moves_at, set_past}
 use Rattle.ct_cluster.specs.Labels.{Label, Answered, Noted}
 use Rattle.ct_cluster.specs.Traces.{sent_label}
+use Rattle.ct_law_cluster.proofs.Vacuumed.{past_db}
 use Rattle.ct_law_shown.specs.Waiting.{answered}
 use Rattle.ct_cluster.specs.declared.step.PendingCall.{PendingCall}
 use Rattle.ct_register.specs.Lines.{Lines}
@@ -177,12 +178,6 @@ other_at c n db key part t d k e =
 pub kept_entry : (s : RecState) → s.entry ≡ None → (or_nothing (unless_blank s)).entry ≡ None
 unfolding unless_blank or_nothing
 kept_entry s h = grind (arith, h)
-
-past_db : (ds : List Database) (db : ℕ) → length ds ≤ db → or_untouched (slice_get ds db) ≡ untouched
-unfolding or_untouched
-past_db [] db e = refl
-past_db (d ∷ ds) zero e = absurd (omega arith)
-past_db (d ∷ ds) (suc k) e = past_db ds k (omega arith)
 
 past_entry : (ds : List Database) (db : ℕ) (key : List ℕ) → length ds ≤ db → (or_nothing (look key (or_untouched (slice_get ds db)).records)).entry ≡ None
 unfolding untouched or_nothing

@@ -44,7 +44,7 @@ use Rattle.ct_law_line.proofs.Lives.{ReplySays, MailSays, LeadSays, Lives}
 use Rattle.ct_law_line.proofs.Apart.{each_then}
 use Rattle.ct_law_line.proofs.Faces.{Turned}
 use Rattle.ct_law_stop.proofs.Wordless.{wordless_turned, nothing_turned}
-use Rattle.ct_law_freeze.proofs.Rounding.{Says_round, foreign}
+use Rattle.ct_law_lead.proofs.Rounding.{Says_round, foreign}
 use Rattle.ct_law_serve.proofs.Present.{reply_still, present_lives, known_all}
 use Rattle.ct_law_serve.proofs.Quietly.{Quietly, quiet_then, quiet_makes, quiet_commit, quiet_read, quiet_pupdate, quiet_pack, quiet_release, quiet_take}
 use Rattle.ct_law_serve.proofs.Records.{present_here, locked_here}

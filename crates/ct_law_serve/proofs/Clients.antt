@@ -24,7 +24,7 @@ use Rattle.ct_law_cluster.proofs.Configured.{refusals_silent}
 use Rattle.ct_law_cluster.proofs.Served.{record_kind}
 use Rattle.ct_law_line.proofs.Lives.{Lives}
 use Rattle.ct_law_line.proofs.Faces.{Turned}
-use Rattle.ct_law_freeze.proofs.Declining.{refused_turned}
+use Rattle.ct_law_held.proofs.Declining.{refused_turned}
 use Rattle.ct_law_serve.proofs.Calling.{call_turned}
 use Rattle.ct_law_serve.proofs.Asides.{commit_turned, read_turned}
 

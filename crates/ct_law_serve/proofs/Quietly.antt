@@ -30,7 +30,7 @@ use Rattle.ct_register.specs.Lines.{Lines}
 use Rattle.ct_law_shown.proofs.Hearing.{frames_more}
 use Rattle.ct_law_line.proofs.Ages.{Ages}
 use Rattle.ct_law_line.proofs.Lives.{RoundSays, ReplySays}
-use Rattle.ct_law_freeze.proofs.Rounding.{Says_round}
+use Rattle.ct_law_lead.proofs.Rounding.{Says_round}
 
 -- From one middle of a turn to another the node's base and lead stay, and each message that is sent is of no record and says
 -- what is so.

@@ -24,9 +24,9 @@ use Rattle.ct_law_node.proofs.Staying.{number_of}
 use Rattle.ct_law_line.proofs.Ages.{Ages}
 use Rattle.ct_law_line.proofs.Lives.{IsTicket, AllHaveInstalled, RoundSays, ReplySays, LeadSays, Lives}
 use Rattle.ct_law_line.proofs.Faces.{Turned}
-use Rattle.ct_law_freeze.proofs.Leading.{Led, lead_turned}
-use Rattle.ct_law_freeze.proofs.Rounding.{Says_round, idle_led, one_led}
-use Rattle.ct_law_freeze.proofs.Arriving.{posts_led, only_leads}
+use Rattle.ct_law_lead.proofs.Leading.{Led, lead_turned}
+use Rattle.ct_law_lead.proofs.Rounding.{Says_round, idle_led, one_led}
+use Rattle.ct_law_lead.proofs.Arriving.{posts_led, only_leads}
 
 -- ---- ReleaseAck
 

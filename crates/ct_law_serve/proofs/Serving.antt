@@ -56,8 +56,8 @@ use Rattle.ct_law_line.proofs.Faces.{Turned}
 use Rattle.ct_law_stop.proofs.Quiet.{marks_stay}
 use Rattle.ct_law_freeze.proofs.Stood.{lead_later}
 use Rattle.ct_law_freeze.proofs.Turning.{sent_still}
-use Rattle.ct_law_freeze.proofs.Rounding.{Says_round, sends, sends_untold, sends_mails, sends_all, foreign}
-use Rattle.ct_law_freeze.proofs.Again.{Says_more}
+use Rattle.ct_law_lead.proofs.Rounding.{Says_round, sends, sends_untold, sends_mails, sends_all, foreign}
+use Rattle.ct_law_lead.proofs.Again.{Says_more}
 use Rattle.ct_law_serve.proofs.Present.{Is_present, reply_still, present_lives, line_here, shown_here}
 
 -- ---- what is asked

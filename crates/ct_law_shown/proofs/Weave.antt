@@ -34,11 +34,11 @@ pub it_is_itself : (db : ℕ) (key : List ℕ) → is_it db key db key ≡ true
 unfolding is_it
 it_is_itself db key = rw (eq-eqb db db refl) ((bytes_eq-Decides key key).1 refl)
 
-same_record : (g : ℕ) (l db : ℕ) (key : List ℕ) (t : Register) (r : Lines) → l ≡ g → (with_record l db key t r).records g db key ≡ t
+pub same_record : (g : ℕ) (l db : ℕ) (key : List ℕ) (t : Register) (r : Lines) → l ≡ g → (with_record l db key t r).records g db key ≡ t
 same_record g l db key t r e =
     ap (λ (f : ℕ → List ℕ → Register). f db key) (at_same l g _ r.records (sym e)) ∙ ap (λ (f : List ℕ → Register). f key) (at_same db db _ (r.records l) refl) ∙ at_key_same key key t (r.records l db) refl
 
-other_record : (g : ℕ) (l db d : ℕ) (key k : List ℕ) (t : Register) (r : Lines) → l ≡ g → is_it d k db key ≡ false → (with_record l db key t r).records g d k ≡ r.records g d k
+pub other_record : (g : ℕ) (l db d : ℕ) (key k : List ℕ) (t : Register) (r : Lines) → l ≡ g → is_it d k db key ≡ false → (with_record l db key t r).records g d k ≡ r.records g d k
 unfolding is_it
 other_record g l db d key k t r e unlike = ap (λ (f : ℕ → List ℕ → Register). f d k) (at_same l g _ r.records (sym e)) ∙ ⊎_elim
     (λ (is : d ≡ db). ap (λ (f : List ℕ → Register). f k) (at_same db d _ (r.records l) is)
@@ -50,7 +50,7 @@ other_record g l db d key k t r e unlike = ap (λ (f : ℕ → List ℕ → Regi
 -- ---- one label
 
 -- an answer that tells nothing is accepted and changes nothing
-silent : (config : Config) (rules : Rules) (n : ℕ) (asked : ClientOp) (a : Answer) (r : Lines) → is_telling a ≡ false → AcceptsAnswer config rules n asked a r r
+pub silent : (config : Config) (rules : Rules) (n : ℕ) (asked : ClientOp) (a : Answer) (r : Lines) → is_telling a ≡ false → AcceptsAnswer config rules n asked a r r
 unfolding is_telling
 silent config rules n asked (answer.Refused (why.TooLong m)) r e = absurd (cc)
 silent config rules n asked (answer.Refused w) r e = refl

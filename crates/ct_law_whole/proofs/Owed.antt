@@ -1,6 +1,7 @@
 -- Every turn that a node may take: what is owed of each holds, whether the node is present or not.
 use Rattle.std.proofs.Common.{◌≡◌, ℕ, true, false, List, ◌∷◌, Option, Some, None, ⊎_elim, refl, sym, subst}
 use Rattle.std.specs.Prelude.{nat_lt}
+use Rattle.std.proofs.lemmas.Bool.{cases_Bool}
 use Rattle.ct_msg.specs.declared.client.ClientOp.{ClientOp}
 use Rattle.ct_msg.specs.declared.config.Config.{Config}
 use Rattle.ct_frame.specs.declared.event.Event.{Event}
@@ -17,11 +18,10 @@ use Rattle.ct_cluster.specs.Cluster.{Cluster, node_at, pending}
 use Rattle.ct_cluster.specs.declared.step.PendingCall.{PendingCall}
 use Rattle.ct_register.specs.Lines.{Lines}
 use Rattle.ct_promise.specs.Promises.{IsConfig}
-use Rattle.ct_law_shown.proofs.Weave.{true_or_false}
 use Rattle.ct_law_node.proofs.Calling.{own_pending}
 use Rattle.ct_law_line.proofs.Lives.{WasSent, Lives}
 use Rattle.ct_law_line.proofs.Faces.{Turned}
-use Rattle.ct_law_freeze.proofs.Again.{retry_turned}
+use Rattle.ct_law_lead.proofs.Again.{retry_turned}
 use Rattle.ct_law_absent.proofs.Dropped.{is_of_round}
 use Rattle.ct_law_absent.proofs.Asking
 use Rattle.ct_law_absent.proofs.Absent
@@ -64,7 +64,7 @@ module _ (c : Config) (rules : Rules) (w : Cluster) (r : Lines) (h : Lives c rul
     message_turned = ⊎_elim
         (λ (e : is_of_round f.msg ≡ true). round_turned c rules w r h n f f.msg config there refl e (record { sent = sent; receiver = own }) whole)
         (λ (e : is_of_round f.msg ≡ false). either (record_in f.msg) refl e)
-        (true_or_false (is_of_round f.msg))
+        (cases_Bool (is_of_round f.msg))
       where
         either : (k : Option (ℕ × List ℕ)) → record_in f.msg ≡ k → is_of_round f.msg ≡ false → Goal (pending w) (event.Arrive f)
         either (Some k) is e = record_turned c rules w r h n f k config there present own sent is whole
@@ -77,13 +77,13 @@ module _ (c : Config) (rules : Rules) (w : Cluster) (r : Lines) (h : Lives c rul
   called o own whole = ⊎_elim
       (λ (present : is_present (node_at n w).phase ≡ true). client_turned c rules w r h n o config there present own whole)
       (λ (absent : is_present (node_at n w).phase ≡ false). Asking.call_turned c rules w r h n config there o absent)
-      (true_or_false (is_present (node_at n w).phase))
+      (cases_Bool (is_present (node_at n w).phase))
 
   came : (f : Frame) → f.receiver ≡ n → WasSent w f → (happens c rules n (begins (node_at n w)) (event.Arrive f)).spent ≡ false → Goal (pending w) (event.Arrive f)
   came f own sent whole = ⊎_elim
       (λ (present : is_present (node_at n w).phase ≡ true). message_turned f own sent present whole)
       (λ (absent : is_present (node_at n w).phase ≡ false). arrives_turned c rules w r h n config there absent f (record { sent = sent; receiver = own }) whole)
-      (true_or_false (is_present (node_at n w).phase))
+      (cases_Bool (is_present (node_at n w).phase))
 
   owes : (pend : List PendingCall) (e : Event) → Comes c h.who w n pend e → (happens c rules n (begins (node_at n w)) e).spent ≡ false → IsOwed e → Goal pend e
   unfolding Comes IsOwed
@@ -94,11 +94,11 @@ module _ (c : Config) (rules : Rules) (w : Cluster) (r : Lines) (h : Lives c rul
   owes pend event.Retry comes whole owed = subst (λ (p : List PendingCall). Goal p event.Retry) (sym comes) (⊎_elim
       (λ (present : is_present (node_at n w).phase ≡ true). retry_here c rules w r h n config there present)
       (λ (absent : is_present (node_at n w).phase ≡ false). retry_turned c rules w r h n there absent)
-      (true_or_false (is_present (node_at n w).phase)))
+      (cases_Bool (is_present (node_at n w).phase)))
   owes pend (event.Vacuum db) comes whole owed = subst (λ (p : List PendingCall). Goal p (event.Vacuum db)) (sym comes.1) (⊎_elim
       (λ (present : is_present (node_at n w).phase ≡ true). vacuum_turned c rules w r h n db config there present comes.0 whole)
       (λ (absent : is_present (node_at n w).phase ≡ false). Absent.vacuum_turned c rules w r h n config there absent db)
-      (true_or_false (is_present (node_at n w).phase)))
+      (cases_Bool (is_present (node_at n w).phase)))
   owes pend (event.BeginRound g members) comes whole owed = absurd comes
   owes pend (event.BeginTakeover able) comes whole owed = absurd owed
 

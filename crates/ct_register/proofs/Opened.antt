@@ -17,7 +17,7 @@ use Rattle.ct_register.specs.Stands.{HasCopy, HoldsAddress, OpeningRecordsStand,
 use Rattle.ct_register.proofs.Small.{nought, none_not_some}
 
 -- one of many that are alike, or what stands for one that is not there
-one_of_all : (P : Node → Type 0) (x : Node) → P cluster.absent → P x → (k n : ℕ) → P (cluster.or_absent (slice_get (replicate k x) n))
+pub one_of_all : (P : Node → Type 0) (x : Node) → P cluster.absent → P x → (k n : ℕ) → P (cluster.or_absent (slice_get (replicate k x) n))
 unfolding cluster.or_absent
 one_of_all P x none all zero n = none
 one_of_all P x none all (suc k) zero = all
@@ -67,13 +67,13 @@ below_suc : (n k : ℕ) → nat_lt n k ≡ true → nat_lt (suc n) (suc k) ≡ t
 below_suc n k = grind arith
 
 -- of so many that are alike, one whose number is below
-one_below : (x : Node) (k n : ℕ) → nat_lt n k ≡ true → cluster.or_absent (slice_get (replicate k x) n) ≡ x
+pub one_below : (x : Node) (k n : ℕ) → nat_lt n k ≡ true → cluster.or_absent (slice_get (replicate k x) n) ≡ x
 unfolding cluster.or_absent
 one_below x zero n lt = absurd (below_zero n lt)
 one_below x (suc k) zero lt = refl
 one_below x (suc k) (suc n) lt = one_below x k n (suc_below n k lt)
 
-up_below : (k n : ℕ) → cluster.is_true (slice_get (replicate k true) n) ≡ true → nat_lt n k ≡ true
+pub up_below : (k n : ℕ) → cluster.is_true (slice_get (replicate k true) n) ≡ true → nat_lt n k ≡ true
 unfolding cluster.is_true
 up_below zero n up = absurd (cc)
 up_below (suc k) zero up = zero_below k

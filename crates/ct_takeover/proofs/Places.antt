@@ -9,6 +9,7 @@ use Rattle.std.specs.declared.cmp.Ordering.TheVariants.{Less, Equal, Greater}
 use Rattle.std.proofs.lemmas.Bool.{and_parts}
 use Rattle.std.proofs.lemmas.Bool.Decides.{nat_tests}
 use Rattle.std.proofs.lemmas.List.Kept.{IsStrictlySortedBy-filter}
+use Rattle.ct_bytes.specs.Words.{is_this_node}
 use Rattle.ct_bytes.specs.Address.{address_cmp, same_address}
 use Rattle.ct_bytes.specs.declared.address.Address.{Address}
 use Rattle.ct_bytes.specs.declared.address.Address.TheVariants.{V4, V6}
@@ -16,7 +17,7 @@ use Rattle.ct_bytes.proofs.AddressOrder.{address_total, address_is, less_differs
 use Rattle.ct_frame.specs.Fields.{address_before, ascends, ascends_after, assigned_before}
 use Rattle.ct_frame.specs.declared.frame.Assigned.{Assigned}
 use Rattle.ct_rules_node.specs.Node.{holder_in}
-use Rattle.ct_rules_node.specs.Rounds.{is_at, is_own}
+use Rattle.ct_rules_node.specs.Rounds.{is_own}
 use Rattle.ct_rules_node.specs.Takeovers.{has_address, held_with, share}
 use Rattle.ct_takeover.specs.Held.{before, held_with_all, kept, left_out}
 
@@ -177,7 +178,7 @@ in_order (x ∷ xs) e = order_on x xs e
 share_above : (me : ℕ) (a : Address) (xs : List Assigned) → AllAbove a xs → Above a (share me xs)
 unfolding share
 share_above me a [] all = tt
-share_above me a (x ∷ xs) all = by (is_at me x.node) (share_above me a xs all.1)
+share_above me a (x ∷ xs) all = by (is_this_node me x.node) (share_above me a xs all.1)
   where
     by : (b : Bool) → Above a (share me xs) → Above a (if b then x.address ∷ share me xs else share me xs)
     by true r = (all.0, r)
@@ -186,7 +187,7 @@ share_above me a (x ∷ xs) all = by (is_at me x.node) (share_above me a xs all.
 share_sorted : (me : ℕ) (xs : List Assigned) → InOrder xs → IsStrictlySortedBy address_cmp (share me xs)
 unfolding share IsStrictlySortedBy
 share_sorted me [] s = tt
-share_sorted me (x ∷ xs) s = by (is_at me x.node) (share_sorted me xs s.1)
+share_sorted me (x ∷ xs) s = by (is_this_node me x.node) (share_sorted me xs s.1)
   where
     by : (b : Bool) → IsStrictlySortedBy address_cmp (share me xs) → IsStrictlySortedBy address_cmp (if b then x.address ∷ share me xs else share me xs)
     by true r = (share_above me x.address xs s.0, r)
@@ -216,16 +217,16 @@ has_later : (a b : Address) (bs : List Address) → same_address a b ≡ false �
 unfolding has_address
 has_later a b bs e = ap (λ t. t || list_any (same_address a) bs) e
 
-nobody_has : (me : ℕ) (a : Address) → has_address [] a ≡ is_at me None
-unfolding has_address is_at
+nobody_has : (me : ℕ) (a : Address) → has_address [] a ≡ is_this_node me None
+unfolding has_address is_this_node
 nobody_has me a = refl
 
-own_so : (me : ℕ) (assigned : List Assigned) (a : Address) → InOrder assigned → has_address (share me assigned) a ≡ is_at me (holder_in a assigned)
+own_so : (me : ℕ) (assigned : List Assigned) (a : Address) → InOrder assigned → has_address (share me assigned) a ≡ is_this_node me (holder_in a assigned)
 unfolding share holder_in
 own_so me [] a s = nobody_has me a
-own_so me (x ∷ xs) a s = by (same_address a x.address) refl (is_at me x.node) refl (own_so me xs a s.1)
+own_so me (x ∷ xs) a s = by (same_address a x.address) refl (is_this_node me x.node) refl (own_so me xs a s.1)
   where
-    by : (b : Bool) → same_address a x.address ≡ b → (t : Bool) → is_at me x.node ≡ t → has_address (share me xs) a ≡ is_at me (holder_in a xs) → has_address (if t then x.address ∷ share me xs else share me xs) a ≡ is_at me (if b then x.node else holder_in a xs)
+    by : (b : Bool) → same_address a x.address ≡ b → (t : Bool) → is_this_node me x.node ≡ t → has_address (share me xs) a ≡ is_this_node me (holder_in a xs) → has_address (if t then x.address ∷ share me xs else share me xs) a ≡ is_this_node me (if b then x.node else holder_in a xs)
     by true e true h r = has_first a x.address (share me xs) e ∙ sym h
     by true e false h r = subst (λ y. has_address (share me xs) y ≡ false) (sym (address_is a x.address e)) (not_shared me x.address (share me xs) (share_above me x.address xs s.0)) ∙ sym h
     by false e true h r = has_later a x.address (share me xs) e ∙ r

@@ -31,12 +31,12 @@ use Rattle.ct_rules_node.specs.Rounds.{on_freeze, on_freezeack, all_frozen}
 use Rattle.ct_rules_node.specs.Steps.{if_sound, arrives}
 use Rattle.ct_rules_node.specs.Turn.{does, posts, posts_all, with_lead}
 use Rattle.ct_law_line.proofs.Lives.{IsGatheredOf, Waits}
-use Rattle.ct_law_freeze.proofs.Leading.{Led, lead_turned}
+use Rattle.ct_law_lead.proofs.Leading.{Led, lead_turned}
 use Rattle.std.specs.List.{list_any}
 use Rattle.std.specs.Prelude.{not}
 use Rattle.ct_rules_node.specs.Rounds.{on_pushack, all_installed, completed}
 use Rattle.ct_law_freeze.proofs.Turning.{freeze_turned}
-use Rattle.ct_law_freeze.proofs.Rounding.{Says_round, sends, sends_led, leads_still, idle_led, one_led}
+use Rattle.ct_law_lead.proofs.Rounding.{Says_round, sends, sends_led, leads_still, idle_led, one_led}
 
 -- ---- a Freeze
 

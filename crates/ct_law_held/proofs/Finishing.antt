@@ -67,8 +67,8 @@ use Rattle.ct_law_cluster.proofs.Configured.{all_small}
 use Rattle.ct_law_cluster.proofs.Served.{client_serves, serves_store, serves_read}
 use Rattle.ct_law_line.proofs.Resting.{frozen_twice, locked_read}
 use Rattle.ct_law_freeze.proofs.Ends.{same_set}
-use Rattle.ct_law_freeze.proofs.Holding.{stores_so, releases_so, reads_so}
-use Rattle.ct_law_freeze.proofs.Held.{Held_node, Held_turn, held_turned}
+use Rattle.ct_law_held.proofs.Holding.{stores_so, releases_so, reads_so}
+use Rattle.ct_law_held.proofs.Held.{Held_node, Held_turn, held_turned}
 
 -- ---- the node
 

@@ -62,9 +62,9 @@ use Rattle.ct_promise.specs.Marked.{is_removal}
 use Rattle.ct_law_cluster.proofs.Counting.{with_caller}
 use Rattle.ct_law_node.proofs.Calling.{own_pending}
 use Rattle.ct_law_freeze.proofs.Turning.{Rest_after}
-use Rattle.ct_law_freeze.proofs.Holding
-use Rattle.ct_law_freeze.proofs.Holding.{in_state, put_other}
-use Rattle.ct_law_freeze.proofs.Rounding.{not_freezing}
+use Rattle.ct_law_held.proofs.Holding
+use Rattle.ct_law_held.proofs.Holding.{in_state, put_other}
+use Rattle.ct_law_lead.proofs.Rounding.{not_freezing}
 use Rattle.ct_register.proofs.Places.{at_other}
 use Rattle.ct_store.specs.Map.{look}
 use Rattle.ct_rules_node.specs.Node.{or_nothing}

@@ -27,10 +27,10 @@ use Rattle.ct_rules_node.specs.Databases.{updates, with_commit, awaits_others, c
 use Rattle.ct_rules_node.proofs.Refusals.{first_none, not_refused}
 use Rattle.ct_law_wish.proofs.Wishing.{Wishful, want_wish, store_wish, release_wish, unlock_wish}
 use Rattle.ct_law_wish.proofs.Even.{answers_in, want_even, store_even, release_even, unlock_even, number_of}
-use Rattle.ct_law_calls.proofs.Opened.{Opened, answered_by, AllOpen, without_all}
-use Rattle.ct_law_calls.proofs.Accounts.{Wished, Stands, Account, with_call, own_call, answers_kept, commit_waits, with_committing}
-use Rattle.ct_law_calls.proofs.Records.{call_kept, even_start, wish_more, number_none}
-use Rattle.ct_law_calls.proofs.Turns.{updates_stands, updates_commit, posts_all_kept, frozen_kept}
+use Rattle.ct_law_account.proofs.Opened.{Opened, answered_by, AllOpen, without_all}
+use Rattle.ct_law_account.proofs.Accounts.{Wished, Stands, Account, with_call, own_call, answers_kept, commit_waits, with_committing}
+use Rattle.ct_law_account.proofs.Records.{call_kept, even_start, wish_more, number_none}
+use Rattle.ct_law_account.proofs.Turns.{updates_stands, updates_commit, posts_all_kept, frozen_kept}
 
 -- a call that comes to the node in the middle of its step: nothing was done yet, and the call is new
 pub record Comes (who : Opened) (c : Config) (n call : ℕ) (t : Turn) : Type 0 where

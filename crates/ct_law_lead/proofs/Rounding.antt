@@ -42,7 +42,7 @@ use Rattle.ct_rules_node.specs.Steps.{if_sound, arrives}
 use Rattle.ct_rules_node.specs.Turn.{does, posts}
 use Rattle.ct_rules_node.proofs.Tables.{tells_at}
 use Rattle.ct_promise.proofs.Follows.{filter_more}
-use Rattle.ct_law_freeze.proofs.Leading.{Led, lead_turned, later_none}
+use Rattle.ct_law_lead.proofs.Leading.{Led, lead_turned, later_none}
 
 -- ---- what is sent
 

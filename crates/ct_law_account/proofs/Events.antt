@@ -24,11 +24,11 @@ use Rattle.ct_rules_node.specs.Steps.{on_record_of, if_persistent, if_sound, if_
 use Rattle.ct_rules_node.specs.Admission.{record_in}
 use Rattle.ct_law_wish.proofs.Wishing.{Wishful, arrive_wish, vacuum_wish, want_again_wish, call_again_wish, revoke_again_wish}
 use Rattle.ct_law_wish.proofs.Even.{arrive_even, vacuum_even, want_again_even, call_again_even, revoke_again_even}
-use Rattle.ct_law_calls.proofs.Opened.{Opened, answered_by, AllOpen, without_all}
-use Rattle.ct_law_calls.proofs.Accounts.{Stands, Account, with_call}
-use Rattle.ct_law_calls.proofs.Records.{at_record_kept}
-use Rattle.ct_law_calls.proofs.Clients.{client_kept}
-use Rattle.ct_law_calls.proofs.Turns.{either, with_phase_kept, notes_kept, on_pupdate_kept, on_pack_kept, begin_round_kept, on_freeze_kept, on_freezeack_kept, on_pull_kept, on_pullreply_kept, on_push_kept, on_pushack_kept, begin_takeover_kept, on_release_kept, on_releaseack_kept, on_take_kept, update_in_kept, retry_lead_kept}
+use Rattle.ct_law_account.proofs.Opened.{Opened, answered_by, AllOpen, without_all}
+use Rattle.ct_law_account.proofs.Accounts.{Stands, Account, with_call}
+use Rattle.ct_law_account.proofs.Records.{at_record_kept}
+use Rattle.ct_law_account.proofs.Clients.{client_kept}
+use Rattle.ct_law_account.proofs.Turns.{either, with_phase_kept, notes_kept, on_pupdate_kept, on_pack_kept, begin_round_kept, on_freeze_kept, on_freezeack_kept, on_pull_kept, on_pullreply_kept, on_push_kept, on_pushack_kept, begin_takeover_kept, on_release_kept, on_releaseack_kept, on_take_kept, update_in_kept, retry_lead_kept}
 
 -- ---- thaws
 

@@ -28,7 +28,7 @@ use Rattle.ct_rules_node.specs.Turn.{Turn}
 use Rattle.std.proofs.Common.{◌≡◌, ℕ, Bool, true, false, List, [], ◌++◌, append-nil, refl, sym, ap, ◌∙◌, subst, ◌+◌, cond, ◌∷◌}
 use Rattle.std.specs.List.{AllByRecursion}
 use Rattle.ct_law_world.specs.Marked as law_marked
-use Rattle.ct_law_freeze.proofs.Leading.{later_none}
+use Rattle.ct_law_lead.proofs.Leading.{later_none}
 use Rattle.ct_msg.specs.declared.client.Answer.TheVariants as answer
 use Rattle.ct_rules_node.specs.Turn.{does}
 use Rattle.ct_rules_node.specs.Turn.{begins}
@@ -38,15 +38,10 @@ use Rattle.ct_msg.specs.declared.client.Why.TheVariants as why
 use Rattle.ct_promise.specs.Generation.{speaks_of_records}
 use Rattle.ct_rules_node.specs.Turn.{makes, answers}
 use Rattle.ct_law_shown.specs.Shown.{is_telling}
-use Rattle.ct_law_freeze.proofs.Held.{outs_labels}
-use Rattle.ct_law_freeze.proofs.Leading.{node_lead}
+use Rattle.ct_law_shown.proofs.Weave.{silent}
+use Rattle.ct_law_held.proofs.Held.{outs_labels}
+use Rattle.ct_law_lead.proofs.Leading.{node_lead}
 use Rattle.ct_law_line.proofs.Apart.{none_fresh}
-
-silent : (config : Config) (rules : Rules) (n : ℕ) (asked : ClientOp) (a : Answer) (r : Lines) → is_telling a ≡ false → AcceptsAnswer config rules n asked a r r
-unfolding is_telling
-silent config rules n asked (answer.Refused (why.TooLong m)) r e = absurd (cc)
-silent config rules n asked (answer.Refused w) r e = refl
-silent config rules n asked _ r e = absurd (cc)
 
 module _ (c : Config) (rules : Rules) (w : Cluster) (r : Lines) (h : Lives c rules w r) (n : ℕ) (asked : ClientOp) (reason : Why) (there : nat_lt n c.nodes ≡ true) (quiet : is_telling (answer.Refused reason) ≡ false) where
   abbrev u : Turn

@@ -18,7 +18,7 @@ use Rattle.ct_rules_node.proofs.AtRecord.{at_set, at_other, set_past, all_set, a
 use Rattle.ct_frame.specs.declared.event.Out.{Out}
 use Rattle.ct_frame.specs.declared.event.Out.TheVariants as out
 use Rattle.ct_law_wish.proofs.Wishing.{Wishful}
-use Rattle.ct_law_calls.proofs.Opened.{Opened, without, without_all, answered_by, AllOpen, stays_case, case_open, some_none}
+use Rattle.ct_law_account.proofs.Opened.{Opened, without, without_all, answered_by, AllOpen, stays_case, case_open, some_none}
 
 -- ---- what waits, and what is open
 

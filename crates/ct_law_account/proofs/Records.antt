@@ -18,26 +18,20 @@ use Rattle.ct_rules_node.specs.Records.{at_record, acted, put_back, place_of, vi
 use Rattle.ct_rules_node.specs.Clients.{is_commit}
 use Rattle.ct_rules_node.specs.Laws.{NodeAscends, left_by, unless_blank}
 use Rattle.ct_rules_node.proofs.AtRecord.{moves_at, at_set, at_other, set_past}
-use Rattle.ct_law_node.proofs.Forming.{or_second}
+use Rattle.ct_law_cluster.proofs.Vacuumed.{past_db}
 use Rattle.ct_law_shown.specs.Shown.{is_it}
 use Rattle.ct_law_shown.proofs.Weave.{it_is, it_is_itself}
 use Rattle.ct_law_wish.proofs.Wishing.{Wishful}
 use Rattle.ct_law_shown.proofs.Amid.{other_state}
 use Rattle.ct_law_wish.proofs.Even.{answers_in, Even, number_of, even_is}
-use Rattle.ct_law_calls.proofs.Opened.{Opened, without, without_all, answered_by, AllOpen, is_one, answered_more, without_more, open_more, open_first, open_rest, outs_answer, was_open, stays_open, is_later, only_one}
-use Rattle.ct_law_calls.proofs.Accounts.{Wished, Committed, wish_call, commit_call, Stands, Account, wish_like, commit_like, same_asked, place_commit, place_wish, with_call, own_call, other_call, none_other}
+use Rattle.ct_law_account.proofs.Opened.{Opened, without, without_all, answered_by, AllOpen, is_one, answered_more, without_more, open_more, open_first, open_rest, outs_answer, was_open, stays_open, is_later, only_one}
+use Rattle.ct_law_account.proofs.Accounts.{Wished, Committed, wish_call, commit_call, Stands, Account, wish_like, commit_like, same_asked, place_commit, place_wish, with_call, own_call, other_call, none_other}
 
 -- ---- the state of the record after it
 
-kept_wish : (s : RecState) → (or_nothing (unless_blank s)).wish ≡ s.wish
+pub kept_wish : (s : RecState) → (or_nothing (unless_blank s)).wish ≡ s.wish
 unfolding unless_blank or_nothing
 kept_wish s = grind arith
-
-past_db : (ds : List Database) (db : ℕ) → length ds ≤ db → or_untouched (slice_get ds db) ≡ untouched
-unfolding or_untouched
-past_db [] db e = refl
-past_db (d ∷ ds) zero e = absurd (omega arith)
-past_db (d ∷ ds) (suc k) e = past_db ds k (omega arith)
 
 past_wish : (ds : List Database) (db : ℕ) (key : List ℕ) → length ds ≤ db → (or_nothing (look key (or_untouched (slice_get ds db)).records)).wish ≡ None
 unfolding untouched or_nothing

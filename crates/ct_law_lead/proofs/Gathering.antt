@@ -26,8 +26,8 @@ use Rattle.ct_merge.specs.Gathered.{Gathered, nothing, gathered_all}
 use Rattle.ct_rules_node.specs.Node.{Freezes, Pulls, Installs, Completed}
 use Rattle.ct_rules_node.specs.Steps.{if_sound, arrives}
 use Rattle.ct_law_line.proofs.Lives.{IsGatheredOf}
-use Rattle.ct_law_freeze.proofs.Leading.{Led, lead_turned}
-use Rattle.ct_law_freeze.proofs.Rounding.{idle_led}
+use Rattle.ct_law_lead.proofs.Leading.{Led, lead_turned}
+use Rattle.ct_law_lead.proofs.Rounding.{idle_led}
 use Rattle.ct_bytes.specs.declared.address.Address.{Address}
 use Rattle.std.proofs.lemmas.Bool.{and_parts}
 use Rattle.ct_frame.specs.declared.round.Pull.{Pull}
@@ -36,7 +36,7 @@ use Rattle.ct_merge.specs.Gathered.{gathered}
 use Rattle.ct_merge.proofs.Among.{in_left, in_right}
 use Rattle.ct_rules_node.specs.Rounds.{on_pullreply, all_pulled}
 use Rattle.ct_law_line.proofs.Lives.{IsReply}
-use Rattle.ct_law_freeze.proofs.Arriving.{only_leads, waits_less}
+use Rattle.ct_law_lead.proofs.Arriving.{only_leads, waits_less}
 
 gathered_last : (pulls : List Pull) (pull : Pull) (x : Gathered) → gathered_all (pulls ++ pull ∷ []) x ≡ gathered pull (gathered_all pulls x)
 gathered_last [] pull x = refl

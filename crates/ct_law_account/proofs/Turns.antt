@@ -37,15 +37,12 @@ use Rattle.ct_rules_node.proofs.Keys.{changed_seen, changed_ascends, kept_seen, 
 use Rattle.ct_rules_node.proofs.Installed.{install_ascends}
 use Rattle.ct_rules_node.proofs.Rounds.{freezes_each}
 use Rattle.ct_rules_node.proofs.AtRecord.{at_set, at_other, set_past, all_set, at_ascends}
-use Rattle.ct_law_calls.proofs.Opened.{Opened, without, without_all, answered_by, AllOpen, answered_more, without_more, open_more}
-use Rattle.ct_law_calls.proofs.Accounts.{Stands, Account, Committed, same_stands, same_kept, with_committing, committing_other, commit_ends, commit_stays}
+use Rattle.ct_law_account.proofs.Opened.{Opened, without, without_all, answered_by, AllOpen, answered_more, without_more, open_more}
+use Rattle.ct_law_account.proofs.Records.{kept_wish}
+use Rattle.ct_law_account.proofs.Accounts.{Stands, Account, Committed, same_stands, same_kept, with_committing, committing_other, commit_ends, commit_stays}
 
 other_key : (k q : List ℕ) → bytes_eq k q ≡ false → k ≢ q
 other_key k q unlike e = absurd (let a = (bytes_eq-Decides k q).1 e in cc)
-
-kept_wish : (s : RecState) → (or_nothing (unless_blank s)).wish ≡ s.wish
-unfolding unless_blank or_nothing
-kept_wish s = grind arith
 
 changed_wish : (f : RecState → RecState) (o : Option RecState) → ((s : RecState) → (f s).wish ≡ s.wish) → (or_nothing (changed_at f o)).wish ≡ (or_nothing o).wish
 unfolding changed_at or_nothing

@@ -1,0 +1,4 @@
+pub mod Holding
+pub mod Held
+pub mod Finishing
+pub mod Declining

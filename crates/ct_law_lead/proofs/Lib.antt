@@ -1,0 +1,5 @@
+pub mod Leading
+pub mod Rounding
+pub mod Arriving
+pub mod Again
+pub mod Gathering
