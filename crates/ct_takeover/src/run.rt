@@ -1,8 +1,8 @@
 //! A takeover run as its leader sees it.
 ghost use Rattle.std.specs.Prelude.{◌≡◌, ◌≢◌, [], IfOk};
 ghost use Rattle.std.specs.List.Sorted.{IsStrictlyIncreasing};
+ghost use Rattle.ct_bytes.specs.Words.{is_this_node};
 ghost use Rattle.ct_deleg.specs.Awaited.{AreAsked};
-ghost use Rattle.ct_rules_node.specs.Rounds.{is_at};
 ghost use Rattle.ct_rules_node.specs.Takeovers.{share};
 ghost use Rattle.ct_takeover.specs.Run.{after_releaseack, ends_releases, run_begun};
 
@@ -37,9 +37,9 @@ impl Model for Run {
 }
 
 /// Is it this node?
-#[tactic(auto, unfolding(ct_rules_node::specs::Rounds::is_at))]
-fn is_at(node: u32, at: Option<u32>) -> bool
-    ensures { result ≡ is_at node at }
+#[tactic(auto, unfolding(ct_bytes::specs::Words::is_this_node))]
+fn is_this_node(node: u32, at: Option<u32>) -> bool
+    ensures { result ≡ is_this_node node at }
 {
     match at {
         None => false,
@@ -54,7 +54,7 @@ pub fn share(alloc: Global, node: u32, placement: &[Assigned]) -> Result<Vec<Add
 {
     let mut addresses = Vec::new(alloc);
     for x in placement {
-        if is_at(node, x.node) {
+        if is_this_node(node, x.node) {
             addresses.push(x.address)?;
         }
     }
