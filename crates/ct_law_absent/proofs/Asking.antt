@@ -3,7 +3,7 @@ use Rattle.std.proofs.Common.{◌≡◌, ℕ, Bool, true, false, cond, ◌&&◌,
 use Rattle.std.specs.Prelude.{nat_lt, not}
 use Rattle.std.proofs.lemmas.Bool.{and_parts, cases_Bool}
 use Rattle.ct_bytes.specs.Words.{or_empty}
-use Rattle.ct_msg.specs.Client.{is_read}
+use Rattle.ct_msg.specs.Client.{is_read, db_of, key_of}
 use Rattle.ct_msg.specs.declared.client.Answer.{Answer}
 use Rattle.ct_msg.specs.declared.client.Answer.TheVariants as answer
 use Rattle.ct_msg.specs.declared.client.ClientOp.{ClientOp}
@@ -72,7 +72,7 @@ record Finishes (x : Node) (o : ClientOp) : Type 0 where
   leader : ℕ
   freezing : x.phase ≡ Freezing generation leader
   sort : (is_under_lock o || is_read o) ≡ true
-  locked : is_locked (clients.db_of o) (clients.key_of o) x ≡ true
+  locked : is_locked (db_of o) (key_of o) x ≡ true
 
 finishing : (x : Node) (o : ClientOp) → may_finish x o ≡ true → Finishes x o
 unfolding may_finish
@@ -123,7 +123,7 @@ module _ (c : Config) (rules : Rules) (w : Cluster) (r : Lines) (h : Lives c rul
 
   -- none but a read, a store and an unlock may finish
   served : (o : ClientOp) → refusal c rules x o ≡ None → Finishes x o → Asked o (happens c rules n (begins x) (event.Client w.calls o))
-  unfolding is_under_lock is_read is_locked clients.db_of clients.key_of clients.is_commit happens
+  unfolding is_under_lock is_read is_locked clients.is_commit happens
   served (op.Store db key v) free k = store_turned c rules w r h n k.generation k.leader db key config there k.freezing (has_database c x (op.Store db key v) (admits c rules x (op.Store db key v) free) refl refl) k.locked v free
   served (op.Unlock db key) free k = unlock_turned c rules w r h n k.generation k.leader db key config there k.freezing (has_database c x (op.Unlock db key) (admits c rules x (op.Unlock db key) free) refl refl) k.locked free
   served (op.Read db key) free k = ⊎_elim

@@ -2,6 +2,7 @@
 use Rattle.std.proofs.Common.{◌≡◌, ℕ, Bool, true, false, cond, ◌&&◌, List, Option, None, Some, refl, ap}
 use Rattle.std.specs.Prelude.{nat_eq}
 use Rattle.std.specs.List.{list_all}
+use Rattle.std.proofs.lemmas.Bool.{and_right, and_left}
 use Rattle.ct_msg.specs.declared.config.Config.{Config}
 use Rattle.ct_frame.specs.declared.frame.Frame.{Frame}
 use Rattle.ct_frame.specs.declared.frame.Msg.{Msg}
@@ -31,27 +32,19 @@ untaken : (b : Bool) (p q : Turn) → b ≡ false → cond b p q ≡ q
 untaken true p q e = absurd (cc)
 untaken false p q e = refl
 
-first_false : (a b : Bool) → a ≡ false → (a && b) ≡ false
-first_false true b e = absurd (cc)
-first_false false b e = refl
-
-second_false : (a b : Bool) → b ≡ false → (a && b) ≡ false
-second_false true b e = e
-second_false false b e = refl
-
 module _ (c : Config) (rules : Rules) (n : ℕ) (f : Frame) (x : Node) (absent : is_present x.phase ≡ false) where
   record_dropped : (k : Option (ℕ × List ℕ)) → on_record_of c rules n f (begins x) k ≡ begins x
   unfolding on_record_of
   record_dropped None = refl
-  record_dropped (Some k) = untaken _ _ _ (first_false (is_current f x) _ (no_current f x absent))
+  record_dropped (Some k) = untaken _ _ _ (and_left (is_current f x) _ (no_current f x absent))
 
   persistent_dropped : (db : ℕ) (u : Turn) → if_persistent c f db u (begins x) ≡ begins x
   unfolding if_persistent
-  persistent_dropped db u = untaken _ _ _ (first_false (is_current f x) _ (no_current f x absent))
+  persistent_dropped db u = untaken _ _ _ (and_left (is_current f x) _ (no_current f x absent))
 
   run_dropped : (u : Turn) → if_taken_over c f u (begins x) ≡ begins x
   unfolding if_taken_over
-  run_dropped u = untaken _ _ _ (second_false (is_sound c f) (is_current f x) (no_current f x absent))
+  run_dropped u = untaken _ _ _ (and_right (is_sound c f) (is_current f x) (no_current f x absent))
 
   same_turn : (b : Bool) (u t : Turn) → u ≡ t → cond b u t ≡ t
   same_turn true u t e = e

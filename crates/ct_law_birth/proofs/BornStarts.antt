@@ -6,10 +6,10 @@ use Rattle.std.proofs.Math.Nat.{mod-lt}
 use Rattle.std.proofs.lemmas.Bool.{and_from, eq-eqb, ltb-true, lt-ltb, or_right}
 use Rattle.ct_bytes.specs.Hash.{hash_of}
 use Rattle.ct_msg.specs.declared.config.Config.{Config}
+use Rattle.ct_frame.specs.Header.{nobody}
 use Rattle.ct_frame.specs.Fields.{is_node}
 use Rattle.ct_frame.specs.declared.frame.TableRow.{TableRow}
 use Rattle.ct_call.specs.Rules.{Rules}
-use Rattle.ct_rules.specs.State.{nobody}
 use Rattle.ct_rules.specs.declared.state.RecState.{RecState}
 use Rattle.ct_rules.specs.declared.state.Wish.{Wish}
 use Rattle.ct_rules_node.specs.Node.{Node, db_at, state_at, master_of, or_zero, is_among, has_records, kind_at}

@@ -2,7 +2,7 @@
 use Rattle.std.proofs.Common.{◌≡◌, ℕ, ◌+◌, ◌<◌, ◌^◌, Bool, true, false, cond, ◌||◌, List, [], ◌∷◌, ◌++◌, append-nil, append_assoc, inl, inr, refl, sym, ap, ◌∙◌, subst}
 use Rattle.std.specs.Prelude.{nat_eq, nat_le, not}
 use Rattle.std.specs.List.{filter}
-use Rattle.std.proofs.lemmas.Bool.{leb-false}
+use Rattle.std.proofs.lemmas.Bool.{leb-false, or_parts}
 use Rattle.ct_bytes.specs.declared.address.Address.{Address}
 use Rattle.ct_msg.specs.declared.config.Config.{Config}
 use Rattle.ct_frame.specs.declared.event.Event.TheVariants as event
@@ -68,11 +68,7 @@ makes_outs me members (row ∷ rows) t = makes_outs me members rows _ ∙ made_o
 
 made_before : (b : Bool) (number : ℕ) (t : Turn) → (cond b (makes number t) t).spent ≡ false → t.spent ≡ false
 unfolding makes
-made_before true number t e = first t.spent (nat_le (2 ^ 62) number) e
-  where
-    first : (a b : Bool) → (a || b) ≡ false → a ≡ false
-    first true b e = e
-    first false b e = refl
+made_before true number t e = (or_parts t.spent (nat_le (2 ^ 62) number) e).0
 made_before false number t e = e
 
 rows_before : (me : ℕ) (members : List ℕ) (rows : List TableRow) (t : Turn) → (makes_rows me members rows t).spent ≡ false → t.spent ≡ false
@@ -82,11 +78,7 @@ rows_before me members (row ∷ rows) t e = made_before (nat_eq me (row_master r
 
 made_now : (b : Bool) (rsn : ℕ) (t : Turn) → b ≡ true → (cond b (makes (rsn + 1) t) t).spent ≡ false → rsn + 1 < 2 ^ 62
 unfolding makes
-made_now true rsn t is e = leb-false (2 ^ 62) (rsn + 1) (second t.spent (nat_le (2 ^ 62) (rsn + 1)) e)
-  where
-    second : (a b : Bool) → (a || b) ≡ false → b ≡ false
-    second true b e = absurd (cc)
-    second false b e = e
+made_now true rsn t is e = leb-false (2 ^ 62) (rsn + 1) (or_parts t.spent (nat_le (2 ^ 62) (rsn + 1)) e).1
 made_now false rsn t is e = absurd (cc)
 
 -- where the step is whole, the RSN that is made of a row is below 2^62 at its data master and at its location master

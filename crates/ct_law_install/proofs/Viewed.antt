@@ -2,7 +2,7 @@
 use Rattle.std.proofs.Common.{◌≡◌, ◌≢◌, ℕ, zero, suc, ◌+◌, ◌<◌, ◌≤◌, ◌^◌, Bool, true, false, ◌&&◌, ◌||◌, List, [], ◌∷◌, length, Option, Some, None, ⊎_elim, refl, sym, ap, ◌∙◌, subst, arith}
 use Rattle.std.specs.Prelude.{nat_eq, nat_lt, slice_get}
 use Rattle.std.specs.List.{list_all}
-use Rattle.std.proofs.lemmas.Bool.{cases_eq, cases_lt, cond_both, and_parts, ltb-true}
+use Rattle.std.proofs.lemmas.Bool.{cases_eq, cases_lt, cond_both, and_parts, ltb-true, or_right, or_left}
 use Rattle.ct_msg.specs.declared.config.Config.{Config}
 use Rattle.ct_frame.specs.declared.frame.Assigned.{Assigned}
 use Rattle.ct_frame.specs.declared.frame.Frame.{Frame}
@@ -69,21 +69,13 @@ begun_wish s (Some row) n wish = cond_both (is_among n s.members) (installed_sta
 abbrev Is_low : Scene → ℕ → TableRow → Type 0
 Is_low s n row = (row.rsn < 2 ^ 62) × ((nat_eq n (row_master row) || nat_eq n s.lmaster) ≡ true → row.rsn + 1 < 2 ^ 62)
 
-or_first : (a b : Bool) → a ≡ true → (a || b) ≡ true
-or_first true b e = refl
-or_first false b e = absurd (cc)
-
-or_second : (a b : Bool) → b ≡ true → (a || b) ≡ true
-or_second true b e = refl
-or_second false b e = e
-
 copy_low : (s : Scene) (n : ℕ) (row : TableRow) → Is_low s n row → rsn_of (Some (copy_from n row (row_master row))) < 2 ^ 62
 unfolding rsn_of copy_from
-copy_low s n row l = cond_both (nat_eq n (row_master row)) (row.rsn + 1) row.rsn (λ a. a < 2 ^ 62) (λ t. l.1 (or_first _ (nat_eq n s.lmaster) t)) (λ _. l.0)
+copy_low s n row l = cond_both (nat_eq n (row_master row)) (row.rsn + 1) row.rsn (λ a. a < 2 ^ 62) (λ t. l.1 (or_left _ (nat_eq n s.lmaster) t)) (λ _. l.0)
 
 entry_low : (s : Scene) (n : ℕ) (row : TableRow) → Is_low s n row → (sent_for (entry_from n s.lmaster row) ≡ 0) × (least_of (entry_from n s.lmaster row) < 2 ^ 62)
 unfolding entry_from sent_for least_of
-entry_low s n row l = cond_both (nat_eq n s.lmaster) _ None (λ (e : Option Entry). (sent_for e ≡ 0) × (least_of e < 2 ^ 62)) (λ t. (refl, l.1 (or_second (nat_eq n (row_master row)) _ t))) (λ _. (refl, omega arith))
+entry_low s n row l = cond_both (nat_eq n s.lmaster) _ None (λ (e : Option Entry). (sent_for e ≡ 0) × (least_of e < 2 ^ 62)) (λ t. (refl, l.1 (or_right (nat_eq n (row_master row)) _ t))) (λ _. (refl, omega arith))
 
 none_low : rsn_of None < 2 ^ 62
 unfolding rsn_of
@@ -138,11 +130,7 @@ module _ (c : Config) (rules : Rules) (w : Cluster) (r : Lines) (h : Lives c rul
   pub member : is_among n (r.members g) ≡ true
   unfolding is_sound is_listed members_in
   member = subst (λ (k : ℕ). is_among k (r.members g) ≡ true) come.receiver
-      (last (is_among f.sender (r.members g)) (is_among f.receiver (r.members g)) (subst (λ (m : Msg). is_listed f (members_in m) ≡ true) is (and_parts _ _ (and_parts _ _ (and_parts _ _ (and_parts _ _ sound).0).0).0).1))
-    where
-      last : (p q : Bool) → (p && q) ≡ true → q ≡ true
-      last true q e = e
-      last false q e = absurd (cc)
+      (and_parts (is_among f.sender (r.members g)) (is_among f.receiver (r.members g)) (subst (λ (m : Msg). is_listed f (members_in m) ≡ true) is (and_parts _ _ (and_parts _ _ (and_parts _ _ (and_parts _ _ sound).0).0).0).1)).1
 
   kinds : list_all (λ row. has_records (kind_at c row.db)) (a.tables g) ≡ true
   unfolding is_sound table_in

@@ -6,12 +6,13 @@ use Rattle.ct_bytes.specs.Words.{others, is_nil}
 use Rattle.ct_msg.specs.declared.client.Answer.TheVariants as answer
 use Rattle.ct_msg.specs.declared.client.ClientOp.{ClientOp}
 use Rattle.ct_msg.specs.declared.client.ClientOp.TheVariants as op
+use Rattle.ct_frame.specs.Header.{for_reading, nobody}
 use Rattle.ct_frame.specs.declared.frame.CallKind.TheVariants as kind
 use Rattle.ct_frame.specs.declared.frame.Msg.TheVariants as msg
 use Rattle.ct_frame.specs.declared.header.RecCopy.{RecCopy}
 use Rattle.ct_call.specs.Rules.{Rules}
 use Rattle.ct_rules.specs.State
-use Rattle.ct_rules.specs.State.{nobody, for_reading, a_copy, is_read_kind, kind_of}
+use Rattle.ct_rules.specs.State.{a_copy, is_read_kind, kind_of}
 use Rattle.ct_rules.specs.Parts
 use Rattle.ct_rules.specs.Parts.{Moving}
 use Rattle.ct_rules.specs.declared.event.Place.{Place}

@@ -3,6 +3,7 @@ use Rattle.std.proofs.Common.{◌≡◌, ◌≢◌, ℕ, Bool, true, false, cond
 use Rattle.std.proofs.lemmas.Bool.{cond_both}
 use Rattle.std.specs.Prelude.{is_none, is_some, nat_eq, Result, Ok, Err}
 use Rattle.ct_bytes.specs.Words.{is_nil}
+use Rattle.ct_frame.specs.Header.{being_revoked, delegated, nobody}
 use Rattle.ct_deleg.specs.Awaited.{including}
 use Rattle.ct_msg.specs.declared.client.Answer.TheVariants as answer
 use Rattle.ct_msg.specs.declared.client.ClientOp.{ClientOp}
@@ -14,7 +15,7 @@ use Rattle.ct_call.specs.Table.{applied}
 use Rattle.ct_call.specs.declared.fault.CallFault.{CallFault}
 use Rattle.ct_call.specs.declared.fault.CallFault.TheVariants as fault
 use Rattle.ct_rules.specs.State
-use Rattle.ct_rules.specs.State.{nobody, delegated, being_revoked, is_read_kind}
+use Rattle.ct_rules.specs.State.{is_read_kind}
 use Rattle.ct_rules.specs.Parts
 use Rattle.ct_rules.specs.Parts.{Moving}
 use Rattle.ct_rules.specs.declared.event.Place.{Place}

@@ -7,6 +7,7 @@ use Rattle.ct_msg.specs.Client.{is_read}
 use Rattle.ct_msg.specs.declared.client.Answer.TheVariants as answer
 use Rattle.ct_msg.specs.declared.client.ClientOp.{ClientOp}
 use Rattle.ct_msg.specs.declared.client.ClientOp.TheVariants as op
+use Rattle.ct_frame.specs.Header.{for_reading, nobody, plain}
 use Rattle.ct_frame.specs.declared.frame.CallKind.{CallKind}
 use Rattle.ct_frame.specs.declared.frame.Msg.TheVariants as msg
 use Rattle.ct_frame.specs.declared.header.RecCopy.{RecCopy}
@@ -15,7 +16,7 @@ use Rattle.ct_call.specs.Table.{applied}
 use Rattle.ct_call.specs.declared.fault.CallFault.{CallFault}
 use Rattle.ct_call.specs.declared.fault.CallFault.TheVariants as fault
 use Rattle.ct_rules.specs.State
-use Rattle.ct_rules.specs.State.{nobody, plain, for_reading, a_copy, is_read_kind}
+use Rattle.ct_rules.specs.State.{a_copy, is_read_kind}
 use Rattle.ct_rules.specs.Parts
 use Rattle.ct_rules.specs.Parts.{Moving}
 use Rattle.ct_rules.specs.declared.event.Place.{Place}

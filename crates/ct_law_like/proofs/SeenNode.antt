@@ -3,13 +3,14 @@ use Rattle.std.proofs.Common.{◌≡◌, ◌≢◌, ℕ, Bool, true, false, cond
 use Rattle.std.specs.Prelude.{is_some, nat_eq, if◌then◌else◌}
 use Rattle.ct_msg.specs.declared.client.Answer.{Answer}
 use Rattle.ct_msg.specs.declared.client.ClientOp.{ClientOp}
+use Rattle.ct_frame.specs.Header.{for_reading, nobody, plain}
 use Rattle.ct_frame.specs.declared.frame.CallKind.{CallKind}
 use Rattle.ct_frame.specs.declared.frame.CallKind.TheVariants as kind
 use Rattle.ct_frame.specs.declared.frame.Msg.{Msg}
 use Rattle.ct_frame.specs.declared.frame.Msg.TheVariants as msg
 use Rattle.ct_frame.specs.declared.header.RecCopy.{RecCopy}
 use Rattle.ct_rules.specs.State
-use Rattle.ct_rules.specs.State.{nobody, plain, for_reading, a_copy, is_read_kind, same_kind, kind_of}
+use Rattle.ct_rules.specs.State.{a_copy, is_read_kind, same_kind, kind_of}
 use Rattle.ct_rules.specs.Parts
 use Rattle.ct_rules.specs.Parts.{Moving}
 use Rattle.ct_rules.specs.declared.event.Act.{Act}

@@ -1,6 +1,7 @@
 -- The law of one record in a generation that begins with a row for it.
 use Rattle.std.proofs.Common.{◌&&◌, not, ◌≡◌, ◌≢◌, ℕ, ◌+◌, Bool, true, false, Option, Some, None, List, [], refl, sym, ap, ◌∙◌, arith, ◌<◌, ◌≤◌, subst, eq-eqb, take, nat_eq, cond, leb, length, le_refl, eqb-true, inl}
-use Rattle.ct_rules.specs.State.{nobody, plain, a_copy, nothing_kept}
+use Rattle.ct_frame.specs.Header.{nobody, plain}
+use Rattle.ct_rules.specs.State.{a_copy, nothing_kept}
 use Rattle.ct_rules.specs.declared.state.Wish.{Wish}
 use Rattle.ct_law_fact.proofs.Rule
 use Rattle.ct_law_fact.proofs.Rule.{Copy}

@@ -1,8 +1,8 @@
 -- The law of one record: from the opening, and from a generation that begins with calls that wait and with a row.
 use Rattle.std.proofs.Common.{◌≡◌, ◌≢◌, ℕ, ◌+◌, Bool, true, false, Option, Some, None, List, [], refl, sym, ap, ◌∙◌, arith, ◌<◌, ◌≤◌, subst, inr, eq-eqb, take}
+use Rattle.ct_frame.specs.Header.{for_reading, nobody}
 use Rattle.ct_frame.specs.declared.header.RecCopy.{RecCopy}
 use Rattle.ct_rules.specs.State
-use Rattle.ct_rules.specs.State.{nobody, for_reading}
 use Rattle.ct_rules.specs.declared.state.Wish.{Wish}
 use Rattle.ct_law_fact.proofs.Rule
 use Rattle.ct_law_like.proofs.SeenNode.{copy_of, wish_of, mastered_like, for_reading_like, frames_of}

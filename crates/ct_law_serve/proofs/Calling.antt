@@ -110,9 +110,9 @@ module _ (c : Config) (rules : Rules) (w : Cluster) (r : Lines) (h : Lives c rul
 
 -- a call of a database that is not persistent
 pub call_turned : (c : Config) (rules : Rules) (w : Cluster) (r : Lines) (h : Lives c rules w r) (n : ℕ) (o : ClientOp) → IsConfig c → nat_lt n c.nodes ≡ true → is_present (node_at n w).phase ≡ true → h.who w.calls ≡ (n, o) → refusal c rules (node_at n w) o ≡ None →
-    (client c rules n w.calls o (begins (node_at n w))).spent ≡ false → is_persistent (kind_at c (clients.db_of o)) ≡ false →
+    (client c rules n w.calls o (begins (node_at n w))).spent ≡ false → is_persistent (kind_at c (db_of o)) ≡ false →
     Turned c rules h.who w r h.ages n (own_pending n w.calls o ∷ pending w) (happens c rules n (begins (node_at n w)) (event.Client w.calls o))
-unfolding clients.db_of is_commit makes
+unfolding is_commit makes
 call_turned c rules w r h n (op.Lock db key) config there present own free spent f =
     let a = admits c rules (node_at n w) (op.Lock db key) free in
     want_turned c rules w r h n (op.Lock db key) config there present own free spent (call_kind c (node_at n w) (op.Lock db key) a f) refl (may_lock c (node_at n w) db key a) (serves_lock c rules n w.calls db key (makes w.calls (begins (node_at n w))))

@@ -2,7 +2,7 @@
 use Rattle.std.proofs.Common.{◌≡◌, ℕ, Bool, true, false, List, [], ◌∷◌, Option, Some, None, ⊎_elim, refl, sym, ap, ◌∙◌, subst}
 use Rattle.std.specs.Prelude.{nat_lt}
 use Rattle.std.proofs.lemmas.Bool.{cases_Bool}
-use Rattle.ct_msg.specs.Client.{is_read}
+use Rattle.ct_msg.specs.Client.{is_read, db_of}
 use Rattle.ct_msg.specs.declared.client.Answer.TheVariants as answer
 use Rattle.ct_msg.specs.declared.client.ClientOp.{ClientOp}
 use Rattle.ct_msg.specs.declared.client.ClientOp.TheVariants as op
@@ -33,12 +33,12 @@ abbrev pub Call_turned : (c : Config) (rules : Rules) (w : Cluster) (r : Lines) 
 Call_turned c rules w r h n o = Turned c rules h.who w r h.ages n (own_pending n w.calls o ∷ pending w) (happens c rules n (begins (node_at n w)) (event.Client w.calls o))
 
 -- only a commit and a read are of a persistent database
-absurd_kind : (c : Config) (rules : Rules) (w : Cluster) (n : ℕ) (o : ClientOp) → refusal c rules (node_at n w) o ≡ None → is_persistent (kind_at c (clients.db_of o)) ≡ true → is_commit o ≡ false → is_read o ≡ false → ⊥
+absurd_kind : (c : Config) (rules : Rules) (w : Cluster) (n : ℕ) (o : ClientOp) → refusal c rules (node_at n w) o ≡ None → is_persistent (kind_at c (db_of o)) ≡ true → is_commit o ≡ false → is_read o ≡ false → ⊥
 absurd_kind c rules w n o free kind a b = absurd (let e = sym kind ∙ record_kind c (node_at n w) o (admits c rules (node_at n w) o free) a b in cc)
 
 persistent_turned : (c : Config) (rules : Rules) (w : Cluster) (r : Lines) (h : Lives c rules w r) (n : ℕ) (o : ClientOp) → nat_lt n c.nodes ≡ true → is_present (node_at n w).phase ≡ true → h.who w.calls ≡ (n, o) → refusal c rules (node_at n w) o ≡ None →
-    is_persistent (kind_at c (clients.db_of o)) ≡ true → Call_turned c rules w r h n o
-unfolding clients.db_of is_commit is_read
+    is_persistent (kind_at c (db_of o)) ≡ true → Call_turned c rules w r h n o
+unfolding is_commit is_read
 persistent_turned c rules w r h n (op.Commit db writes) there present own free kind = commit_turned c rules w r h n db writes there present own free
 persistent_turned c rules w r h n (op.Read db key) there present own free kind = read_turned c rules w r h n db key there present kind free
 persistent_turned c rules w r h n (op.Lock db key) there present own free kind = absurd (absurd_kind c rules w n (op.Lock db key) free kind refl refl)
@@ -61,6 +61,6 @@ client_turned c rules w r h n o config there present own whole = either (refusal
     either : (why : Option Why) → refusal c rules (node_at n w) o ≡ why → Call_turned c rules w r h n o
     either (Some reason) why = refused_here c rules w r h n o reason there why
     either None free = ⊎_elim
-        (λ (kind : is_persistent (kind_at c (clients.db_of o)) ≡ true). persistent_turned c rules w r h n o there present own free kind)
-        (λ (kind : is_persistent (kind_at c (clients.db_of o)) ≡ false). call_turned c rules w r h n o config there present own free whole kind)
-        (cases_Bool (is_persistent (kind_at c (clients.db_of o))))
+        (λ (kind : is_persistent (kind_at c (db_of o)) ≡ true). persistent_turned c rules w r h n o there present own free kind)
+        (λ (kind : is_persistent (kind_at c (db_of o)) ≡ false). call_turned c rules w r h n o config there present own free whole kind)
+        (cases_Bool (is_persistent (kind_at c (db_of o))))

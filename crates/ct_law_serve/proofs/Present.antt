@@ -2,7 +2,7 @@
 use Rattle.std.proofs.Common.{◌≡◌, ◌≢◌, ℕ, ◌≤◌, Bool, true, false, ◌||◌, List, ⊎_elim, refl, sym, ap, ◌∙◌, subst, arith}
 use Rattle.std.specs.Prelude.{nat_eq, nat_lt, is_some}
 use Rattle.std.specs.List.{AllByRecursion}
-use Rattle.std.proofs.lemmas.Bool.{cases_eq, eq-eqb, cases_Bool}
+use Rattle.std.proofs.lemmas.Bool.{cases_eq, eq-eqb, cases_Bool, or_right}
 use Rattle.ct_msg.specs.declared.config.Config.{Config}
 use Rattle.ct_frame.specs.declared.frame.Frame.{Frame}
 use Rattle.ct_frame.specs.declared.frame.Msg.{Msg}
@@ -170,12 +170,8 @@ module _ (c : Config) (rules : Rules) (w : Cluster) (r : Lines) (h : Lives c rul
   pub joined_here : (nat_eq g 1 || r.installed g n) ≡ true
   joined_here = ⊎_elim
       (λ (i : g ≡ 1). ap (λ (b : Bool). b || r.installed g n) (eq-eqb g 1 i))
-      (λ (no : g ≢ 1). second (nat_eq g 1) (r.installed g n) ((h.nodes n there).done (let z = lined in omega arith)))
+      (λ (no : g ≢ 1). or_right (nat_eq g 1) (r.installed g n) ((h.nodes n there).done (let z = lined in omega arith)))
       (cases_eq g 1)
-    where
-      second : (p q : Bool) → q ≡ true → (p || q) ≡ true
-      second true q i = refl
-      second false q i = i
 
   -- what is asked of a generation holds of the line
   pub era_here : IsEra c (era_of r h.ages g)

@@ -5,11 +5,12 @@ use Rattle.std.proofs.lemmas.List.Folds.{list_all-append}
 use Rattle.std.specs.Prelude.{is_none}
 use Rattle.std.specs.List.{list_all}
 use Rattle.ct_bytes.specs.Words.{is_nil}
+use Rattle.ct_frame.specs.Header.{plain}
 use Rattle.ct_call.specs.Rules.{Rules}
 use Rattle.ct_frame.specs.Fields.{is_from_one}
 use Rattle.ct_frame.specs.declared.frame.CallKind.{CallKind}
 use Rattle.ct_frame.specs.declared.frame.CallKind.TheVariants as kind
-use Rattle.ct_rules.specs.State.{a_copy, plain, rsn_of, is_mastered, is_quiet, is_free, is_wished}
+use Rattle.ct_rules.specs.State.{a_copy, rsn_of, is_mastered, is_quiet, is_free, is_wished}
 use Rattle.ct_rules.specs.Parts.{Moving, performs, send, reply, keeps, reaches, opened, end_vacuum, keep}
 use Rattle.ct_rules.specs.Messages.{enqueue, on_call_of, called, on_call, wait, handle, recalled, on_recall, hand_on, on_give_of, on_give, satisfy_wish, becomes, accept, refuse, on_pass, on_refuse_of, on_refuse, read_granted, on_grant, on_done_of, on_done, called_in, acknowledge, renew, on_revoke_of, on_revoke, acknowledged, on_revokeack, stored_copy, deleted_copy, on_vstore, on_vdelete, finish, greater, on_vstored_of, on_vstored, on_vdeleted_of, on_vdeleted}
 use Rattle.ct_rules.specs.Form.{least_of, sent_for, revoked_rsn, vacuumed_rsn, wished_as, wishes_record, is_asked, is_recalled}

@@ -4,6 +4,7 @@ use Rattle.std.proofs.lemmas.Bool.{and_parts}
 use Rattle.std.proofs.lemmas.List.Folds.{list_all-append}
 use Rattle.std.specs.List.{list_all}
 use Rattle.std.specs.Prelude.{Result}
+use Rattle.ct_frame.specs.Header.{being_revoked, delegated}
 use Rattle.ct_call.specs.Rules.{Rules}
 use Rattle.ct_call.specs.declared.fault.CallFault.{CallFault}
 use Rattle.ct_call.specs.declared.fault.CallFault.TheVariants as fault
@@ -17,7 +18,7 @@ use Rattle.ct_msg.specs.declared.client.Answer.{Answer}
 use Rattle.ct_msg.specs.declared.client.ClientOp.{ClientOp}
 use Rattle.ct_msg.specs.declared.client.ClientOp.TheVariants as op
 use Rattle.ct_vacuum.specs.Vacuum.{Vacuuming}
-use Rattle.ct_rules.specs.State.{being_revoked, delegated, rsn_of, given, with_flags, with_value, risen, value_of}
+use Rattle.ct_rules.specs.State.{rsn_of, given, with_flags, with_value, risen, value_of}
 use Rattle.ct_rules.specs.Parts.{Moving, performs, send, send_all, reply, keeps, reaches, end_vacuum, give, applies, satisfy, revoke, read_here, delegate, grant, yield_record, drain, drained, satisfy_own, raise, end_revocation}
 use Rattle.ct_rules.specs.Messages.{satisfy_wish}
 use Rattle.ct_rules.specs.Form.{least_of, sent_for, revoked_rsn, vacuumed_rsn, wished_as, is_asked, is_recalled}

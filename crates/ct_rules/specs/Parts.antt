@@ -7,6 +7,7 @@ use Rattle.ct_msg.specs.declared.client.Answer.TheVariants as answer
 use Rattle.ct_msg.specs.declared.client.ClientOp.{ClientOp}
 use Rattle.ct_msg.specs.declared.client.ClientOp.TheVariants as op
 use Rattle.ct_msg.specs.declared.client.Why.TheVariants as why
+use Rattle.ct_frame.specs.Header.{being_revoked, delegated, plain}
 use Rattle.ct_frame.specs.declared.frame.Msg.{Msg}
 use Rattle.ct_frame.specs.declared.frame.Msg.TheVariants as msg
 use Rattle.ct_frame.specs.declared.frame.CallKind.TheVariants as kind
@@ -15,7 +16,7 @@ use Rattle.ct_call.specs.Table.{applied}
 use Rattle.ct_call.specs.declared.fault.CallFault.{CallFault}
 use Rattle.ct_call.specs.declared.fault.CallFault.TheVariants as fault
 use Rattle.ct_deleg.specs.Tracked.{untracked, added, revocation_begun}
-use Rattle.ct_rules.specs.State.{plain, delegated, being_revoked, a_copy, rsn_of, value_of, is_mastered, is_for_reading, with_value, with_flags, risen, given, is_quiet, is_free, is_read_kind, kind_of, is_wished}
+use Rattle.ct_rules.specs.State.{a_copy, rsn_of, value_of, is_mastered, is_for_reading, with_value, with_flags, risen, given, is_quiet, is_free, is_read_kind, kind_of, is_wished}
 use Rattle.ct_rules.specs.declared.state.Entry.{Entry}
 use Rattle.ct_rules.specs.declared.state.RecState.{RecState}
 use Rattle.ct_rules.specs.declared.state.RecallNote.{RecallNote}

@@ -1,12 +1,13 @@
 -- The records of the worked steps: where they are looked at, and what is kept of them.
 use Rattle.std.specs.Prelude.{ℕ, true, false, List, [], ◌∷◌, Option, None, Some, replicate}
 use Rattle.ct_msg.specs.declared.client.ClientOp.TheVariants as op
+use Rattle.ct_frame.specs.Header.{being_revoked, delegated, for_reading, nobody, plain}
 use Rattle.ct_frame.specs.declared.frame.CallKind.TheVariants as kind
 use Rattle.ct_frame.specs.declared.frame.Msg.{Msg}
 use Rattle.ct_call.specs.Rules as it
 use Rattle.ct_deleg.specs.Tracked.{untracked}
 use Rattle.ct_vacuum.specs.declared.vacuum.VacuumPhase.TheVariants.{Storing, Deleting}
-use Rattle.ct_rules.specs.State.{nothing_kept, nobody, plain, delegated, for_reading, being_revoked, a_copy}
+use Rattle.ct_rules.specs.State.{nothing_kept, a_copy}
 use Rattle.ct_rules.specs.Parts.{Moving}
 use Rattle.ct_rules.specs.Moves.{moved}
 use Rattle.ct_rules.specs.declared.event.Act.{Act}

@@ -1,6 +1,7 @@
 -- A state in which nothing is kept, and the small words that the rules use of a state.
 use Rattle.std.specs.Prelude.{ℕ, ◌+◌, ◌==◌, nat_eq, Bool, true, false, ◌&&◌, List, [], ◌∷◌, Option, None, Some, is_none}
 use Rattle.ct_bytes.specs.Words.{is_nil}
+use Rattle.ct_frame.specs.Header.{for_reading, nobody, plain}
 use Rattle.ct_deleg.specs.Tracked.{Tracked, untracked}
 use Rattle.ct_msg.specs.declared.client.ClientOp.{ClientOp}
 use Rattle.ct_msg.specs.declared.client.ClientOp.TheVariants as op
@@ -17,26 +18,6 @@ nothing_kept = record { copy = None; entry = None; queue = []; waiting = []; tra
 -- State of a key: is it blank, with no copy, entry, queue, waiting recall, wish, lock and vacuum?
 abbrev pub is_blank : RecState → Bool
 is_blank s = is_none s.copy && is_none s.entry && is_nil s.queue && is_nil s.waiting && is_none s.wish && is_none s.locked && is_none s.vacuum
-
--- the data master of a copy that its data master gave away
-abbrev pub nobody : ℕ
-nobody = 4294967295
-
--- flags: those of a plain copy
-abbrev pub plain : ℕ
-plain = 0
-
--- flags: copies for reading are out
-abbrev pub delegated : ℕ
-delegated = 1
-
--- flags: this is a copy for reading
-abbrev pub for_reading : ℕ
-for_reading = 2
-
--- flags: copies for reading are out and are being called in
-abbrev pub being_revoked : ℕ
-being_revoked = 5
 
 -- a copy with this RSN, data master, flags and value
 abbrev pub a_copy : ℕ → ℕ → ℕ → List ℕ → RecCopy

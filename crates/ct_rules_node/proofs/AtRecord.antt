@@ -78,10 +78,6 @@ pub blank_is_nothing : (s : RecState) → s.tracking ≡ untracked → or_nothin
 unfolding or_nothing unless_blank
 blank_is_nothing s u = grind arith
 
-nil_is : (ns : List ℕ) → is_nil ns ≡ true → ns ≡ []
-nil_is [] e = refl
-nil_is (n ∷ ns) e = absurd (cc)
-
 pub none_is : {X : Type 0} (x : Option X) → is_none x ≡ true → x ≡ None
 none_is None e = refl
 none_is (Some x) e = absurd (cc)

@@ -5,6 +5,7 @@ use Rattle.ct_bytes.specs.Words.{others, is_this_node}
 use Rattle.ct_bytes.specs.declared.address.Address.{Address}
 use Rattle.ct_msg.specs.declared.client.Answer.TheVariants as answer
 use Rattle.ct_msg.specs.declared.config.Config.{Config}
+use Rattle.ct_frame.specs.Header.{nobody, plain}
 use Rattle.ct_frame.specs.declared.event.Note.TheVariants as note
 use Rattle.ct_frame.specs.declared.frame.Assigned.{Assigned}
 use Rattle.ct_frame.specs.declared.frame.Msg.{Msg}
@@ -20,7 +21,7 @@ use Rattle.ct_merge.specs.Gathered.{Gathered, nothing, gathered, finished}
 use Rattle.ct_merge.specs.declared.merged.MergedAll.{MergedAll}
 use Rattle.ct_persist.specs.Persisted.{Persisted, listed, replaced}
 use Rattle.ct_store.specs.Map.{Pairs, look, write}
-use Rattle.ct_rules.specs.State.{nobody, plain, a_copy, is_blank, is_mastered}
+use Rattle.ct_rules.specs.State.{a_copy, is_blank, is_mastered}
 use Rattle.ct_rules.specs.Parts.{Moving, keeps, want}
 use Rattle.ct_rules.specs.declared.event.Place.{Place}
 use Rattle.ct_rules.specs.declared.state.Entry.{Entry}

@@ -4,10 +4,11 @@ use Rattle.ct_msg.specs.Config.{lock_db}
 use Rattle.ct_msg.specs.declared.config.DbKind.TheVariants.{Volatile}
 use Rattle.ct_msg.specs.declared.client.Answer.TheVariants as answer
 use Rattle.ct_msg.specs.declared.client.ClientOp.TheVariants as op
+use Rattle.ct_frame.specs.Header.{plain}
 use Rattle.ct_frame.specs.declared.event.Note.TheVariants as note
 use Rattle.ct_frame.specs.declared.frame.CallKind.TheVariants as kind
 use Rattle.ct_frame.specs.declared.frame.Msg.TheVariants as msg
-use Rattle.ct_rules.specs.State.{nothing_kept, plain, a_copy}
+use Rattle.ct_rules.specs.State.{nothing_kept, a_copy}
 use Rattle.ct_runs.specs.Examples.{Prints, Keeps, a_db, sent}
 use Rattle.ct_cluster.specs.declared.step.Line.TheVariants as line
 use Rattle.ct_cluster.specs.declared.step.Step.TheVariants as step

@@ -10,11 +10,11 @@ use Rattle.std.proofs.lemmas.Bool.{and_parts}
 use Rattle.std.proofs.lemmas.Bool.Decides.{nat_tests}
 use Rattle.std.proofs.lemmas.List.Kept.{IsStrictlySortedBy-filter}
 use Rattle.ct_bytes.specs.Words.{is_this_node}
-use Rattle.ct_bytes.specs.Address.{address_cmp, same_address}
+use Rattle.ct_bytes.specs.Address.{address_cmp, same_address, address_before}
 use Rattle.ct_bytes.specs.declared.address.Address.{Address}
 use Rattle.ct_bytes.specs.declared.address.Address.TheVariants.{V4, V6}
 use Rattle.ct_bytes.proofs.AddressOrder.{address_total, address_is, less_differs, same_flips}
-use Rattle.ct_frame.specs.Fields.{address_before, ascends, ascends_after, assigned_before}
+use Rattle.ct_frame.specs.Fields.{ascends, ascends_after, assigned_before}
 use Rattle.ct_frame.specs.declared.frame.Assigned.{Assigned}
 use Rattle.ct_rules_node.specs.Node.{holder_in}
 use Rattle.ct_rules_node.specs.Rounds.{is_own}

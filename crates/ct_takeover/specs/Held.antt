@@ -1,9 +1,9 @@
 -- The addresses that a node holds, and the last takeover run that it followed.
 use Rattle.std.specs.Prelude.{ℕ, ◌+◌, nat_eq, nat_lt, not, if◌then◌else◌, List, [], ◌∷◌, Option, None, Some}
 use Rattle.std.specs.List.{filter}
+use Rattle.ct_bytes.specs.Address.{address_before}
 use Rattle.ct_bytes.specs.declared.address.Address.{Address}
 use Rattle.ct_frame.specs.declared.frame.Assigned.{Assigned}
-use Rattle.ct_frame.specs.Fields.{address_before}
 use Rattle.ct_rules_node.specs.Takeovers.{has_address, held_with, share}
 
 -- the addresses that are held, ascending, and the number of the last run that was followed, 0 for none

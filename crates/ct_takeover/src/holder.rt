@@ -1,7 +1,7 @@
 //! The addresses that a node holds.
 ghost use Rattle.std.specs.Prelude.{◌≡◌, ◌≤◌, true, IfOk, OnOk, OnErr, length, option_map};
-ghost use Rattle.ct_bytes.specs.Address.{same_address};
-ghost use Rattle.ct_frame.specs.Fields.{address_before, ascends, assigned_before};
+ghost use Rattle.ct_bytes.specs.Address.{same_address, address_before};
+ghost use Rattle.ct_frame.specs.Fields.{ascends, assigned_before};
 ghost use Rattle.ct_rules_node.specs.Takeovers.{has_address, held_with};
 ghost use Rattle.ct_takeover.specs.Held.{after_install, after_release, after_take, before, held_with_all, holds_nothing, kept, left_out, released, taken};
 
@@ -23,7 +23,7 @@ pub struct Holder {
 
 impl Model for Holder {
     ghost use Rattle.std.specs.Prelude.{◌≡◌, true};
-    ghost use Rattle.ct_frame.specs.Fields.{address_before, ascends};
+    ghost use Rattle.ct_frame.specs.Fields.{ascends};
     ghost use Rattle.ct_takeover.specs.Held.{Holding};
 
     ghost Value = { Holding };
