@@ -6,7 +6,8 @@ use Rattle.ct_msg.specs.declared.config.Config.{Config}
 use Rattle.ct_frame.specs.declared.event.Out.{Out}
 use Rattle.ct_frame.specs.declared.frame.Frame.{Frame}
 use Rattle.ct_call.specs.Rules.{Rules}
-use Rattle.ct_rules_node.specs.Node.{Node, Database, Committing, untouched, or_untouched, is_persistent, kind_at, name_of, db_at}
+use Rattle.ct_msg.specs.declared.config.DbDecl.{DbDecl}
+use Rattle.ct_rules_node.specs.Node.{Node, Database, Committing, untouched, or_untouched, is_persistent, has_records, kind_at, kind_in, name_of, db_at}
 use Rattle.ct_cluster.specs.Cluster.{Cluster}
 use Rattle.ct_cluster.specs.declared.step.PendingCall.{PendingCall}
 use Rattle.ct_register.specs.Register.{Register}

@@ -16,16 +16,15 @@ use Rattle.ct_law_node.proofs.Calling.{own_pending}
 use Rattle.ct_law_record.proofs.MarkLists.{marks_go}
 use Rattle.ct_law_record.proofs.MarkedRun.{marks_of}
 use Rattle.ct_law_shown.specs.Shown.{mails, labels_of}
-use Rattle.ct_msg.specs.declared.client.Answer.{Answer}
 use Rattle.ct_msg.specs.declared.client.ClientOp.{ClientOp}
 use Rattle.ct_msg.specs.declared.config.Config.{Config}
 use Rattle.ct_promise.specs.Generation.{record_labels}
 use Rattle.ct_promise.specs.Marked.{is_removal, is_removed}
-use Rattle.ct_register.specs.Legal.{AcceptsLabels, AcceptsAnswer}
+use Rattle.ct_register.specs.Legal.{AcceptsLabels}
 use Rattle.ct_register.specs.Lines.{Lines}
 use Rattle.ct_register.specs.Marks.{MarksStep}
 use Rattle.ct_rules_node.specs.Turn.{Turn}
-use Rattle.std.proofs.Common.{◌≡◌, ℕ, Bool, true, false, List, [], ◌++◌, append-nil, refl, sym, ap, ◌∙◌, subst, ◌+◌, cond, ◌∷◌}
+use Rattle.std.proofs.Common.{◌≡◌, ℕ, Bool, true, false, List, [], ◌++◌, append-nil, refl, sym, ap, ◌∙◌, subst, cond, ◌∷◌}
 use Rattle.std.specs.List.{AllByRecursion}
 use Rattle.ct_law_world.specs.Marked as law_marked
 use Rattle.ct_law_lead.proofs.Leading.{later_none}
@@ -34,7 +33,6 @@ use Rattle.ct_rules_node.specs.Turn.{does}
 use Rattle.ct_rules_node.specs.Turn.{begins}
 use Rattle.std.proofs.Common.{inl}
 use Rattle.ct_msg.specs.declared.client.Why.{Why}
-use Rattle.ct_msg.specs.declared.client.Why.TheVariants as why
 use Rattle.ct_promise.specs.Generation.{speaks_of_records}
 use Rattle.ct_rules_node.specs.Turn.{makes, answers}
 use Rattle.ct_law_shown.specs.Shown.{is_telling}

@@ -1,5 +1,5 @@
 -- What a client does at a node that freezes, under a lock, as a whole turn.
-use Rattle.std.proofs.Common.{◌≡◌, ◌≢◌, ℕ, ◌+◌, ◌≤◌, Bool, true, false, cond, ◌||◌, List, [], ◌∷◌, ◌++◌, length, Option, None, Some, append-nil, ⊎_elim, refl, sym, ap, ◌∙◌, subst, arith}
+use Rattle.std.proofs.Common.{◌≡◌, ◌≢◌, ℕ, Bool, true, false, cond, ◌||◌, List, [], ◌∷◌, ◌++◌, length, Option, None, Some, append-nil, ⊎_elim, refl, sym, ap, ◌∙◌, subst, arith}
 use Rattle.std.specs.List.{AllByRecursion}
 use Rattle.std.proofs.lemmas.Bool.{cases_eq, eq-eqb, or_right, cases_Bool}
 use Rattle.ct_msg.specs.declared.config.Config.{Config}
@@ -46,7 +46,6 @@ use Rattle.ct_rules_node.specs.Node.{is_present}
 use Rattle.ct_law_line.proofs.Lives.{Replied}
 use Rattle.ct_law_freeze.proofs.Turning.{sent_still}
 use Rattle.std.specs.Prelude.{◌⊎◌, nat_eq, nat_lt, is_some}
-use Rattle.std.proofs.lemmas.Bool.{ne_eqb}
 use Rattle.ct_frame.specs.declared.frame.TableRow.{TableRow}
 use Rattle.ct_rules_node.specs.Rounds.{row_of}
 use Rattle.ct_msg.specs.declared.client.Answer.{Answer}
@@ -59,7 +58,6 @@ use Rattle.ct_register.specs.Legal.{AtRecord, AcceptsAnswer}
 use Rattle.ct_cluster.specs.Labels.{Answered}
 use Rattle.ct_law_shown.specs.Waiting.{answered}
 use Rattle.ct_promise.specs.Marked.{is_removal}
-use Rattle.ct_law_cluster.proofs.Counting.{with_caller}
 use Rattle.ct_law_node.proofs.Calling.{own_pending}
 use Rattle.ct_law_freeze.proofs.Turning.{Rest_after}
 use Rattle.ct_law_held.proofs.Holding

@@ -22,17 +22,16 @@ use Rattle.ct_law_line.proofs.Faces.{Turned}
 use Rattle.ct_rules_node.specs.Node.{Nothing, is_present}
 use Rattle.std.specs.Prelude.{nat_lt}
 use Rattle.ct_rules_node.specs.Node.{Freezes, Pulls, Installs, Completed}
-use Rattle.ct_rules_node.specs.Turn.{does, posts, posts_all, with_lead}
+use Rattle.ct_rules_node.specs.Turn.{does, posts, posts_all}
 use Rattle.ct_law_lead.proofs.Leading.{Led, lead_turned}
 use Rattle.ct_frame.specs.declared.round.PushBody.{PushBody}
-use Rattle.ct_law_lead.proofs.Rounding.{Says_round, sends, sends_led, leads_still, idle_led}
+use Rattle.ct_law_lead.proofs.Rounding.{Says_round, sends, sends_led, leads_still}
 use Rattle.ct_bytes.specs.declared.address.Address.{Address}
 use Rattle.ct_frame.specs.declared.frame.Assigned.{Assigned}
 use Rattle.ct_rules_node.specs.Node.{Takeover, Run, NoRun, Releasing, Taking, is_present_in}
-use Rattle.ct_rules_node.specs.Rounds.{push_of, begin_round}
+use Rattle.ct_rules_node.specs.Rounds.{push_of}
 use Rattle.ct_rules_node.specs.Takeovers.{send_releases, assigned_in}
 use Rattle.ct_rules_node.specs.Retries.{retry, retry_records, retry_lead, retry_run}
-use Rattle.ct_rules_node.specs.Turn.{makes}
 use Rattle.ct_law_lead.proofs.Arriving.{to_all, posts_outs, posts_node, all_say, pull_asks, thaw_says}
 
 -- from one middle of a turn to another these messages of rounds are sent, each of which says what is so, and the node stays
