@@ -1,0 +1,44 @@
+-- The frames that a piece completes, one after the other.
+use Rattle.std.proofs.Common.{◌≡◌, ℕ, suc, List, [], ◌∷◌, ◌++◌, length, refl, sym, subst, append_assoc, Bor}
+use Rattle.std.proofs.lemmas.List.{append-nil}
+use Rattle.ct_frame.specs.declared.frame.Frame.{Frame}
+use Rattle.ct_wire.specs.declared.decode.Event.{Event}
+use Rattle.ct_wire.specs.declared.decode.Event.TheVariants as event
+use Rattle.ct_wire.specs.declared.decode.Progress.{Progress}
+use Rattle.ct_wire.specs.declared.decode.Spot.{Spot}
+use Rattle.ct_wire.specs.Cursor.{start}
+use Rattle.ct_wire.specs.declared.decode.Progress.TheVariants as progress
+use Rattle.ct_wire.specs.declared.decode.WireFault.TheVariants as fault
+use Rattle.ct_wire.specs.Decoding.{End, eaten, Closes, Completes, Finds}
+
+-- the bytes that are still to be read
+abbrev pub to_read : Event → ℕ
+to_read (event.Ends f n rest) = suc (length rest.now)
+to_read _ = 0
+
+-- the frames so far, and those that this end still completes, are those of the first
+abbrev pub GoesOn : End → List Frame → End → Type 0
+GoesOn first so_far e = (fs : List Frame) (p : Progress) → Completes e fs p → Completes first (so_far ++ fs) p
+
+pub goes_on_first : (e : End) → GoesOn e [] e
+goes_on_first e fs p done = done
+
+pub goes_on_next : (first : End) (so_far : List Frame) (f : Frame) (n : ℕ) (rest : List ℕ) → GoesOn first so_far (End.Ends f n rest) → GoesOn first (so_far ++ f ∷ []) (eaten start [] rest)
+goes_on_next first so_far f n rest on fs p done =
+    subst (λ (gs : List Frame). Completes first gs p) (sym (append_assoc so_far (f ∷ []) fs)) (on (f ∷ fs) p (refl, done))
+
+pub goes_on_last : (first : End) (so_far : List Frame) (e : End) (p : Progress) → GoesOn first so_far e → Completes e [] p → Completes first so_far p
+goes_on_last first so_far e p on done = subst (λ (gs : List Frame). Completes first gs p) (append-nil so_far) (on [] p done)
+
+pub finds_ends : (v : Event) (f : Frame) (n : ℕ) (rest : Bor (List ℕ)) (e : End) → v ≡ event.Ends f n rest → Finds v e → e ≡ End.Ends f n rest.now
+finds_ends v f n rest e is finds = subst (λ (x : Event). Finds x e) is finds
+
+pub finds_waits : (v : Event) (s : Spot) (e : End) → v ≡ event.Waits s → Finds v e → Closes e (progress.Amid s)
+finds_waits v s e is finds =
+    let found : Finds (event.Waits s) e = subst (λ (x : Event). Finds x e) is finds in
+    subst (λ (x : End). Closes x (progress.Amid s)) (sym found.0) refl
+
+pub finds_breaks : (v : Event) (offset : ℕ) (e : End) → v ≡ event.Breaks offset → Finds v e → Closes e (progress.Failed (fault.Malformed offset))
+finds_breaks v offset e is finds =
+    let found : Finds (event.Breaks offset) e = subst (λ (x : Event). Finds x e) is finds in
+    subst (λ (x : End). Closes x (progress.Failed (fault.Malformed offset))) (sym found) refl

@@ -1,0 +1,3 @@
+pub mod Eaten
+mod Frames
+mod Lists
