@@ -261,7 +261,7 @@ unfolding want_again
 want_again_wish P rules at o h = again_wish P rules at o o.state.wish refl h h
 
 again_called_wish : (P : ℕ → ClientOp → Type 0) (at : Place) (o : Moving) (w : Option Wish) → Wishful P o.state.wish → Wishful P (call_again_of at o w).state.wish
-unfolding call_again_of send acts
+unfolding call_again_of send performs
 again_called_wish P at o None h = h
 again_called_wish P at o (Some w) h = grind (arith, h)
 
