@@ -49,9 +49,9 @@ ends_stage stage n l = is_stage stage l.stage && is_last n l.missing
 abbrev pub struck_off : Stage → ℕ → Leading → Leading → Leading
 struck_off stage n next l = if is_stage stage l.stage then (if is_last n l.missing then next else record l { missing = others n l.missing }) else l
 
--- FreezeAck: once all are frozen, they are asked for what they hold
+-- FreezeAck: once all are frozen, they are asked for what they hold, and nothing is gathered yet
 abbrev pub after_freezeack : ℕ → Leading → Leading
-after_freezeack n l = struck_off Freezing n (record l { stage = Pulling; missing = l.members }) l
+after_freezeack n l = struck_off Freezing n (record l { stage = Pulling; missing = l.members; gathered = nothing }) l
 
 -- PullReply: with the last one all are to install what is made of it
 abbrev pub installs : Leading → Leading

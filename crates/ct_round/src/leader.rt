@@ -136,6 +136,7 @@ impl Leader {
             return false;
         }
         self.members.ask_again();
+        self.merging = Merging::new(self.alloc);
         self.stage = Stage::Pulling;
         true
     }
