@@ -23,6 +23,7 @@ pub struct Holder {
 
 impl Model for Holder {
     ghost use Rattle.std.specs.Prelude.{◌≡◌, true};
+    ghost use Rattle.ct_bytes.specs.Address.{address_before};
     ghost use Rattle.ct_frame.specs.Fields.{ascends};
     ghost use Rattle.ct_takeover.specs.Held.{Holding};
 
