@@ -3,7 +3,7 @@ use Rattle.std.proofs.Common.{◌≡◌, ◌≢◌, ℕ, Bool, true, false, cond
 use Rattle.std.specs.Prelude.{nat_eq, nat_lt}
 use Rattle.ct_bytes.specs.Words.{others}
 use Rattle.std.specs.Option.{option_map}
-use Rattle.std.proofs.lemmas.Bool.{cases_eq, ne_eqb, eq-eqb}
+use Rattle.std.proofs.lemmas.Bool.{cases_eq, ne_eqb, eq-eqb, cases_Bool}
 use Rattle.ct_msg.specs.declared.config.Config.{Config}
 use Rattle.ct_frame.specs.declared.event.Event.TheVariants as event
 use Rattle.ct_frame.specs.declared.frame.Frame.{Frame}
@@ -29,7 +29,6 @@ use Rattle.ct_register.specs.Marks.{IsCopyAt, value_at}
 use Rattle.ct_register.specs.Register.{Register, reading}
 use Rattle.ct_promise.specs.Marked.{AllMarks}
 use Rattle.ct_law_record.proofs.MarkedRun
-use Rattle.ct_law_shown.proofs.Weave.{true_or_false}
 use Rattle.ct_law_line.proofs.Lives.{Lives, LeadSays, IsTicket, IsGatheredOf}
 use Rattle.ct_law_line.proofs.Best.{best_is_copy}
 use Rattle.ct_law_line.proofs.Begotten.{parent, parent_is, in_order, told_is, born_parent, no_row, copies, all_heirs}
@@ -126,7 +125,7 @@ module _ (c : Config) (rules : Rules) (w : Cluster) (r : Lines) (h : Lives c rul
   there = ⊎_elim
       (λ (t : nat_lt n c.nodes ≡ true). t)
       (λ (e : nat_lt n c.nodes ≡ false). absurd (let z : Nothing ≡ Pulls f.generation members k.missing k.before = sym (ap (λ (x : Node). x.lead) (beyond c rules w r h n e) ∙ absent_leads) ∙ k.leads in cc))
-      (true_or_false (nat_lt n c.nodes))
+      (cases_Bool (nat_lt n c.nodes))
 
   says : IsTicket c r f.generation n members × (r.born f.generation ≡ false) × IsGatheredOf w n f.generation members k.missing k.before
   unfolding LeadSays
