@@ -18,6 +18,7 @@ use Rattle.ct_rules_node.specs.Records.{at_record, acted, put_back, place_of, vi
 use Rattle.ct_rules_node.specs.Clients.{is_commit}
 use Rattle.ct_rules_node.specs.Laws.{NodeAscends, left_by, unless_blank}
 use Rattle.ct_rules_node.proofs.AtRecord.{moves_at, at_set, at_other, set_past}
+use Rattle.ct_law_node.proofs.Forming.{or_second}
 use Rattle.ct_law_cluster.proofs.Vacuumed.{past_db}
 use Rattle.ct_law_shown.specs.Shown.{is_it}
 use Rattle.ct_law_shown.proofs.Weave.{it_is, it_is_itself}
@@ -258,7 +259,7 @@ with_at_place n call o who db key x fresh no_commit of_db of_key s = record {
   mine = λ k asked is e. ⊎_elim
       (λ (t : nat_eq k call ≡ true). (let same : o ≡ asked = same_asked (own_call call (n, o) who) (ap (with_call call (n, o) who) (sym (eqb-true k call t)) ∙ e) in
       (ap is_commit (sym same) ∙ no_commit, ap db_of (sym same) ∙ of_db, ap key_of (sym same) ∙ of_key)))
-      (λ (f : nat_eq k call ≡ false). asked_mine n who db key (state_at db key x).wish (s.wishes db key) k asked (or_right (nat_eq k call) _ f is) (sym (other_call call k (n, o) who (not_same k call f)) ∙ e))
+      (λ (f : nat_eq k call ≡ false). asked_mine n who db key (state_at db key x).wish (s.wishes db key) k asked (or_second (nat_eq k call) _ f is) (sym (other_call call k (n, o) who (not_same k call f)) ∙ e))
       (cases_Bool (nat_eq k call));
   more = λ k v e. other_call call k (n, o) who (none_other who call k v fresh e) ∙ e;
   others = λ k v no e. sym (other_call call k (n, o) who (not_same k call (or_parts (nat_eq k call) _ no).0)) ∙ e;
