@@ -80,7 +80,7 @@ module _ (c : Config) (rules : Rules) (w : Cluster) (r : Lines) (h : Lives c rul
   pub all_drawn : (db : ℕ) (key : List ℕ) → AreDrawn (λ n. (node_at n w).next) (λ n. (state_at db key (node_at n w)).wish)
   all_drawn db key = record {
     some = λ n. ⊎_elim
-        (λ (there : nat_lt n c.nodes ≡ true). ((h.nodes n there).formed db key).from_one)
+        (λ (there : nat_lt n c.nodes ≡ true). ((h.nodes n there).formed db key).form.counters.from_one)
         (λ (out : nat_lt n c.nodes ≡ false). (let e = ap (λ (x : Node). x.next) (beyond n out) in let f = absent_next in omega arith))
         (cases_Bool (nat_lt n c.nodes));
     above = λ n x e. ⊎_elim
