@@ -209,4 +209,4 @@ module _ (c : Config) (rules : Rules) (w : Cluster) (r : Lines) (h : Lives c rul
 
   pub formed : (db : ℕ) (key : List ℕ) → Is_formed (s db key) n (view db key y)
   formed db key = (let k = own.formed db key in
-      subst (λ (v : View). Is_formed (s db key) n v) (sym (view_is db key)) (begun_formed (s db key) (row_in a g db key) n x.next (state_at db key x).wish (rows_low db key) k.from_one k.next_limit k.form.shape.wish_wants k.form.numbers.wish_limit))
+      subst (λ (v : View). Is_formed (s db key) n v) (sym (view_is db key)) (begun_formed (s db key) (row_in a g db key) n x.next (state_at db key x).wish (rows_low db key) k.form.counters.from_one k.form.counters.next_limit k.form.shape.wish_wants k.form.numbers.wish_limit))
