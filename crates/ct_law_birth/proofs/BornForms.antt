@@ -6,7 +6,7 @@ use Rattle.ct_msg.specs.declared.config.Config.{Config}
 use Rattle.ct_frame.specs.declared.frame.TableRow.{TableRow}
 use Rattle.ct_frame.specs.declared.header.RecCopy.{RecCopy}
 use Rattle.ct_call.specs.Rules.{Rules}
-use Rattle.ct_rules.specs.Form.{HasCounters, IsInForm, least_of, sent_for, wished_as, wishes_record, revoked_rsn, vacuumed_rsn}
+use Rattle.ct_law_rules.specs.Form.{HasCounters, IsInForm, least_of, sent_for, wished_as, wishes_record, revoked_rsn, vacuumed_rsn}
 use Rattle.ct_rules.specs.State.{nothing_kept, rsn_of, is_quiet}
 use Rattle.ct_rules.specs.declared.event.Place.{Place}
 use Rattle.ct_rules.specs.declared.state.Entry.{Entry}

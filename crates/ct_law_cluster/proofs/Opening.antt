@@ -7,7 +7,7 @@ use Rattle.ct_msg.specs.declared.config.Config.{Config}
 use Rattle.ct_call.specs.Rules.{Rules}
 use Rattle.ct_store.specs.Map.{look}
 use Rattle.ct_rules.specs.State.{nothing_kept}
-use Rattle.ct_rules.proofs.Events.{in_form_at_start}
+use Rattle.ct_law_rules.proofs.Events.{in_form_at_start}
 use Rattle.ct_rules_node.specs.Node as node
 use Rattle.ct_rules_node.specs.Node.{Node, Database, is_among}
 use Rattle.ct_rules_node.proofs.Starting.{starts_in_order}

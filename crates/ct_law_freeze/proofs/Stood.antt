@@ -9,7 +9,7 @@ use Rattle.ct_frame.specs.declared.header.RecCopy.{RecCopy}
 use Rattle.ct_call.specs.Rules.{Rules}
 use Rattle.ct_rules.specs.declared.state.RecState.{RecState}
 use Rattle.ct_rules.specs.State.{is_quiet}
-use Rattle.ct_rules.specs.Form.{least_of, sent_for, revoked_rsn, vacuumed_rsn}
+use Rattle.ct_law_rules.specs.Form.{least_of, sent_for, revoked_rsn, vacuumed_rsn}
 use Rattle.ct_rules_node.specs.Node.{Node, Phase, Idle, Serving, Installed, Freezing, Frozen, Committing, Lead, Nothing, Freezes, Pulls, Installs, Completed, is_present, name_of, db_at, state_at}
 use Rattle.ct_rules_node.specs.Rounds.{frozen_state, lead_from, row_of}
 use Rattle.ct_cluster.specs.Cluster.{Cluster}

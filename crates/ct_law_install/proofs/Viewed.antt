@@ -13,7 +13,7 @@ use Rattle.ct_frame.specs.declared.frame.TableRow.{TableRow}
 use Rattle.ct_call.specs.Rules.{Rules}
 use Rattle.ct_merge.specs.Held.{is_row_at}
 use Rattle.ct_store.specs.Map.{Ascends, look}
-use Rattle.ct_rules.specs.Form.{wished_as, least_of, sent_for, wishes_record}
+use Rattle.ct_law_rules.specs.Form.{wished_as, least_of, sent_for, wishes_record}
 use Rattle.ct_rules.specs.State.{nothing_kept, rsn_of}
 use Rattle.ct_rules.specs.declared.state.Entry.{Entry}
 use Rattle.ct_rules.specs.declared.state.RecState.{RecState}

@@ -13,7 +13,7 @@ use Rattle.ct_merge.specs.Gathered.{Gathered}
 use Rattle.ct_merge.specs.Rule.{row_at}
 use Rattle.ct_rules.specs.State.{nothing_kept}
 use Rattle.ct_rules.specs.declared.state.RecState.{RecState}
-use Rattle.ct_rules.proofs.Events.{in_form_at_start}
+use Rattle.ct_law_rules.proofs.Events.{in_form_at_start}
 use Rattle.ct_rules_node.specs.Node as node
 use Rattle.ct_rules_node.specs.Node.{Node, Phase, Idle, Serving, Installed, Freezing, Frozen, Lead, Nothing, Freezes, Pulls, Installs, Completed, master_of, is_among, kind_at, is_readonly, db_at, state_at}
 use Rattle.ct_rules_node.specs.Rounds.{row_of}

@@ -8,8 +8,8 @@ use Rattle.ct_msg.specs.declared.client.ClientOp.TheVariants as op
 use Rattle.ct_msg.specs.declared.config.Config.{Config}
 use Rattle.ct_frame.specs.Fields.{is_db}
 use Rattle.ct_call.specs.Rules.{Rules}
-use Rattle.ct_rules.specs.Form.{MayCome}
-use Rattle.ct_rules.specs.Sent.{is_from_node}
+use Rattle.ct_law_rules.specs.Form.{MayCome}
+use Rattle.ct_law_rules.specs.Sent.{is_from_node}
 use Rattle.ct_rules.specs.Moves.{move, store, unlock}
 use Rattle.ct_rules.specs.Parts.{want}
 use Rattle.ct_rules.specs.declared.event.MoveEvent.{MoveEvent}

@@ -8,14 +8,14 @@ use Rattle.ct_msg.specs.declared.client.ClientOp.{ClientOp}
 use Rattle.ct_msg.specs.declared.config.Config.{Config}
 use Rattle.ct_frame.specs.Fields.{ascends, is_db, is_node}
 use Rattle.ct_call.specs.Rules.{Rules}
-use Rattle.ct_rules.specs.Form.{MayCome}
-use Rattle.ct_rules.specs.Sent.{is_from_node}
+use Rattle.ct_law_rules.specs.Form.{MayCome}
+use Rattle.ct_law_rules.specs.Sent.{is_from_node}
 use Rattle.ct_rules.specs.Moves.{move}
 use Rattle.ct_rules.specs.Parts.{Moving}
 use Rattle.ct_rules.specs.declared.event.MoveEvent.{MoveEvent}
 use Rattle.ct_rules.specs.declared.event.Place.{Place}
 use Rattle.ct_rules.specs.declared.state.Wish.{Wish}
-use Rattle.ct_rules.proofs.Growing.{move_grows}
+use Rattle.ct_law_rules.proofs.Growing.{move_grows}
 use Rattle.ct_rules_node.specs.Node.{state_at, is_among}
 use Rattle.ct_rules_node.specs.Turn.{Turn}
 use Rattle.ct_rules_node.specs.Records as node

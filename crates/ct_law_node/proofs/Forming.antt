@@ -6,9 +6,9 @@ use Rattle.std.proofs.lemmas.Bool.{and_parts}
 use Rattle.ct_frame.specs.Fields.{is_db, is_node, is_message}
 use Rattle.ct_frame.specs.declared.frame.Msg.{Msg}
 use Rattle.ct_msg.specs.declared.client.ClientOp.{ClientOp}
-use Rattle.ct_rules.specs.Form.{IsInForm, MayCome, is_of_record}
-use Rattle.ct_rules.specs.Laws.{TracksAsHolder}
-use Rattle.ct_rules.specs.Sent.{is_well_formed, waits_for_nodes, is_from_node}
+use Rattle.ct_law_rules.specs.Form.{IsInForm, MayCome, is_of_record}
+use Rattle.ct_law_rules.specs.Laws.{TracksAsHolder}
+use Rattle.ct_law_rules.specs.Sent.{is_well_formed, waits_for_nodes, is_from_node}
 use Rattle.ct_rules.specs.Moves.{move, unless_spent}
 use Rattle.ct_rules.specs.Parts.{Moving}
 use Rattle.ct_rules.specs.declared.event.Act.{Act}
@@ -16,9 +16,9 @@ use Rattle.ct_rules.specs.declared.event.Act.TheVariants as act
 use Rattle.ct_rules.specs.declared.event.MoveEvent.{MoveEvent}
 use Rattle.ct_rules.specs.declared.event.MoveEvent.TheVariants as event
 use Rattle.ct_rules.specs.declared.event.Place.{Place}
-use Rattle.ct_rules.proofs.Events.{form_kept, form_under}
-use Rattle.ct_rules.proofs.Tracking.{holder_tracks}
-use Rattle.ct_rules.proofs.SentEvents.{what_is_sent}
+use Rattle.ct_law_rules.proofs.Events.{form_kept, form_under}
+use Rattle.ct_law_rules.proofs.Tracking.{holder_tracks}
+use Rattle.ct_law_rules.proofs.SentEvents.{what_is_sent}
 use Rattle.ct_rules_node.specs.Admission.{record_in}
 use Rattle.ct_rules_node.specs.Laws.{unless_blank}
 use Rattle.ct_rules_node.specs.Node.{or_nothing}

@@ -19,7 +19,7 @@ use Rattle.std.specs.List.{AllByRecursion}
 use Rattle.std.proofs.lemmas.Bool.{cases_eq, and_parts, cases_Bool}
 use Rattle.ct_msg.specs.declared.config.Config.{Config}
 use Rattle.ct_call.specs.Rules.{Rules}
-use Rattle.ct_rules.specs.Laws.{Grows, IsFront}
+use Rattle.ct_law_rules.specs.Laws.{Grows, IsFront}
 use Rattle.ct_rules_node.specs.Node.{Database, db_at, state_at}
 use Rattle.ct_rules_node.specs.Turn.{Turn}
 use Rattle.ct_rules_node.specs.Records as node

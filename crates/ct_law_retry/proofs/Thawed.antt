@@ -10,7 +10,7 @@ use Rattle.ct_frame.specs.declared.event.Note.TheVariants as note
 use Rattle.ct_frame.specs.declared.event.Out.{Out}
 use Rattle.ct_frame.specs.declared.event.Out.TheVariants as out
 use Rattle.ct_call.specs.Rules.{Rules}
-use Rattle.ct_rules.specs.Form.{wishes_record, wished_as, MayCome}
+use Rattle.ct_law_rules.specs.Form.{wishes_record, wished_as, MayCome}
 use Rattle.ct_rules.specs.Parts.{Moving, keeps}
 use Rattle.ct_rules.specs.declared.event.MoveEvent.TheVariants as event
 use Rattle.ct_rules.specs.declared.event.Place.{Place}

@@ -8,7 +8,7 @@ use Rattle.ct_frame.specs.declared.event.Out.{Out}
 use Rattle.ct_call.specs.Rules.{Rules}
 use Rattle.ct_store.specs.Map.{look}
 use Rattle.ct_rules.specs.Messages.{greater}
-use Rattle.ct_rules.specs.Laws.{Grows}
+use Rattle.ct_law_rules.specs.Laws.{Grows}
 use Rattle.ct_rules.specs.Moves.{begins}
 use Rattle.ct_rules.specs.Parts.{Moving}
 use Rattle.ct_rules.specs.declared.event.Place.{Place}

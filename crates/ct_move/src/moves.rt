@@ -5,7 +5,7 @@ ghost use Rattle.std.specs.List.Sorted.{IsStrictlyIncreasing};
 ghost use Rattle.ct_frame.specs.Fields.{is_message};
 ghost use Rattle.ct_bytes.specs.Words.{is_nil};
 ghost use Rattle.ct_rules.specs.State.{rsn_of, value_of};
-ghost use Rattle.ct_rules.specs.Form.{MayCome};
+ghost use Rattle.ct_law_rules.specs.Form.{MayCome};
 ghost use Rattle.ct_rules.specs.Moves.{store, release, unlock, is_vacuumed, phase_message, begin_vacuum, vacuum_at_home, vacuum, call_again, revoke_again, arrive, move};
 
 use crate::messages::{

@@ -12,7 +12,7 @@ use Rattle.ct_msg.specs.Client.{wants_record}
 use Rattle.ct_msg.specs.declared.config.DbKind.TheVariants.{Volatile}
 use Rattle.ct_frame.specs.declared.frame.TableRow.{TableRow}
 use Rattle.ct_store.specs.Map.{look, Ascends}
-use Rattle.ct_rules.specs.Form
+use Rattle.ct_law_rules.specs.Form
 use Rattle.ct_rules.specs.declared.state.RecState.{RecState}
 use Rattle.ct_rules_node.specs.Admission.{record_in}
 use Rattle.ct_rules_node.specs.Node as node

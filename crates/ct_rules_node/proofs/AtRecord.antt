@@ -10,8 +10,8 @@ use Rattle.ct_deleg.specs.Tracked.{Tracked, untracked}
 use Rattle.ct_frame.specs.declared.header.RecCopy.{RecCopy}
 use Rattle.ct_store.specs.Map.{Ascends, look}
 use Rattle.ct_store.proofs.Maps.{empty_ascends}
-use Rattle.ct_rules.specs.Form.{IsInForm}
-use Rattle.ct_rules.specs.Laws.{TracksAsHolder}
+use Rattle.ct_law_rules.specs.Form.{IsInForm}
+use Rattle.ct_law_rules.specs.Laws.{TracksAsHolder}
 use Rattle.ct_rules.specs.Parts.{Moving}
 use Rattle.ct_rules.specs.State.{is_mastered, is_quiet, is_blank}
 use Rattle.ct_rules.specs.declared.event.Place.{Place}

@@ -19,9 +19,9 @@ use Rattle.ct_frame.specs.declared.round.Pull.{Pull}
 use Rattle.ct_frame.specs.declared.round.PushBody.{PushBody}
 use Rattle.ct_merge.specs.Gathered.{Gathered}
 use Rattle.ct_store.specs.Map.{Ascends}
-use Rattle.ct_rules.specs.Form.{is_of_record}
-use Rattle.ct_rules.specs.Laws.{IsFront}
-use Rattle.ct_rules.proofs.Growing.{front_same, front_more}
+use Rattle.ct_law_rules.specs.Form.{is_of_record}
+use Rattle.ct_law_rules.specs.Laws.{IsFront}
+use Rattle.ct_law_rules.proofs.Growing.{front_same, front_more}
 use Rattle.ct_rules_node.specs.Node.{Node, Database, Phase, Committing, Lead, Nothing, Freezes, Pulls, Installs, Completed, Takeover, Run, NoRun, Releasing, Taking, with_db, db_at, is_frozen_in, is_present_in}
 use Rattle.ct_rules_node.specs.Turn.{Turn, does, with_node, with_lead, with_phase, makes, answers, notes, posts, posts_all}
 use Rattle.ct_rules_node.specs.Records.{with_state}

@@ -17,13 +17,13 @@ use Rattle.ct_deleg.specs.Tracked.{Revocation}
 use Rattle.ct_store.specs.Map.{Pairs}
 use Rattle.ct_rules.specs.Parts.{Moving, performs, send, send_all, reply, keeps, want}
 use Rattle.ct_rules.specs.Moves.{release, call_again_of, call_again, revoke_again_of, revoke_again}
-use Rattle.ct_rules.specs.Laws.{Grows}
+use Rattle.ct_law_rules.specs.Laws.{Grows}
 use Rattle.ct_rules.specs.declared.event.Act.{Act}
 use Rattle.ct_rules.specs.declared.event.MoveEvent.TheVariants as move_event
 use Rattle.ct_rules.specs.declared.event.Place.{Place}
 use Rattle.ct_rules.specs.declared.state.RecState.{RecState}
 use Rattle.ct_rules.specs.declared.state.Wish.{Wish}
-use Rattle.ct_rules.proofs.Growing.{front_same, front_more, front_after, grows_same, release_grows, call_again_grows, revoke_again_grows, move_grows}
+use Rattle.ct_law_rules.proofs.Growing.{front_same, front_more, front_after, grows_same, release_grows, call_again_grows, revoke_again_grows, move_grows}
 use Rattle.ct_rules_node.specs.Node.{Database, Phase, Idle, Serving, Installed, Freezing, Frozen, with_db}
 use Rattle.ct_rules_node.specs.Turn.{Turn}
 use Rattle.ct_rules_node.specs.Records.{out_of, put_back, acted, at_record, place_of, view}

@@ -19,8 +19,8 @@ use Rattle.ct_call.specs.Rules.{Rules}
 use Rattle.ct_deleg.specs.Tracked.{untracked}
 use Rattle.ct_merge.specs.Rule.{row_at}
 use Rattle.ct_store.specs.Map.{Pairs, Ascends, look}
-use Rattle.ct_rules.specs.Form.{IsInForm, is_of_record}
-use Rattle.ct_rules.specs.Laws.{TracksAsHolder, IsFront}
+use Rattle.ct_law_rules.specs.Form.{IsInForm, is_of_record}
+use Rattle.ct_law_rules.specs.Laws.{TracksAsHolder, IsFront}
 use Rattle.ct_rules.specs.Parts.{Moving}
 use Rattle.ct_rules.specs.State.{is_blank, is_mastered}
 use Rattle.ct_rules.specs.declared.event.Place.{Place}

@@ -13,13 +13,13 @@ use Rattle.ct_frame.specs.declared.frame.CallKind.TheVariants as kind
 use Rattle.ct_rules.specs.State.{a_copy, rsn_of, is_mastered, is_quiet, is_free, is_wished}
 use Rattle.ct_rules.specs.Parts.{Moving, performs, send, reply, keeps, reaches, opened, end_vacuum, keep}
 use Rattle.ct_rules.specs.Messages.{enqueue, on_call_of, called, on_call, wait, handle, recalled, on_recall, hand_on, on_give_of, on_give, satisfy_wish, becomes, accept, refuse, on_pass, on_refuse_of, on_refuse, read_granted, on_grant, on_done_of, on_done, called_in, acknowledge, renew, on_revoke_of, on_revoke, acknowledged, on_revokeack, stored_copy, deleted_copy, on_vstore, on_vdelete, finish, greater, on_vstored_of, on_vstored, on_vdeleted_of, on_vdeleted}
-use Rattle.ct_rules.specs.Form.{least_of, sent_for, revoked_rsn, vacuumed_rsn, wished_as, wishes_record, is_asked, is_recalled}
+use Rattle.ct_law_rules.specs.Form.{least_of, sent_for, revoked_rsn, vacuumed_rsn, wished_as, wishes_record, is_asked, is_recalled}
 use Rattle.ct_rules.specs.declared.event.Place.{Place}
 use Rattle.ct_rules.specs.declared.state.RecallNote.{RecallNote}
 use Rattle.ct_rules.specs.declared.state.Entry.{Entry}
 use Rattle.ct_rules.specs.declared.state.Waiter.{Waiter}
 use Rattle.ct_rules.specs.declared.state.Wish.{Wish}
-use Rattle.ct_rules.proofs.Formed.{Formed, send_formed, send_all_formed, next_formed, pass_again_formed, opened_formed, end_vacuum_formed, waiting_formed, if_formed, handle_formed, granted_formed, waiting_of, drained_formed, satisfied_formed, end_revocation_formed}
+use Rattle.ct_law_rules.proofs.Formed.{Formed, send_formed, send_all_formed, next_formed, pass_again_formed, opened_formed, end_vacuum_formed, waiting_formed, if_formed, handle_formed, granted_formed, waiting_of, drained_formed, satisfied_formed, end_revocation_formed}
 use Rattle.ct_deleg.specs.Tracked.{ends}
 use Rattle.ct_vacuum.specs.Vacuum.{Vacuuming, stored, deleted}
 

@@ -2,7 +2,7 @@
 use Rattle.std.proofs.Common.{refl}
 use Rattle.ct_frame.specs.declared.frame.Msg.TheVariants as msg
 use Rattle.ct_rules.specs.Moves.{arrive}
-use Rattle.ct_rules.specs.Laws.{readdressed, ReadsNoNames}
+use Rattle.ct_law_rules.specs.Laws.{readdressed, ReadsNoNames}
 
 pub names_unread : ReadsNoNames
 unfolding readdressed arrive

@@ -21,8 +21,8 @@ use Rattle.ct_vacuum.specs.Vacuum.{Vacuuming}
 use Rattle.ct_rules.specs.State.{rsn_of, given, with_flags, with_value, risen, value_of}
 use Rattle.ct_rules.specs.Parts.{Moving, performs, send, send_all, reply, keeps, reaches, end_vacuum, give, applies, satisfy, revoke, read_here, delegate, grant, yield_record, drain, drained, satisfy_own, raise, end_revocation}
 use Rattle.ct_rules.specs.Messages.{satisfy_wish}
-use Rattle.ct_rules.specs.Form.{least_of, sent_for, revoked_rsn, vacuumed_rsn, wished_as, is_asked, is_recalled}
-use Rattle.ct_rules.specs.Sent.{is_well_formed, is_of_node, is_for_node}
+use Rattle.ct_law_rules.specs.Form.{least_of, sent_for, revoked_rsn, vacuumed_rsn, wished_as, is_asked, is_recalled}
+use Rattle.ct_law_rules.specs.Sent.{is_well_formed, is_of_node, is_for_node}
 use Rattle.ct_frame.specs.Fields.{is_db, is_node, is_message, is_from_one}
 use Rattle.ct_frame.specs.declared.header.RecCopy.{RecCopy}
 use Rattle.ct_deleg.specs.Tracked.{Tracked}

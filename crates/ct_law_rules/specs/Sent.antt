@@ -5,7 +5,7 @@ use Rattle.ct_frame.specs.Fields.{is_db, is_node, is_message}
 use Rattle.ct_call.specs.Rules.{Rules}
 use Rattle.ct_rules.specs.Parts.{Moving}
 use Rattle.ct_rules.specs.Moves.{moved}
-use Rattle.ct_rules.specs.Form.{IsInForm, MayCome}
+use Rattle.ct_law_rules.specs.Form.{IsInForm, MayCome}
 use Rattle.ct_rules.specs.declared.event.Act.{Act}
 use Rattle.ct_rules.specs.declared.event.Act.TheVariants as act
 use Rattle.ct_rules.specs.declared.event.MoveEvent.{MoveEvent}

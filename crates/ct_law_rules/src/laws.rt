@@ -1,6 +1,6 @@
 //! What follows for the rules of every record.
-ghost use Rattle.ct_rules.specs.Laws.{GrowsAlone, KeepsCallsLow, KeepsForm, KeepsTracking, ReadsNoNames, StartsInForm, StartsWithLowCalls};
-ghost use Rattle.ct_rules.specs.Sent.{SendsSound};
+ghost use Rattle.ct_law_rules.specs.Laws.{GrowsAlone, KeepsCallsLow, KeepsForm, KeepsTracking, ReadsNoNames, StartsInForm, StartsWithLowCalls};
+ghost use Rattle.ct_law_rules.specs.Sent.{SendsSound};
 
 /// A state in which nothing is kept is in form at every place.
 pub fn starts_in_form()

@@ -22,8 +22,8 @@ use Rattle.ct_rules.specs.State.{rank, is_given, kind_of, a_copy, rsn_of, is_mas
 use Rattle.ct_rules.specs.Parts.{Moving, performs, send, keeps, reaches, opened, open_of, end_vacuum, next, next_of, keep, call_for, wait_for_copies, want_of, opened_at_home, want}
 use Rattle.ct_rules.specs.Messages.{pass_again, enqueue, on_call_of, called, on_call, wait, handle, recalled, on_recall, hand_on, on_give_of, on_give, becomes, accept, refuse, on_pass, on_refuse_of, on_refuse, read_granted, on_grant, on_done_of, on_done, called_in, acknowledge, renew, on_revoke_of, on_revoke, acknowledged, on_revokeack, stored_copy, deleted_copy, on_vstore, on_vdelete, finish, greater, on_vstored_of, on_vstored, on_vdeleted_of, on_vdeleted}
 use Rattle.ct_rules.specs.Moves.{store, release, unlock, phase_message, begin_vacuum, vacuum_at_home, vacuum, call_again_of, call_again, revoke_again_of, revoke_again, at_home, from_home, arrive, move, begins}
-use Rattle.ct_rules.specs.Form.{least_of, sent_for, revoked_rsn, vacuumed_rsn, wished_as, is_asked, is_recalled, MayCome, IsInForm}
-use Rattle.ct_rules.specs.Sent.{is_well_formed, is_of_node, is_for_node, waits_for_nodes, is_from_node, SendsSound}
+use Rattle.ct_law_rules.specs.Form.{least_of, sent_for, revoked_rsn, vacuumed_rsn, wished_as, is_asked, is_recalled, MayCome, IsInForm}
+use Rattle.ct_law_rules.specs.Sent.{is_well_formed, is_of_node, is_for_node, waits_for_nodes, is_from_node, SendsSound}
 use Rattle.ct_frame.specs.Fields.{is_db, is_node, is_message, is_from_one}
 use Rattle.ct_rules.specs.declared.event.MoveEvent.{MoveEvent}
 use Rattle.ct_rules.specs.declared.event.MoveEvent.TheVariants as event
@@ -33,9 +33,9 @@ use Rattle.ct_rules.specs.declared.state.RecallNote.{RecallNote}
 use Rattle.ct_rules.specs.declared.state.RecState.{RecState}
 use Rattle.ct_rules.specs.declared.state.Waiter.{Waiter}
 use Rattle.ct_rules.specs.declared.state.Wish.{Wish}
-use Rattle.ct_rules.proofs.Arriving.{stored_rsn, deleted_rsn}
-use Rattle.ct_rules.proofs.Events.{unspent_same}
-use Rattle.ct_rules.proofs.SentParts.{Sent, rsn_sound, request_sound, if_sent, performs_sent, send_sent, reply_sent, send_all_sent, db_of, copy_of, waiting_of, waiting_sent, ended_sent, give_sent, revoke_sent, yield_sent, still_sent, granted_sent, drained_sent, valued_sent, locked_sent, satisfy_sent, satisfy_wish_sent, unwished_sent, end_revocation_sent}
+use Rattle.ct_law_rules.proofs.Arriving.{stored_rsn, deleted_rsn}
+use Rattle.ct_law_rules.proofs.Events.{unspent_same}
+use Rattle.ct_law_rules.proofs.SentParts.{Sent, rsn_sound, request_sound, if_sent, performs_sent, send_sent, reply_sent, send_all_sent, db_of, copy_of, waiting_of, waiting_sent, ended_sent, give_sent, revoke_sent, yield_sent, still_sent, granted_sent, drained_sent, valued_sent, locked_sent, satisfy_sent, satisfy_wish_sent, unwished_sent, end_revocation_sent}
 
 -- ---- NEXT and KEEP
 

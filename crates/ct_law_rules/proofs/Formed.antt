@@ -14,7 +14,7 @@ use Rattle.ct_msg.specs.declared.client.ClientOp.TheVariants as op
 use Rattle.ct_rules.specs.State.{rsn_of, is_mastered, is_quiet, is_free, given, with_flags, with_value, risen}
 use Rattle.ct_rules.specs.Parts.{Moving, performs, send, send_all, reply, keeps, reaches, opened, open_of, end_vacuum, give, applies, satisfy, revoke, read_here, delegate, grant, yield_record, drain, drained, satisfy_own, raise, end_revocation, next, next_of}
 use Rattle.ct_rules.specs.Messages.{pass_again}
-use Rattle.ct_rules.specs.Form.{HasShape, least_of, sent_for, revoked_rsn, vacuumed_rsn, wished_as, wishes_record, is_recalled}
+use Rattle.ct_law_rules.specs.Form.{HasShape, least_of, sent_for, revoked_rsn, vacuumed_rsn, wished_as, wishes_record, is_recalled}
 use Rattle.ct_frame.specs.declared.header.RecCopy.{RecCopy}
 use Rattle.ct_deleg.specs.Tracked.{Tracked}
 use Rattle.ct_vacuum.specs.Vacuum.{Vacuuming}

@@ -15,7 +15,7 @@ use Rattle.ct_rules.specs.declared.state.Wish.{Wish}
 use Rattle.ct_rules.specs.Moves.{store, release, unlock, begin_vacuum, vacuum_at_home, vacuum, call_again_of, call_again, revoke_again_of, revoke_again, at_home, from_home, arrive, move}
 use Rattle.ct_rules.specs.declared.event.MoveEvent.{MoveEvent}
 use Rattle.ct_rules.specs.declared.event.MoveEvent.TheVariants as event
-use Rattle.ct_rules.specs.Laws.{IsFront, Grows}
+use Rattle.ct_law_rules.specs.Laws.{IsFront, Grows}
 use Rattle.ct_rules.specs.declared.event.Act.{Act}
 
 -- ---- what is done before stays in front

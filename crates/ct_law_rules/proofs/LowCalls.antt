@@ -19,8 +19,8 @@ use Rattle.ct_rules.specs.State.{rank, rsn_of, value_of, is_mastered, is_given, 
 use Rattle.ct_rules.specs.Parts.{Moving, performs, send, send_all, reply, keeps, reaches, opened, open_of, end_vacuum, give, applies, satisfy, revoke, read_here, delegate, grant, yield_record, drain, drained, satisfy_own, raise, end_revocation, next, next_of, keep, call_for, wait_for_copies, want_of, opened_at_home, want}
 use Rattle.ct_rules.specs.Messages.{pass_again, enqueue, on_call_of, called, on_call, wait, handle, recalled, on_recall, hand_on, on_give_of, on_give, satisfy_wish, becomes, accept, refuse, on_pass, on_refuse_of, on_refuse, read_granted, on_grant, on_done_of, on_done, acknowledge, renew, on_revoke_of, on_revoke, acknowledged, on_revokeack, on_vstore, on_vdelete, finish, on_vstored_of, on_vstored, on_vdeleted_of, on_vdeleted}
 use Rattle.ct_rules.specs.Moves.{store, release, unlock, begin_vacuum, vacuum_at_home, vacuum, call_again_of, call_again, revoke_again_of, revoke_again, at_home, from_home, arrive, move}
-use Rattle.ct_rules.specs.Form.{HasLowCalls, CallsLow, wishing_call, locking_call}
-use Rattle.ct_rules.specs.Laws.{KeepsCallsLow, StartsWithLowCalls}
+use Rattle.ct_law_rules.specs.Form.{HasLowCalls, CallsLow, wishing_call, locking_call}
+use Rattle.ct_law_rules.specs.Laws.{KeepsCallsLow, StartsWithLowCalls}
 use Rattle.ct_rules.specs.declared.event.MoveEvent.{MoveEvent}
 use Rattle.ct_rules.specs.declared.event.MoveEvent.TheVariants as event
 use Rattle.ct_rules.specs.declared.event.Place.{Place}
@@ -29,7 +29,7 @@ use Rattle.ct_rules.specs.declared.state.RecallNote.{RecallNote}
 use Rattle.ct_rules.specs.declared.state.RecState.{RecState}
 use Rattle.ct_rules.specs.declared.state.Waiter.{Waiter}
 use Rattle.ct_rules.specs.declared.state.Wish.{Wish}
-use Rattle.ct_rules.proofs.Formed.{send_all_rest}
+use Rattle.ct_law_rules.proofs.Formed.{send_all_rest}
 
 -- the middle of a step: both calls have numbers below 2^62
 unfoldable pub Low : Moving → Type 0

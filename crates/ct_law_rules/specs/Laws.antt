@@ -10,7 +10,7 @@ use Rattle.ct_vacuum.specs.Vacuum.{Vacuuming}
 use Rattle.ct_rules.specs.State.{nothing_kept, is_mastered}
 use Rattle.ct_rules.specs.Parts.{Moving}
 use Rattle.ct_rules.specs.Moves.{arrive, move, moved}
-use Rattle.ct_rules.specs.Form.{HasCounters, HasLowCalls, CallsLow, IsInForm, MayCome, IsAfter}
+use Rattle.ct_law_rules.specs.Form.{HasCounters, HasLowCalls, CallsLow, IsInForm, MayCome, IsAfter}
 use Rattle.ct_rules.specs.declared.event.MoveEvent.{MoveEvent}
 use Rattle.ct_rules.specs.declared.event.Place.{Place}
 use Rattle.ct_rules.specs.declared.state.RecState.{RecState}

@@ -1,6 +1,0 @@
-use Rattle.ct_rules.proofs.Events.{form_kept}
-use Rattle.ct_rules.proofs.LowCalls.{move_low}
-use Rattle.ct_rules.proofs.laws.keeps_form.Goals as goal
-
-pub returns : goal.returns
-returns c = record { form = form_kept; calls = move_low }
