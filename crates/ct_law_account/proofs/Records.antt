@@ -27,6 +27,7 @@ use Rattle.ct_law_shown.proofs.Amid.{other_state}
 use Rattle.ct_law_wish.proofs.Even.{answers_in, Even, number_of, even_is}
 use Rattle.ct_law_account.proofs.Opened.{Opened, without, without_all, answered_by, AllOpen, is_one, answered_more, without_more, open_more, open_first, open_rest, outs_answer, was_open, stays_open, is_later, only_one}
 use Rattle.ct_law_account.proofs.Accounts.{Wished, Committed, wish_call, commit_call, Stands, Account, wish_like, commit_like, same_asked, place_commit, place_wish, with_call, own_call, other_call, none_other}
+use Rattle.ct_law_node.proofs.Pending.{or_grows}
 
 -- ---- the state of the record after it
 
@@ -78,13 +79,9 @@ wants_place (op.Store db key v) e = refl
 wants_place (op.Unlock db key) e = refl
 wants_place (op.Commit db ws) e = absurd (cc)
 
-first_case : (a b d : Bool) → (b ≡ true → d ≡ true) → (a || b) ≡ true → (a || d) ≡ true
-first_case true b d f e = refl
-first_case false b d f e = f e
-
 first_one : (k : ℕ) (zs ys : List ℕ) → is_one k zs ≡ true → is_one k (zs ++ ys) ≡ true
 first_one k [] ys e = absurd (cc)
-first_one k (z ∷ zs) ys e = first_case (nat_eq k z) (is_one k zs) (is_one k (zs ++ ys)) (first_one k zs ys) e
+first_one k (z ∷ zs) ys e = or_grows (nat_eq k z) (is_one k zs) (is_one k (zs ++ ys)) (first_one k zs ys) e
 
 -- a call of another place is none of these that are answered
 not_answered : (n : ℕ) (old now : Opened) (db : ℕ) (key : List ℕ) (xs zs ys : List ℕ) → AtPlace n old now db key xs → zs ++ ys ≡ xs → (k : ℕ) (o : ClientOp) → old k ≡ Some (n, o) → ((is_commit o ≡ false) → (db_of o ≡ db) → (key_of o ≡ key) → ⊥) → without_all zs now k ≡ Some (n, o)

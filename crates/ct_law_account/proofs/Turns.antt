@@ -40,6 +40,8 @@ use Rattle.ct_rules_node.proofs.AtRecord.{at_set, at_other, set_past, all_set, a
 use Rattle.ct_law_account.proofs.Opened.{Opened, without, without_all, answered_by, AllOpen, answered_more, without_more, open_more}
 use Rattle.ct_law_account.proofs.Records.{kept_wish}
 use Rattle.ct_law_account.proofs.Accounts.{Stands, Account, Committed, same_stands, same_kept, with_committing, committing_other, commit_ends, commit_stays}
+use Rattle.std.proofs.lemmas.List.{append-nil}
+use Rattle.ct_law_node.proofs.Pending.{zero_more}
 
 other_key : (k q : List ℕ) → bytes_eq k q ≡ false → k ≢ q
 other_key k q unlike e = absurd (let a = (bytes_eq-Decides k q).1 e in cc)
@@ -95,9 +97,6 @@ unsure_node : (db : ℕ) (x : Committing) (u : Turn) → (with_commit db None (a
 unfolding answers does with_commit with_node
 unsure_node db x u = refl
 
-zero_more : (k : ℕ) → 0 + k ≡ k
-zero_more k = omega arith
-
 frozen_outs : (g h : ℕ) (u : Turn) → answered_by (freezes g h u).outs ≡ answered_by u.outs
 unfolding freezes with_node
 frozen_outs g h u = refl
@@ -151,17 +150,13 @@ pub makes_kept : {who : Opened} {here : ℕ} {u : Turn} (n : ℕ) → Account wh
 unfolding makes
 makes_kept {who} {here} {u} n s = same_kept (makes n u) refl s.stands.order (λ db key. refl) (λ db. refl) s
 
-none_more : (xs : List ℕ) → xs ++ [] ≡ xs
-none_more [] = refl
-none_more (x ∷ xs) = ap (λ (l : List ℕ). x ∷ l) (none_more xs)
-
 pub notes_kept : {who : Opened} {here : ℕ} {u : Turn} (n : Note) → Account who here u → Account who here (notes n u)
 unfolding notes does answered_by
-notes_kept {who} {here} {u} n s = same_kept (notes n u) (answered_more u.outs (out.Note n ∷ []) ∙ none_more (answered_by u.outs)) s.stands.order (λ db key. refl) (λ db. refl) s
+notes_kept {who} {here} {u} n s = same_kept (notes n u) (answered_more u.outs (out.Note n ∷ []) ∙ append-nil (answered_by u.outs)) s.stands.order (λ db key. refl) (λ db. refl) s
 
 posts_kept : {who : Opened} {here : ℕ} {u : Turn} (g me n : ℕ) (m : Msg) → Account who here u → Account who here (posts g me n m u)
 unfolding posts does answered_by
-posts_kept {who} {here} {u} g me n m s = same_kept (posts g me n m u) (answered_more u.outs (out.Send _ ∷ []) ∙ none_more (answered_by u.outs)) s.stands.order (λ db key. refl) (λ db. refl) s
+posts_kept {who} {here} {u} g me n m s = same_kept (posts g me n m u) (answered_more u.outs (out.Send _ ∷ []) ∙ append-nil (answered_by u.outs)) s.stands.order (λ db key. refl) (λ db. refl) s
 
 pub posts_all_kept : {who : Opened} {here : ℕ} (g me : ℕ) (ns : List ℕ) (m : Msg) (u : Turn) → Account who here u → Account who here (posts_all g me ns m u)
 unfolding posts_all
@@ -239,7 +234,7 @@ freezes_kept {who} {here} {u} g h s = same_kept (freezes g h u) (frozen_outs g h
 
 frozen_commits : (g h db : ℕ) (u : Turn) → (db_at (0 + db) (freezes g h u).node).commit ≡ (or_untouched (slice_get u.node.dbs db)).commit
 unfolding frozen_db db_at
-frozen_commits g h db u = ap (λ (x : Database). x.commit) (freezes_each g h (0 + db) u) ∙ ap (λ (j : ℕ). (or_untouched (slice_get u.node.dbs j)).commit) (zero_more db)
+frozen_commits g h db u = ap (λ (x : Database). x.commit) (freezes_each g h (0 + db) u) ∙ ap (λ (j : ℕ). (or_untouched (slice_get u.node.dbs j)).commit) (sym (zero_more db))
 
 pub on_freeze_kept : {who : Opened} {here : ℕ} {u : Turn} (c : Config) (me h g : ℕ) → Account who here u → Account who here (on_freeze c me h g u)
 unfolding on_freeze

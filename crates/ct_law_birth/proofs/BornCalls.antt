@@ -20,7 +20,7 @@ use Rattle.ct_cluster.specs.Cluster.{Cluster, node_at, or_absent, absent, wished
 use Rattle.ct_cluster.specs.declared.step.PendingCall.{PendingCall}
 use Rattle.ct_promise.specs.Born.{Rows, IsBornWith, WishIsSound}
 use Rattle.ct_law_wish.proofs.Wishing.{Wishful}
-use Rattle.ct_law_node.proofs.Pending.{Callers, Fits, Known, CommitFits, KnownAt, NodeKnown, none_known}
+use Rattle.ct_law_node.proofs.Pending.{Callers, Fits, Known, CommitFits, KnownAt, NodeKnown, none_known, zero_more}
 use Rattle.ct_law_birth.proofs.BornWorlds.{by_test}
 
 -- ---- who made the call of a number
@@ -73,9 +73,6 @@ known_in config g members row w h = all_both (Fits (callers_in w)) (λ (x : Pend
 
 -- ---- from all calls to those of one record or commit
 
-from_zero : (k : ℕ) → 0 + k ≡ k
-from_zero k = omega arith
-
 module _ (P : PendingCall → Type 0) where
   front_all : (xs ys : List PendingCall) → AllByRecursion P (xs ++ ys) → AllByRecursion P xs
   front_all [] ys h = tt
@@ -116,7 +113,7 @@ module _ (P : PendingCall → Type 0) where
 
   in_node : (w : Cluster) (n : ℕ) → AllByRecursion P (pending w) → AllByRecursion P (pending_in n 0 (node_at n w).dbs)
   unfolding pending node_at
-  in_node w n h = subst (λ (j : ℕ). AllByRecursion P (pending_in j 0 (or_absent (slice_get w.nodes n)).dbs)) (from_zero n) (at_node 0 n w.nodes (unnumbered (λ x. x.call) P (pending_from 0 w.nodes) h))
+  in_node w n h = subst (λ (j : ℕ). AllByRecursion P (pending_in j 0 (or_absent (slice_get w.nodes n)).dbs)) (sym (zero_more n)) (at_node 0 n w.nodes (unnumbered (λ x. x.call) P (pending_from 0 w.nodes) h))
 
   -- what holds of all calls that wait holds of that which waits for a record of a node
   call_at : (w : Cluster) (n db : ℕ) (key : List ℕ) → AllByRecursion P (pending w) → AllByRecursion P (wished n (or_nothing (look key (db_at db (node_at n w)).records)).wish)
@@ -126,7 +123,7 @@ module _ (P : PendingCall → Type 0) where
   -- and of that of a commit of its that waits
   commit_at : (w : Cluster) (n db : ℕ) → AllByRecursion P (pending w) → AllByRecursion P (committing n db (db_at db (node_at n w)).commit)
   unfolding db_at
-  commit_at w n db h = subst (λ (j : ℕ). AllByRecursion P (committing n j (db_at db (node_at n w)).commit)) (from_zero db) (at_commit n 0 db (node_at n w).dbs (in_node w n h))
+  commit_at w n db h = subst (λ (j : ℕ). AllByRecursion P (committing n j (db_at db (node_at n w)).commit)) (sym (zero_more db)) (at_commit n 0 db (node_at n w).dbs (in_node w n h))
 
 -- ---- all databases of all nodes
 

@@ -30,7 +30,7 @@ use Rattle.ct_rules_node.proofs.Numbered.{numbered_all, numbered_any}
 use Rattle.ct_law_account.proofs.Records.{wants_place}
 use Rattle.ct_law_calls.proofs.Clusters.{Calls}
 use Rattle.ct_law_calls.proofs.Waiting.{commit_any}
-use Rattle.ct_law_calls.proofs.Telling.{by_log, nodes_any}
+use Rattle.ct_law_calls.proofs.Telling.{by_log, nodes_any, same_some}
 
 swap_eq : (a b : ℕ) (v : Bool) → nat_eq a b ≡ v → nat_eq b a ≡ v
 swap_eq a b true e = eq-eqb b a (sym (eqb-true a b e))
@@ -130,20 +130,12 @@ nodes_all P i [] all = tt
 nodes_all P i (x ∷ ns) all = all_append P (pending_in i 0 x.dbs) (pending_from (i + 1) ns) (subst (λ (j : ℕ). AllByRecursion P (pending_in j 0 x.dbs)) (omega arith) (all 0))
     (nodes_all P (i + 1) ns (λ k. subst (λ (j : ℕ). AllByRecursion P (pending_in j 0 (or_absent (slice_get ns k)).dbs)) (next_index i k) (all (suc k))))
 
-or_pair : ℕ × ClientOp → Option (ℕ × ClientOp) → ℕ × ClientOp
-or_pair v None = v
-or_pair v (Some x) = x
-
-same_pair : (x v : ℕ × ClientOp) → Some x ≡ Some v → x ≡ v
-unfolding or_pair
-same_pair x v e = ap (or_pair v) e
-
 -- an open call of the log is one of these
 entry : (P : PendingCall → Type 0) (xs : List PendingCall) (k : ℕ) (v : ℕ × ClientOp) → AllByRecursion P xs → asked_in k (log_of xs) ≡ Some v → (p : PendingCall) × P p × (p.call ≡ k) × ((p.node, p.op) ≡ v)
 unfolding asked_in log_of
 entry P [] k v h e = absurd (cc)
 entry P (x ∷ xs) k v h e = ⊎_elim
-    (λ (t : nat_eq k x.call ≡ true). (x, h.0, sym (eqb-true k x.call t), same_pair (x.node, x.op) v (sym (ap (λ (b : Bool). cond b (Some (x.node, x.op)) (asked_in k (log_of xs))) t) ∙ e)))
+    (λ (t : nat_eq k x.call ≡ true). (x, h.0, sym (eqb-true k x.call t), same_some (x.node, x.op) v (sym (ap (λ (b : Bool). cond b (Some (x.node, x.op)) (asked_in k (log_of xs))) t) ∙ e)))
     (λ (f : nat_eq k x.call ≡ false). entry P xs k v h.1 (sym (ap (λ (b : Bool). cond b (Some (x.node, x.op)) (asked_in k (log_of xs))) f) ∙ e))
     (cases_Bool (nat_eq k x.call))
 

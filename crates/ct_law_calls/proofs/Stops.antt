@@ -3,7 +3,7 @@ use Rattle.std.proofs.Common.{◌≡◌, ◌≢◌, ℕ, ◌<◌, Bool, true, fa
 use Rattle.std.specs.Prelude.{slice_set, nat_eq, Ok}
 use Rattle.std.specs.List.{AllByRecursion, list_any}
 use Rattle.std.proofs.lemmas.Bool.{cases_eq, eqb-true, eq-eqb}
-use Rattle.std.proofs.lemmas.List.{length-set}
+use Rattle.std.proofs.lemmas.List.{length-set, append-nil}
 use Rattle.ct_msg.specs.declared.client.ClientOp.{ClientOp}
 use Rattle.ct_msg.specs.declared.config.Config.{Config}
 use Rattle.ct_store.specs.Map.{look}
@@ -54,13 +54,9 @@ unfolding is_call calls_in
 any_one k [] e = absurd (cc)
 any_one k (x ∷ xs) e = any_case (nat_eq x.call k) (list_any (is_call k) xs) (nat_eq k x.call) (is_one k (calls_in xs)) (nat_eq_swap x.call k) (any_one k xs) e
 
-nil_right : (xs : List ℕ) → xs ++ [] ≡ xs
-nil_right [] = refl
-nil_right (x ∷ xs) = ap (λ (l : List ℕ). x ∷ l) (nil_right xs)
-
 -- none of these is open after them
 none_left : (xs : List ℕ) (who : Opened) (k : ℕ) (v : ℕ × ClientOp) → is_one k xs ≡ true → without_all xs who k ≢ Some v
-none_left xs who k v is e = absurd (let t = is_later xs [] who k v (subst (λ (l : List ℕ). is_one k l ≡ true) (sym (nil_right xs)) is) e in cc)
+none_left xs who k v is e = absurd (let t = is_later xs [] who k v (subst (λ (l : List ℕ). is_one k l ≡ true) (sym (append-nil xs)) is) e in cc)
 
 both_false : (a b : Bool) → a ≢ true → b ≡ false → (a || b) ≡ false
 both_false true b f g = absurd (f refl)

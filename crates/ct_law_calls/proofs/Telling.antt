@@ -151,7 +151,7 @@ or_that : ℕ × ClientOp → Option (ℕ × ClientOp) → ℕ × ClientOp
 or_that v None = v
 or_that v (Some x) = x
 
-same_some : (x v : ℕ × ClientOp) → Some x ≡ Some v → x ≡ v
+pub same_some : (x v : ℕ × ClientOp) → Some x ≡ Some v → x ≡ v
 unfolding or_that
 same_some x v e = ap (or_that v) e
 

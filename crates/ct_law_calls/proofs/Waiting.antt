@@ -20,7 +20,7 @@ use Rattle.ct_rules_node.proofs.Installed.{own_key}
 use Rattle.ct_cluster.specs.Cluster.{wished, wished_in, committing, pending_in}
 use Rattle.ct_cluster.specs.declared.step.PendingCall.{PendingCall}
 use Rattle.ct_law_wish.proofs.Wishing.{Wishful}
-use Rattle.ct_law_node.proofs.Pending.{is_call, look_tail, look_head, next_index, zero_more, node_any}
+use Rattle.ct_law_node.proofs.Pending.{is_call, look_tail, look_head, next_index, zero_more, node_any, left_any, right_any, records_any, wished_any}
 use Rattle.ct_lcp2.proofs.Choices.{all_append}
 use Rattle.ct_law_account.proofs.Opened.{Opened}
 use Rattle.ct_law_account.proofs.Accounts.{Wished, Committed, wish_call, commit_call, place_commit, place_wish, Stands}
@@ -55,34 +55,6 @@ committing_fits : (who : Opened) (n db : ℕ) (x : Option Committing) → Commit
 unfolding Committed committing Fits
 committing_fits who n db None h = tt
 committing_fits who n db (Some x) h = ((h, refl), tt)
-
-left_case : (b d e : Bool) → (d ≡ true → e ≡ true) → (b || d) ≡ true → (b || e) ≡ true
-left_case true d e f k = refl
-left_case false d e f k = f k
-
-left_any : (f : PendingCall → Bool) (xs ys : List PendingCall) → list_any f xs ≡ true → list_any f (xs ++ ys) ≡ true
-left_any f [] ys e = absurd (cc)
-left_any f (x ∷ xs) ys e = left_case (f x) (list_any f xs) (list_any f (xs ++ ys)) (λ k. left_any f xs ys k) e
-
-right_any : (f : PendingCall → Bool) (xs ys : List PendingCall) → list_any f ys ≡ true → list_any f (xs ++ ys) ≡ true
-right_any f [] ys e = e
-right_any f (x ∷ xs) ys e = or_right (f x) (list_any f (xs ++ ys)) (right_any f xs ys e)
-
-wished_any : (n : ℕ) (o : Option Wish) (w : Wish) → o ≡ Some w → list_any (is_call w.call) (wished n o) ≡ true
-unfolding wished is_call
-wished_any n None w e = absurd (cc)
-wished_any n (Some v) w e = (let same : v ≡ w = cc in rw (eq-eqb v.call w.call (ap (λ (x : Wish). x.call) same)) refl)
-
-records_case : (n : ℕ) (m : Pairs RecState) (s : RecState) (before : Option RecState) (w : Wish) (b : Bool) → ((or_nothing before).wish ≡ Some w → list_any (is_call w.call) (wished_in n m) ≡ true) →
-    (or_nothing (cond b (Some s) before)).wish ≡ Some w → list_any (is_call w.call) (wished n s.wish ++ wished_in n m) ≡ true
-unfolding or_nothing
-records_case n m s before w true rest k = left_any (is_call w.call) (wished n s.wish) (wished_in n m) (wished_any n s.wish w k)
-records_case n m s before w false rest k = right_any (is_call w.call) (wished n s.wish) (wished_in n m) (rest k)
-
-records_any : (n : ℕ) (m : Pairs RecState) (key : List ℕ) (w : Wish) → (or_nothing (look key m)).wish ≡ Some w → list_any (is_call w.call) (wished_in n m) ≡ true
-unfolding wished_in or_nothing
-records_any n [] key w e = absurd (cc)
-records_any n (x ∷ m) key w e = records_case n m x.1 (look key m) w (is_eq (key_cmp key x.0)) (λ k. records_any n m key w k) e
 
 node_fits : (who : Opened) (n i : ℕ) (ds : List Database) → AllAscend ds → ((k : ℕ) (key : List ℕ) → KnownAt who n (i + k) key (look key (or_untouched (slice_get ds k)).records)) → ((k : ℕ) → Committed n who (i + k) (or_untouched (slice_get ds k)).commit) →
     AllByRecursion (Fits n who) (pending_in n i ds)

@@ -30,7 +30,7 @@ with_caller call x who k = cond (nat_eq k call) x (who k)
 pub own_caller : (call : ℕ) (x : ℕ × ClientOp) (who : Callers) → with_caller call x who call ≡ x
 own_caller call x who = ap (λ (b : Bool). cond b x (who call)) (eq-eqb call call refl)
 
-old_caller : (calls k : ℕ) (x y : ℕ × ClientOp) (who : Callers) → k ≤ calls → who k ≡ y → with_caller (calls + 1) x who k ≡ y
+pub old_caller : (calls k : ℕ) (x y : ℕ × ClientOp) (who : Callers) → k ≤ calls → who k ≡ y → with_caller (calls + 1) x who k ≡ y
 old_caller calls k x y who l e = ap (λ (b : Bool). cond b x (who k)) (ne_eqb k (calls + 1) (λ (is : k ≡ calls + 1). omega arith)) ∙ e
 
 more_wish : (calls n db : ℕ) (key : List ℕ) (x : ℕ × ClientOp) (who : Callers) (w : Option Wish) → Wishful (Known who calls n db key) w → Wishful (Known (with_caller (calls + 1) x who) (calls + 1) n db key) w

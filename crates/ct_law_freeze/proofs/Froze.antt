@@ -22,6 +22,7 @@ use Rattle.ct_rules_node.proofs.Keys.{changed_ascends}
 use Rattle.ct_rules_node.proofs.Rounds.{freezes_each, sees_locks}
 use Rattle.ct_law_line.proofs.Resting.{freezes_state}
 use Rattle.ct_law_freeze.proofs.Ends.{Ends, Untracked, is_ended, is_gone, ends_outs, unlock, ends_all, none_left}
+use Rattle.ct_law_node.proofs.Events.{guarded}
 
 -- what a Freeze of generation g from node h makes of a node
 pub record Froze (c : Config) (g h : ℕ) (x y : Node) : Type 0 where
@@ -155,14 +156,10 @@ module _ (c : Config) (n g h : ℕ) (x : Node) (order : NodeAscends x) (some : 0
   unfolding frozen_if_unlocked
   freezes_turn = pick (any_locked t2.node.dbs) refl
 
-taken : {X : Type 0} (b : Bool) (x y : X) → b ≡ true → cond b x y ≡ x
-taken true x y e = refl
-taken false x y e = absurd (cc)
-
 -- the arrival of a sound Freeze above the promise
 pub freeze_is : (c : Config) (rules : Rules) (n : ℕ) (x : Node) (f : Frame) (members : List ℕ) → NodeAscends x → 0 < length x.dbs → f.msg ≡ msg.Freeze members → is_sound c f ≡ true → nat_lt x.promise f.generation ≡ true →
     Freeze_turn c n f.generation f.sender x (happens c rules n (begins x) (event.Arrive f))
 unfolding happens arrives if_sound on_freeze
 freeze_is c rules n x f members order some is sound newer = subst (λ (u : Turn). Freeze_turn c n f.generation f.sender x u)
-    (sym (ap (λ (m : Msg). arrives c rules n f (begins x) m) is ∙ taken (is_sound c f) _ _ sound ∙ taken (nat_lt x.promise f.generation) _ _ newer))
+    (sym (ap (λ (m : Msg). arrives c rules n f (begins x) m) is ∙ guarded (is_sound c f) _ _ sound ∙ guarded (nat_lt x.promise f.generation) _ _ newer))
     (freezes_turn c n f.generation f.sender x order some)

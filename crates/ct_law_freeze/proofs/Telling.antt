@@ -30,6 +30,7 @@ use Rattle.ct_law_shown.proofs.Hearing.{labels_more, frames_more}
 use Rattle.ct_law_shown.proofs.Weave.{it_is, same_record, other_record}
 use Rattle.ct_law_freeze.proofs.Ends.{is_ended, ends_out, ends_outs}
 use Rattle.ct_law_freeze.proofs.Freed.{ended_register}
+use Rattle.ct_law_beside.proofs.Committed.{Untold}
 
 -- ---- the registers after all ends
 
@@ -75,10 +76,6 @@ all_elsewhere c g i [] rs m ne = refl
 all_elsewhere c g i (d ∷ ds) rs m ne = all_elsewhere c g (i + 1) ds (one_ended g (name_of c i) d.commit rs) m ne ∙ one_elsewhere g (name_of c i) d.commit rs m ne
 
 -- ---- the labels
-
--- no answer to this call speaks of records
-abbrev pub Untold : Config → List PendingCall → ℕ → Type 0
-Untold c pend call = (a : Answer) → record_labels c (answered call a pend) ≡ []
 
 -- of every commit that waits: no answer to it is told of records
 abbrev pub All_untold : Config → List PendingCall → List Database → Type 0

@@ -48,7 +48,7 @@ use Rattle.ct_law_shown.specs.Shown.{scene, view, mails, mail_of, labels_of}
 use Rattle.ct_law_shown.proofs.Hearing.{mails_more}
 use Rattle.ct_law_wish.proofs.Wishing.{Wishful}
 use Rattle.ct_law_node.proofs.Forming.{Is_formed}
-use Rattle.ct_law_node.proofs.Pending.{Known, KnownAt, CommitFits, NodeKnown}
+use Rattle.ct_law_node.proofs.Pending.{Known, KnownAt, CommitFits, NodeKnown, or_grows}
 use Rattle.ct_law_node.proofs.Staying.{NodeStays, Of_records}
 use Rattle.ct_law_removal.proofs.Removing.{removed_in_records}
 use Rattle.ct_law_line.proofs.Ages.{Ages, era_of}
@@ -78,11 +78,6 @@ installed_kept r m n g db key = none (nat_eq (r.line n) m)
 past_commit : (x : Node) (db : ℕ) → length x.dbs ≤ db → (db_at db x).commit ≡ None
 unfolding db_at untouched
 past_commit x db l = ap (λ (d : Database). d.commit) (past_db x.dbs db l)
-
--- what was so of the second is so still
-or_grows : (a b d : Bool) → (b ≡ true → d ≡ true) → (a || b) ≡ true → (a || d) ≡ true
-or_grows true b d f e = refl
-or_grows false b d f e = f e
 
 module _ (c : Config) (rules : Rules) (w : Cluster) (r : Lines) (h : Lives c rules w r) (n : ℕ) (f : Frame) (ptables : List PTable) (assigned : List Assigned) (there : nat_lt n c.nodes ≡ true)
     (is : f.msg ≡ msg.Push (r.members f.generation) (h.ages.tables f.generation) ptables assigned) (come : HasCome w n f) (sound : is_sound c f ≡ true) (frozen : is_frozen_in f.generation (node_at n w).phase ≡ true)

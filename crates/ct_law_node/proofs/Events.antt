@@ -37,7 +37,7 @@ moved_at c era rules n db key e t w asks h =
     ∙ ap (λ (p : Place). put (scene c era rules db key) (amid era.number db key n w t) n (asks (view db key t.node)) (move p rules e (starts (view db key t.node)))) (sym (place_is c era rules n db key t.node h))
 
 -- what a guard that holds lets through
-guarded : {X : Type 0} (b : Bool) (x y : X) → b ≡ true → cond b x y ≡ x
+pub guarded : {X : Type 0} (b : Bool) (x y : X) → b ≡ true → cond b x y ≡ x
 guarded true x y e = refl
 guarded false x y e = absurd (cc)
 

@@ -52,15 +52,16 @@ answered_as who call a (x ∷ xs) h e = answered_case who call a x (answered cal
 
 -- ---- in two lists, one after the other
 
-left_case : (b d e : Bool) → (d ≡ true → e ≡ true) → (b || d) ≡ true → (b || e) ≡ true
-left_case true d e f k = refl
-left_case false d e f k = f k
+-- what was so of the second is so still
+pub or_grows : (b d e : Bool) → (d ≡ true → e ≡ true) → (b || d) ≡ true → (b || e) ≡ true
+or_grows true d e f k = refl
+or_grows false d e f k = f k
 
-left_any : (f : PendingCall → Bool) (xs ys : List PendingCall) → list_any f xs ≡ true → list_any f (xs ++ ys) ≡ true
+pub left_any : (f : PendingCall → Bool) (xs ys : List PendingCall) → list_any f xs ≡ true → list_any f (xs ++ ys) ≡ true
 left_any f [] ys e = absurd (cc)
-left_any f (x ∷ xs) ys e = left_case (f x) (list_any f xs) (list_any f (xs ++ ys)) (λ k. left_any f xs ys k) e
+left_any f (x ∷ xs) ys e = or_grows (f x) (list_any f xs) (list_any f (xs ++ ys)) (λ k. left_any f xs ys k) e
 
-right_any : (f : PendingCall → Bool) (xs ys : List PendingCall) → list_any f ys ≡ true → list_any f (xs ++ ys) ≡ true
+pub right_any : (f : PendingCall → Bool) (xs ys : List PendingCall) → list_any f ys ≡ true → list_any f (xs ++ ys) ≡ true
 right_any f [] ys e = e
 right_any f (x ∷ xs) ys e = or_right (f x) (list_any f (xs ++ ys)) (right_any f xs ys e)
 
@@ -117,7 +118,7 @@ records_fit who calls n db (e ∷ m) h all = all_append (Fits who) (wished n e.1
     one : KnownAt who calls n db e.0 (Some e.1) → AllByRecursion (Fits who) (wished n e.1.wish)
     one k = wished_fits who calls n db e.0 e.1.wish k
 
-wished_any : (n : ℕ) (o : Option Wish) (w : Wish) → o ≡ Some w → list_any (is_call w.call) (wished n o) ≡ true
+pub wished_any : (n : ℕ) (o : Option Wish) (w : Wish) → o ≡ Some w → list_any (is_call w.call) (wished n o) ≡ true
 unfolding wished is_call
 wished_any n None w e = absurd (cc)
 wished_any n (Some v) w e = (let same : v ≡ w = cc in rw (eq-eqb v.call w.call (ap (λ (x : Wish). x.call) same)) refl)
@@ -128,7 +129,7 @@ unfolding or_nothing
 records_case n m s before w true rest k = left_any (is_call w.call) (wished n s.wish) (wished_in n m) (wished_any n s.wish w k)
 records_case n m s before w false rest k = right_any (is_call w.call) (wished n s.wish) (wished_in n m) (rest k)
 
-records_any : (n : ℕ) (m : Pairs RecState) (key : List ℕ) (w : Wish) → (or_nothing (look key m)).wish ≡ Some w → list_any (is_call w.call) (wished_in n m) ≡ true
+pub records_any : (n : ℕ) (m : Pairs RecState) (key : List ℕ) (w : Wish) → (or_nothing (look key m)).wish ≡ Some w → list_any (is_call w.call) (wished_in n m) ≡ true
 unfolding wished_in or_nothing
 records_any n [] key w e = absurd (cc)
 records_any n (x ∷ m) key w e = records_case n m x.1 (look key m) w (is_eq (key_cmp key x.0)) (λ k. records_any n m key w k) e

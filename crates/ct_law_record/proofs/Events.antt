@@ -32,6 +32,7 @@ use Rattle.ct_law_event.proofs.Messages.{on_call_holds, on_recall_holds, on_give
 use Rattle.ct_law_fact.proofs.Nodes.{NodeInv-nowish}
 use Rattle.ct_law_event.proofs.Floor.{raise_floor_holds}
 use Rattle.ct_law_event.proofs.Vacuuming.{Apart, on_vstore_holds, on_vstored_holds, on_vdelete_holds, on_vdeleted_holds, vacuum_event_holds}
+use Rattle.ct_law_wish.proofs.Calls.{own_self}
 
 pub none_none : {X : Type 0} → (x : Option X) → is_none x ≡ true → x ≡ None
 none_none None h = refl
@@ -46,14 +47,10 @@ unfolding wish_of
 wish_some readonly None v e n = absurd (cc)
 wish_some readonly (Some w) v e n = absurd (cc)
 
-pub own_is : (call : ℕ) (asked : ClientOp) → own_call call asked call ≡ Some asked
-unfolding own_call
-own_is call asked = rw (eq-eqb call call refl) refl
-
 pub waiting_is : (wish : Option Wish) (w : Wish) → wish ≡ Some w → waiting_call wish w.call ≡ Some w.op
 unfolding waiting_call
 waiting_is None w e = absurd (cc)
-waiting_is (Some v) w e = (let k : v ≡ w = cc in subst (λ (x : Wish). own_call v.call v.op x.call ≡ Some x.op) k (own_is v.call v.op))
+waiting_is (Some v) w e = (let k : v ≡ w = cc in subst (λ (x : Wish). own_call v.call v.op x.call ≡ Some x.op) k (own_self v.call v.op))
 
 -- a request number that rises
 says_drawn : (g : Ghost) (n : ℕ) (copy : Option Copy) (next more : ℕ) (wish : Option Rule.Wish) → next ≤ more → (from to : ℕ) (b : Body) → Says g n copy next wish from to b → Says g n copy more wish from to b

@@ -31,7 +31,8 @@ use Rattle.ct_law_change.proofs.Markings.{RunsOn, goes_stays, goes_joined, runs_
 use Rattle.std.specs.List.{list_all}
 use Rattle.ct_frame.specs.Fields.{is_node}
 use Rattle.ct_register.specs.Words.{at as changed_seen}
-use Rattle.ct_law_record.proofs.Events.{arrive_holds, wants_holds, stores_holds, unlocks_holds, releases_holds, vacuums_holds, resends_holds, thaws_holds, rises_holds, none_none, none_unlocked, own_is, waiting_is, may_parts}
+use Rattle.ct_law_record.proofs.Events.{arrive_holds, wants_holds, stores_holds, unlocks_holds, releases_holds, vacuums_holds, resends_holds, thaws_holds, rises_holds, none_none, none_unlocked, waiting_is, may_parts}
+use Rattle.ct_law_wish.proofs.Calls.{own_self}
 
 -- the nodes, as the law sees them
 abbrev pub node_at : Scene → ℕ → Bool → View → Node
@@ -233,16 +234,16 @@ pub step_holds : (s : Scene) (w : World) (r : Register) (g : Ghost) (e : Event) 
 unfolding Rounds.want_again
 step_holds s w r g (Wants n call asked) real h = cond_both (may_want (w.nodes n).state asked) _ _ (Leads s r g)
     (λ t. (let p = may_parts (w.nodes n).state asked t in put_holds s w r n (own_call call asked) g _ h (λ member joined. wants_holds (place s n (w.nodes n)) (own_call call asked) (member_real n s.members member real) s.rules (peers s s.lmaster) (nodes_at s w) (frames_of w.mail) (started r g) call asked g (starts (w.nodes n))
-    (own_is call asked) (none_none _ p.0) (λ e. none_unlocked _ (p.1 e)) (unremoved s w n (own_call call asked)) (begin_holds s w r n (own_call call asked) g joined h))))
+    (own_self call asked) (none_none _ p.0) (λ e. none_unlocked _ (p.1 e)) (unremoved s w n (own_call call asked)) (begin_holds s w r n (own_call call asked) g joined h))))
     (λ _. (r, g, refl, h, goes_stays (span_of g)))
 step_holds s w r g (Stores n call v) real h = cond_both (is_some (w.nodes n).state.locked) _ _ (Leads s r g)
-    (λ t. (let asks = own_call call (op.Store s.db s.key v) in put_holds s w r n asks g _ h (λ member joined. stores_holds (place s n (w.nodes n)) asks (member_real n s.members member real) s.rules (peers s s.lmaster) (nodes_at s w) (frames_of w.mail) (started r g) call v g (starts (w.nodes n)) (own_is call (op.Store s.db s.key v)) t (begin_holds s w r n asks g joined h))))
+    (λ t. (let asks = own_call call (op.Store s.db s.key v) in put_holds s w r n asks g _ h (λ member joined. stores_holds (place s n (w.nodes n)) asks (member_real n s.members member real) s.rules (peers s s.lmaster) (nodes_at s w) (frames_of w.mail) (started r g) call v g (starts (w.nodes n)) (own_self call (op.Store s.db s.key v)) t (begin_holds s w r n asks g joined h))))
     (λ _. (r, g, refl, h, goes_stays (span_of g)))
 step_holds s w r g (Unlocks n call) real h = cond_both (is_some (w.nodes n).state.locked) _ _ (Leads s r g)
-    (λ t. (let asks = own_call call (op.Unlock s.db s.key) in put_holds s w r n asks g _ h (λ member joined. unlocks_holds (place s n (w.nodes n)) asks (member_real n s.members member real) s.rules (peers s s.lmaster) (nodes_at s w) (frames_of w.mail) (started r g) call g (starts (w.nodes n)) (own_is call (op.Unlock s.db s.key)) t (begin_holds s w r n asks g joined h))))
+    (λ t. (let asks = own_call call (op.Unlock s.db s.key) in put_holds s w r n asks g _ h (λ member joined. unlocks_holds (place s n (w.nodes n)) asks (member_real n s.members member real) s.rules (peers s s.lmaster) (nodes_at s w) (frames_of w.mail) (started r g) call g (starts (w.nodes n)) (own_self call (op.Unlock s.db s.key)) t (begin_holds s w r n asks g joined h))))
     (λ _. (r, g, refl, h, goes_stays (span_of g)))
 step_holds s w r g (Releases n call) real h = cond_both (is_some (w.nodes n).state.locked) _ _ (Leads s r g)
-    (λ t. (let asks = own_call call (op.Unlock s.db s.key) in put_holds s w r n asks g _ h (λ member joined. releases_holds (place s n (w.nodes n)) asks (member_real n s.members member real) s.rules (peers s s.lmaster) (nodes_at s w) (frames_of w.mail) (started r g) call g (starts (w.nodes n)) (own_is call (op.Unlock s.db s.key)) t (begin_holds s w r n asks g joined h))))
+    (λ t. (let asks = own_call call (op.Unlock s.db s.key) in put_holds s w r n asks g _ h (λ member joined. releases_holds (place s n (w.nodes n)) asks (member_real n s.members member real) s.rules (peers s s.lmaster) (nodes_at s w) (frames_of w.mail) (started r g) call g (starts (w.nodes n)) (own_self call (op.Unlock s.db s.key)) t (begin_holds s w r n asks g joined h))))
     (λ _. (r, g, refl, h, goes_stays (span_of g)))
 step_holds s w r g (Comes which) real h = comes_holds s w r g (slice_get w.mail which) real (λ m e. sent_at which w.mail m e) h
 step_holds s w r g (Vacuums n) real h = (let asks = waiting_call (w.nodes n).state.wish in put_holds s w r n asks g _ h (λ member joined. vacuums_holds (place s n (w.nodes n)) asks (member_real n s.members member real) s.rules (peers s s.lmaster) (nodes_at s w) (frames_of w.mail) (started r g) (peers s n) g (starts (w.nodes n))

@@ -42,6 +42,7 @@ use Rattle.ct_law_shown.specs.Shown.{labels_of}
 use Rattle.ct_law_removal.proofs.Finishing.{Unfinished, Finishes, want_unfinished, store_unfinished, release_unfinished, unlock_unfinished, call_again_unfinished, revoke_again_unfinished, want_again_unfinished, vacuum_finishes, arrive_finishes}
 use Rattle.ct_law_removal.proofs.Removing.{removed_by, done_where_told, unfinished_at, finished_at, IsGone}
 use Rattle.ct_law_removal.proofs.Unremoved.{Silent, either, with_phase_silent, makes_silent, answers_silent, notes_silent, commit_silent, on_pupdate_silent, on_pack_silent, read_pair_silent, begin_round_silent, frozen_silent, on_freeze_silent, on_freezeack_silent, on_pull_silent, on_pullreply_silent, on_push_silent, on_pushack_silent, begin_takeover_silent, on_release_silent, on_releaseack_silent, on_take_silent, update_in_silent, retry_lead_silent}
+use Rattle.ct_law_cluster.proofs.Vacuumed.{vacuumed}
 
 -- ---- a step at one record that removes nothing
 
@@ -139,10 +140,6 @@ at_record_removes : (c : Config) (n db : ℕ) (key : List ℕ) (part : Place →
 at_record_removes c n db key part t d k h s may told = not_before (removed_by d k t.outs) s.none (finished_at c n db key part t d k h may told)
 
 -- ---- the vacuum of a database
-
--- vacuum of a record
-abbrev vacuumed : ℕ → Turn → Place → Moving → Moving
-vacuumed n t at o = vacuum at (others n t.node.members) o
 
 vacuumed_at : (c : Config) (n db : ℕ) (key : List ℕ) (t : Turn) → Finishes (place_of c n db key t.node) (left_by c n db key (vacuumed n t) t)
 unfolding view Unfinished

@@ -12,10 +12,7 @@ use Rattle.ct_law_line.proofs.Lives.{NodeLives, Lives}
 use Rattle.ct_law_line.proofs.Later.{Later, Away}
 use Rattle.ct_law_line.proofs.Apart.{none_fresh, node_away}
 use Rattle.ct_law_line.proofs.Begetting.{same_lives}
-
--- the cluster with one call more
-abbrev pub called_cluster : Cluster → Cluster
-called_cluster w = record w { calls = w.calls + 1 }
+use Rattle.ct_law_cluster.proofs.Called.{counted}
 
 module _ (c : Config) (rules : Rules) (w : Cluster) (r : Lines) (h : Lives c rules w r) (x : ℕ × ClientOp) where
   abbrev who : Callers
@@ -27,21 +24,21 @@ module _ (c : Config) (rules : Rules) (w : Cluster) (r : Lines) (h : Lives c rul
   away : (k : ℕ) → Away r h.ages r h.ages k
   away k = record { line = refl; pline = refl; views = λ g db key e. refl }
 
-  pub called_lines : LinesLive c rules (called_cluster w) r h.ages
+  pub called_lines : LinesLive c rules (counted w) r h.ages
   called_lines = record {
     first = h.lines.first;
     none = h.lines.none;
-    line = λ g e. same_lives c rules w (called_cluster w) r r h.ages h.ages g (record { members = refl; installed = refl; records = refl; worlds = refl; ghosts = refl; tables = refl; mail = λ db key. refl }) (h.lines.line g e);
+    line = λ g e. same_lives c rules w (counted w) r r h.ages h.ages g (record { members = refl; installed = refl; records = refl; worlds = refl; ghosts = refl; tables = refl; mail = λ db key. refl }) (h.lines.line g e);
     silent = h.lines.silent;
     uninstalled = h.lines.uninstalled;
     unowned = h.lines.unowned;
   }
 
-  pub called_node : (k : ℕ) → NodeLives c rules h.who w r h.ages k (node_at k w) → NodeLives c rules who (called_cluster w) r h.ages k (node_at k w)
-  called_node k l = node_away c rules h.who who w (called_cluster w) r h.ages r h.ages k (node_at k w) stays (away k) (none_fresh c rules r r h.ages k (node_at k w) (λ g. refl))
+  pub called_node : (k : ℕ) → NodeLives c rules h.who w r h.ages k (node_at k w) → NodeLives c rules who (counted w) r h.ages k (node_at k w)
+  called_node k l = node_away c rules h.who who w (counted w) r h.ages r h.ages k (node_at k w) stays (away k) (none_fresh c rules r r h.ages k (node_at k w) (λ g. refl))
       (more_known w.calls k x h.who (node_at k w) l.known) (λ f was. was) (λ some. (l.named some).0) l.replies l
 
-  unfoldable pub lives_called : Lives c rules (called_cluster w) r
+  unfoldable pub lives_called : Lives c rules (counted w) r
   unfolding node_at is_up
   lives_called = record {
     who = who;

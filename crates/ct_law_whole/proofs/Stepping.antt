@@ -53,7 +53,8 @@ use Rattle.ct_law_stop.proofs.Stopped.{stop_after}
 use Rattle.ct_law_stop.proofs.Turning.{turned_after}
 use Rattle.ct_law_stop.proofs.Recovered.{fed_either, recover_after}
 use Rattle.ct_law_stop.proofs.Taking.{takeover_turned}
-use Rattle.ct_law_stop.proofs.Called.{called_cluster, lives_called}
+use Rattle.ct_law_cluster.proofs.Called.{counted}
+use Rattle.ct_law_stop.proofs.Called.{lives_called}
 
 -- ---- what is owed
 
@@ -161,7 +162,7 @@ module _ (all : AllTurned) (c : Config) (rules : Rules) (w : Cluster) (r : Lines
   unfolding steps is_allowed fault_of lives_called own_labels answerable Comes pending node_at is_up
   client_after n o = after_taken c rules w r h (step.Client n o) (λ allowed e.
       let ok = there_up c w n [] e in
-      turn_after all c rules w (called_cluster w) r h.ages (idle_after c rules w r h) (lives_called c rules w r h (n, o)) refl (step.Client n o) n (event.Client (w.calls + 1) o) (λ ls. begun_aside c r n o ls) is home ok.0 ok.1
+      turn_after all c rules w (counted w) r h.ages (idle_after c rules w r h) (lives_called c rules w r h (n, o)) refl (step.Client n o) n (event.Client (w.calls + 1) o) (λ ls. begun_aside c r n o ls) is home ok.0 ok.1
       (refl, own_caller (w.calls + 1) (n, o) h.who, allowed, refl))
 
   retry_after : (n : ℕ) → After c rules r h.ages (outcome c rules w (step.Retry n))

@@ -34,6 +34,7 @@ use Rattle.ct_msg.specs.declared.client.Answer.TheVariants as answer
 use Rattle.ct_msg.specs.declared.client.ClientOp.TheVariants as op
 use Rattle.ct_msg.specs.declared.client.Why.TheVariants as why
 use Rattle.ct_rules_node.specs.Rounds.{want_again_of, want_again}
+use Rattle.std.proofs.lemmas.List.{append-nil}
 
 -- ---- the primitives
 
@@ -53,13 +54,9 @@ unfoldable pub number_of : Option Wish → List ℕ
 number_of None = []
 number_of (Some w) = w.call ∷ []
 
-nil_more : (xs : List ℕ) → xs ++ [] ≡ xs
-nil_more [] = refl
-nil_more (x ∷ xs) = ap (λ (l : List ℕ). x ∷ l) (nil_more xs)
-
 pub even_is : (xs : List ℕ) (as' : List Act) (w : Option Wish) → Even xs as' w → answers_in as' ++ number_of w ≡ xs
 unfolding Even number_of
-even_is xs as' None h = nil_more (answers_in as') ∙ h
+even_is xs as' None h = append-nil (answers_in as') ∙ h
 even_is xs as' (Some w) h = h.0
 
 sent_more : (as' : List Act) (n : ℕ) (m : Msg) → answers_in (as' ++ act.Send n m ∷ []) ≡ answers_in as'
