@@ -21,7 +21,7 @@ use Rattle.ct_law_calls.proofs.Running.{one_logs, opened_calls}
 use Rattle.ct_law_line.specs.Records.{RecordsMarked, LawOfRecords, PromiseOfRecords}
 use Rattle.ct_law_line.proofs.Lives.{Lives}
 use Rattle.ct_law_line.proofs.Faces.{marks_in_all, EntriesAtHome, After, StepLives}
-use Rattle.ct_law_line.proofs.Lined.{lives_stand}
+use Rattle.ct_law_line.proofs.Lined.{lives_stand, generations_stand}
 use Rattle.ct_law_line.proofs.Followed.{records_follow}
 use Rattle.ct_law_line.proofs.Opened.{opened_lives}
 
@@ -43,6 +43,7 @@ steps_live on c rules (s ∷ steps) w log r h home calls is =
       marks_in_all k.lives.ages,
       k.accepts,
       both.0,
+      generations_stand c rules run.cluster k.lines k.lives,
       calls_stand c run.cluster run.log l.calls,
       both.1,
       k.marks,
@@ -52,7 +53,7 @@ steps_live on c rules (s ∷ steps) w log r h home calls is =
 no_callers : Callers
 no_callers call = (0, op.Unlock 0 [])
 
-all_home : (c : Config) (rules : Rules) → AllAtHome (opening c)
+pub all_home : (c : Config) (rules : Rules) → AllAtHome (opening c)
 all_home c rules = opening_home c (λ n. (all_known c (first_era c) rules no_callers (opening c) (opened_stays c rules no_callers) n).order)
 
 pub law_of_records : StepLives → LawOfRecords
