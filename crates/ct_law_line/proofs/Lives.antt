@@ -12,7 +12,6 @@ use Rattle.ct_call.specs.Rules.{Rules}
 use Rattle.ct_merge.specs.Gathered.{Gathered, nothing, gathered_all}
 use Rattle.ct_merge.specs.Rule.{row_at}
 use Rattle.ct_merge.proofs.Among.{In}
-use Rattle.ct_rules.specs.State.{nothing_kept}
 use Rattle.ct_rules_node.specs.Node.{is_persistent, kind_at, Node, Phase, Idle, Freezing, Frozen, Committing, Lead, Nothing, Freezes, Pulls, Installs, Completed, is_among, is_present, name_of, db_at, state_at}
 use Rattle.ct_rules_node.specs.Rounds.{row_of}
 use Rattle.ct_rules_node.specs.Admission.{record_in}
@@ -149,7 +148,6 @@ pub record Lives (c : Config) (rules : Rules) (w : Cluster) (r : Lines) : Type 0
   pub last : r.last ≡ w.ticket
   pub holder : r.holder ≡ w.holder
   pub size : length w.nodes ≡ c.nodes
-  pub down : (n : ℕ) → is_up n w ≡ false → (node_at n w).phase ≡ Idle
   pub up : (n : ℕ) → is_up n w ≡ true → nat_lt n c.nodes ≡ true
   pub lines : LinesLive c rules w r ages
   pub nodes : (n : ℕ) → nat_lt n c.nodes ≡ true → NodeLives c rules who w r ages n (node_at n w)

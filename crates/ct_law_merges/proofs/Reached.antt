@@ -29,7 +29,7 @@ leads on c rules P so [] w log r h home calls is = (let both = lives_stand c rul
 leads on c rules P so (s ∷ steps) w log r h home calls is =
     let run = ran_one c rules w log s in
     let l = one_logs c rules w log s calls in
-    let k : After c rules r h.ages (outcome_of run) = subst (λ (o : Outcome). After c rules r h.ages o) (sym l.same) (on c rules w r h s (entries_home w home) is) in
+    let k : After c rules r h.ages (outcome_of run) = subst (λ (o : Outcome). After c rules r h.ages o) (sym l.same) (on c rules w r h s is) in
     let there : AllAtHome run.cluster = subst (λ (o : Outcome). AllAtHome o.cluster) (sym l.same) (step_home c rules w s home) in
     (k.lines, marks_in_all k.lives.ages, k.accepts, k.marks, leads on c rules P so steps run.cluster run.log k.lines k.lives there l.calls is)
 

@@ -36,7 +36,7 @@ steps_live on c rules [] w log r h home calls is = tt
 steps_live on c rules (s ∷ steps) w log r h home calls is =
     let run = ran_one c rules w log s in
     let l = one_logs c rules w log s calls in
-    let k : After c rules r h.ages (outcome_of run) = subst (λ (o : Outcome). After c rules r h.ages o) (sym l.same) (on c rules w r h s (entries_home w home) is) in
+    let k : After c rules r h.ages (outcome_of run) = subst (λ (o : Outcome). After c rules r h.ages o) (sym l.same) (on c rules w r h s is) in
     let there : AllAtHome run.cluster = subst (λ (o : Outcome). AllAtHome o.cluster) (sym l.same) (step_home c rules w s home) in
     let both = lives_stand c rules run.cluster k.lines k.lives (entries_home run.cluster there) in (
       k.lines,
