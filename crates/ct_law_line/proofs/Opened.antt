@@ -115,6 +115,7 @@ opened_node c rules n lt =
         λ none. absurd (omega arith),
         record { present = ap (λ g. nat_eq 1 g) one; knows = ms; promise = sym one; lead = λ _. refl; size = s.size; known = record { order = s.known.order; dbs = s.known.dbs }; waits = s.waits; serves = λ e. refl; formed = formed },
         λ db key. ap (λ (w : law.World). w.nodes n) (opened_world c db key) ∙ ap (view db key) (opened_below c n lt),
+        λ ne. absurd (ne one),
       );
       lead = tt;
       replies = tt;
