@@ -14,7 +14,7 @@ use Rattle.ct_msg.specs.declared.config.Config.{Config}
 use Rattle.ct_frame.specs.declared.event.Event.TheVariants as event
 use Rattle.ct_call.specs.Rules.{Rules}
 use Rattle.ct_rules_node.specs.Clients as clients
-use Rattle.ct_rules_node.specs.Clients.{client, serves, serves_or, refusal, not_serving, may_finish, reads, is_under_lock, is_locked}
+use Rattle.ct_rules_node.specs.Clients.{client, serves, refusal, not_serving, may_finish, reads, is_under_lock, is_locked}
 use Rattle.ct_rules_node.specs.Databases.{read_pair}
 use Rattle.ct_rules_node.specs.Node.{Node, Phase, Idle, Serving, Installed, Freezing, Frozen, is_present, is_serving, is_freezing, is_persistent, kind_at, db_at}
 use Rattle.ct_rules_node.specs.Refusals.{refused_if}
@@ -31,11 +31,10 @@ use Rattle.ct_promise.specs.Generation.{record_labels, speaks_of_records}
 use Rattle.ct_promise.specs.Promises.{IsConfig}
 use Rattle.ct_law_node.proofs.Calling.{own_pending}
 use Rattle.ct_law_cluster.proofs.Admitted.{admits}
-use Rattle.ct_law_cluster.proofs.Configured.{refusals_silent}
 use Rattle.ct_law_cluster.proofs.Served.{client_serves, call_kind, has_database}
 use Rattle.ct_law_line.proofs.Lives.{Lives}
 use Rattle.ct_law_line.proofs.Faces.{Turned}
-use Rattle.ct_law_held.proofs.Declining.{refused_turned}
+use Rattle.ct_law_held.proofs.Declining.{refusal_turned}
 use Rattle.ct_law_held.proofs.Finishing.{store_turned, unlock_turned, read_turned}
 use Rattle.ct_law_held.proofs.Held.{outs_labels}
 use Rattle.ct_law_stop.proofs.Wordless.{wordless_turned}
@@ -100,10 +99,6 @@ module _ (c : Config) (rules : Rules) (w : Cluster) (r : Lines) (h : Lives c rul
   abbrev Asked : ClientOp → Turn → Type 0
   Asked o u = Turned c rules h.who w r h.ages n (own_pending n w.calls o ∷ pending w) u
 
-  refused : (o : ClientOp) (reason : Why) → refusal c rules x o ≡ Some reason → Asked o (client c rules n w.calls o (begins x))
-  unfolding client serves_or
-  refused o reason e = subst (λ (u : Turn). Asked o u) (sym (ap (serves_or c rules n w.calls o (makes w.calls (begins x))) e)) (refused_turned c rules w r h n o reason there (refusals_silent c rules x o reason e))
-
   -- a read of a persistent database is answered at once, and nothing is told of records by it
   pair_turned : (db : ℕ) (key : List ℕ) → is_persistent (kind_at c db) ≡ true → Asked (op.Read db key) (read_pair w.calls db key (makes w.calls (begins x)))
   unfolding read_pair answers does makes frames_of speaks_of_records
@@ -141,5 +136,5 @@ module _ (c : Config) (rules : Rules) (w : Cluster) (r : Lines) (h : Lives c rul
   call_turned o absent = either (refusal c rules x o) refl
     where
       either : (reason : Option Why) → refusal c rules x o ≡ reason → Asked o (client c rules n w.calls o (begins x))
-      either (Some reason) e = refused o reason e
+      either (Some reason) e = refusal_turned c rules w r h n o reason there e
       either None e = served o e (finishing x o (finishes c rules x o absent e))

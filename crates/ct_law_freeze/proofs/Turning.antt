@@ -1,8 +1,8 @@
 -- The arrival of a Freeze above the promise: the whole turn.
-use Rattle.std.proofs.Common.{◌≡◌, ◌≢◌, ℕ, zero, suc, ◌<◌, ◌≤◌, Bool, true, false, cond, ◌&&◌, List, [], ◌∷◌, ◌++◌, length, map, Option, None, Some, append-nil, inl, inr, ⊎_elim, refl, sym, ap, ◌∙◌, subst, arith}
-use Rattle.std.specs.Prelude.{◌⊎◌, nat_lt, slice_get}
+use Rattle.std.proofs.Common.{◌≡◌, ◌≢◌, ℕ, suc, ◌<◌, Bool, true, false, cond, List, [], ◌∷◌, ◌++◌, length, map, Option, None, Some, append-nil, inl, inr, ⊎_elim, refl, sym, ap, ◌∙◌, subst, arith}
+use Rattle.std.specs.Prelude.{◌⊎◌, nat_lt}
 use Rattle.std.specs.List.{AllByRecursion}
-use Rattle.std.proofs.lemmas.Bool.{cases_eq, and_parts, ltb-true, ltb-false, cases_Bool}
+use Rattle.std.proofs.lemmas.Bool.{cases_eq, and_parts, ltb-true, cases_Bool}
 use Rattle.ct_msg.specs.declared.client.ClientOp.TheVariants as op
 use Rattle.ct_msg.specs.declared.config.Config.{Config}
 use Rattle.ct_msg.specs.declared.config.DbDecl.{DbDecl}
@@ -22,7 +22,7 @@ use Rattle.ct_rules_node.specs.Rounds.{frozen_state, lead_from}
 use Rattle.ct_rules_node.specs.Turn.{Turn, begins}
 use Rattle.ct_rules_node.specs.Admission.{is_sound, is_listed, members_in, record_in}
 use Rattle.ct_rules_node.specs.Steps.{happens}
-use Rattle.ct_cluster.specs.Cluster.{Cluster, Sent, absent, or_absent, node_at, pending}
+use Rattle.ct_cluster.specs.Cluster.{Cluster, Sent, absent, node_at, pending}
 use Rattle.ct_cluster.specs.Labels.{Label}
 use Rattle.ct_cluster.specs.Steps.{frames_of, put, with_node}
 use Rattle.ct_cluster.specs.Traces.{sent_label}
@@ -46,6 +46,7 @@ use Rattle.ct_law_line.proofs.Apart.{none_fresh}
 use Rattle.ct_law_line.proofs.Ages.{Ages, era_of, Rests}
 use Rattle.ct_law_line.proofs.Lives.{Lives, NodeLives, MailSays, RoundSays, ReplySays, LeadSays, PhaseSays, HasTicket, IsTicket, WasSent}
 use Rattle.ct_law_line.proofs.Later.{Later}
+use Rattle.ct_law_line.proofs.Lined.{beyond}
 use Rattle.ct_law_line.proofs.Faces.{Turned}
 use Rattle.ct_law_freeze.proofs.Ends.{is_ended, ends_outs, unlock}
 use Rattle.ct_law_freeze.proofs.Telling.{ends_frames, ends_remove, All_untold}
@@ -70,21 +71,14 @@ listed c f members is sound = (and_parts (is_among f.sender members) (is_among f
 
 -- ---- no answer to a commit that waits is told of records
 
-pub past_all : (ns : List Node) (n : ℕ) → length ns ≤ n → or_absent (slice_get ns n) ≡ absent
-unfolding or_absent
-past_all [] n l = refl
-past_all (y ∷ ys) zero l = absurd (omega arith)
-past_all (y ∷ ys) (suc n) l = past_all ys n (omega arith)
-
 absent_known : (who : Callers) (calls n : ℕ) → NodeKnown who calls n absent
 unfolding absent AllAscend db_at or_untouched untouched KnownAt CommitFits Wishful
 absent_known who calls n = record { order = tt; dbs = λ db. record { records = λ key. none_known who calls n db key; commit = tt } }
 
 pub all_known : (c : Config) (rules : Rules) (w : Cluster) (r : Lines) (h : Lives c rules w r) (n : ℕ) → NodeKnown h.who w.calls n (node_at n w)
-unfolding node_at
 all_known c rules w r h n = ⊎_elim
     (λ (e : nat_lt n c.nodes ≡ true). (h.nodes n e).known)
-    (λ (e : nat_lt n c.nodes ≡ false). subst (λ (x : Node). NodeKnown h.who w.calls n x) (sym (past_all w.nodes n (let l = ltb-false n c.nodes e in let s = h.size in omega arith))) (absent_known h.who w.calls n))
+    (λ (e : nat_lt n c.nodes ≡ false). subst (λ (x : Node). NodeKnown h.who w.calls n x) (sym (beyond c rules w r h n e)) (absent_known h.who w.calls n))
     (cases_Bool (nat_lt n c.nodes))
 
 commits_untold : (c : Config) (rules : Rules) (w : Cluster) (r : Lines) (h : Lives c rules w r) (n : ℕ) (own : NodeKnown h.who w.calls n (node_at n w)) → CommitsPersist c (node_at n w) → All_untold c (pending w) (node_at n w).dbs

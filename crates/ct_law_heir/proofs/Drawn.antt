@@ -1,14 +1,14 @@
 -- Whatever a node does, the request of each call that waits there was drawn: so a birth may begin with them all.
-use Rattle.std.proofs.Common.{◌≡◌, ◌≢◌, ℕ, zero, suc, ◌<◌, ◌≤◌, true, false, List, [], ◌∷◌, length, Some, None, ⊎_elim, refl, sym, ap, ◌∙◌, arith}
-use Rattle.std.specs.Prelude.{nat_lt, slice_get}
-use Rattle.std.proofs.lemmas.Bool.{cases_eq, ltb-false, cases_Bool}
+use Rattle.std.proofs.Common.{◌≡◌, ◌≢◌, ℕ, ◌<◌, true, false, List, Some, None, ⊎_elim, refl, sym, ap, ◌∙◌, arith}
+use Rattle.std.specs.Prelude.{nat_lt}
+use Rattle.std.proofs.lemmas.Bool.{cases_eq, cases_Bool}
 use Rattle.ct_msg.specs.declared.config.Config.{Config}
 use Rattle.ct_call.specs.Rules.{Rules}
 use Rattle.ct_rules.specs.declared.state.RecState.{RecState}
 use Rattle.ct_rules.specs.declared.state.Wish.{Wish}
 use Rattle.ct_rules_node.specs.Node.{Node, Phase, Idle, Serving, Installed, Freezing, Frozen, db_at, state_at, or_nothing, or_untouched, untouched}
 use Rattle.ct_rules_node.specs.Rounds.{frozen_state}
-use Rattle.ct_cluster.specs.Cluster.{Cluster, absent, or_absent, node_at}
+use Rattle.ct_cluster.specs.Cluster.{Cluster, absent, node_at}
 use Rattle.ct_register.specs.Register.{Register}
 use Rattle.ct_register.specs.Lines.{Lines}
 use Rattle.ct_law_world.specs.World.{Scene, World, View, AreDrawn}
@@ -19,6 +19,7 @@ use Rattle.ct_law_shown.specs.Shown.{view}
 use Rattle.ct_law_node.proofs.Pending.{Callers}
 use Rattle.ct_law_line.proofs.Ages.{Ages, Rests}
 use Rattle.ct_law_line.proofs.Lives.{Lives, PhaseSays}
+use Rattle.ct_law_line.proofs.Lined.{beyond}
 use Rattle.ct_law_line.proofs.Apart.{state_none, empty_out}
 
 -- the request of a call that waits in a world was drawn there
@@ -46,12 +47,6 @@ wished_in c rules who w r a n db key x (Frozen g) h ne = rested db key _ x (h.4 
 wished_in c rules who w r a n db key x Serving h ne = viewed db key _ x (h.2 db key)
 wished_in c rules who w r a n db key x Installed h ne = viewed db key _ x (h.2 db key)
 
-past_all : (ns : List Node) (n : ℕ) → length ns ≤ n → or_absent (slice_get ns n) ≡ absent
-unfolding or_absent
-past_all [] n l = refl
-past_all (y ∷ ys) zero l = absurd (omega arith)
-past_all (y ∷ ys) (suc n) l = past_all ys n (omega arith)
-
 absent_next : absent.next ≡ 1
 unfolding absent
 absent_next = refl
@@ -61,10 +56,6 @@ unfolding absent state_at db_at or_untouched or_nothing untouched
 absent_wish db key = refl
 
 module _ (c : Config) (rules : Rules) (w : Cluster) (r : Lines) (h : Lives c rules w r) where
-  beyond : (n : ℕ) → nat_lt n c.nodes ≡ false → node_at n w ≡ absent
-  unfolding node_at
-  beyond n e = past_all w.nodes n (let l = ltb-false n c.nodes e in let s = h.size in omega arith)
-
   asked_here : (n db : ℕ) (key : List ℕ) (x : Wish) → nat_lt n c.nodes ≡ true → (state_at db key (node_at n w)).wish ≡ Some x → x.request < (node_at n w).next
   asked_here n db key x there e =
       let own = h.nodes n there in
@@ -81,10 +72,10 @@ module _ (c : Config) (rules : Rules) (w : Cluster) (r : Lines) (h : Lives c rul
   all_drawn db key = record {
     some = λ n. ⊎_elim
         (λ (there : nat_lt n c.nodes ≡ true). ((h.nodes n there).formed db key).form.counters.from_one)
-        (λ (out : nat_lt n c.nodes ≡ false). (let e = ap (λ (x : Node). x.next) (beyond n out) in let f = absent_next in omega arith))
+        (λ (out : nat_lt n c.nodes ≡ false). (let e = ap (λ (x : Node). x.next) (beyond c rules w r h n out) in let f = absent_next in omega arith))
         (cases_Bool (nat_lt n c.nodes));
     above = λ n x e. ⊎_elim
         (λ (there : nat_lt n c.nodes ≡ true). asked_here n db key x there e)
-        (λ (out : nat_lt n c.nodes ≡ false). absurd (let f : None ≡ Some x = sym (ap (λ (y : Node). (state_at db key y).wish) (beyond n out) ∙ absent_wish db key) ∙ e in cc))
+        (λ (out : nat_lt n c.nodes ≡ false). absurd (let f : None ≡ Some x = sym (ap (λ (y : Node). (state_at db key y).wish) (beyond c rules w r h n out) ∙ absent_wish db key) ∙ e in cc))
         (cases_Bool (nat_lt n c.nodes));
   }

@@ -31,8 +31,12 @@ use Rattle.ct_law_lead.proofs.Leading.{later_none}
 use Rattle.ct_msg.specs.declared.client.Answer.TheVariants as answer
 use Rattle.ct_rules_node.specs.Turn.{does}
 use Rattle.ct_rules_node.specs.Turn.{begins}
-use Rattle.std.proofs.Common.{inl}
+use Rattle.std.proofs.Common.{Some, inl}
 use Rattle.ct_msg.specs.declared.client.Why.{Why}
+use Rattle.ct_frame.specs.declared.event.Event.TheVariants as event
+use Rattle.ct_rules_node.specs.Clients.{client, refusal, serves_or}
+use Rattle.ct_rules_node.specs.Steps.{happens}
+use Rattle.ct_law_cluster.proofs.Configured.{refusals_silent}
 use Rattle.ct_promise.specs.Generation.{speaks_of_records}
 use Rattle.ct_rules_node.specs.Turn.{makes, answers}
 use Rattle.ct_law_shown.specs.Shown.{is_telling}
@@ -103,3 +107,11 @@ module _ (c : Config) (rules : Rules) (w : Cluster) (r : Lines) (h : Lives c rul
         (marks_go false (span_of (h.ages.ghosts g db key)) (span_of (h.ages.ghosts g db key)) ((h.lines.line g born).world db key).all.marks.under (goes_stays (span_of (h.ages.ghosts g db key))));
     fresh = λ k ne lt. none_fresh c rules r r h.ages k (node_at k w) (λ g. refl);
   }
+
+-- so it is of every call that the node must refuse
+pub refusal_turned : (c : Config) (rules : Rules) (w : Cluster) (r : Lines) (h : Lives c rules w r) (n : ℕ) (o : ClientOp) (reason : Why) → nat_lt n c.nodes ≡ true → refusal c rules (node_at n w) o ≡ Some reason →
+    Turned c rules h.who w r h.ages n (own_pending n w.calls o ∷ pending w) (happens c rules n (begins (node_at n w)) (event.Client w.calls o))
+unfolding happens client serves_or
+refusal_turned c rules w r h n o reason there why =
+    subst (λ (t : Turn). Turned c rules h.who w r h.ages n (own_pending n w.calls o ∷ pending w) t) (sym (ap (serves_or c rules n w.calls o (makes w.calls (begins (node_at n w)))) why))
+    (refused_turned c rules w r h n o reason there (refusals_silent c rules (node_at n w) o reason why))

@@ -21,7 +21,6 @@ use Rattle.ct_cluster.specs.Cluster.{Cluster, Sent, node_at, pending}
 use Rattle.ct_cluster.specs.Labels.{Label}
 use Rattle.ct_cluster.specs.Steps.{frames_of, put, with_node}
 use Rattle.ct_cluster.specs.declared.step.PendingCall.{PendingCall}
-use Rattle.ct_register.specs.Register.{Register}
 use Rattle.ct_register.specs.Lines.{Lines}
 use Rattle.ct_register.specs.Legal.{AcceptsLabels}
 use Rattle.ct_register.specs.Marks.{MarksStep}
@@ -42,7 +41,6 @@ use Rattle.ct_law_line.proofs.Later.{Later}
 use Rattle.ct_law_line.proofs.Faces.{Turned}
 use Rattle.ct_law_freeze.proofs.Froze.{ack}
 use Rattle.ct_law_freeze.proofs.Stood.{lead_later}
-use Rattle.ct_rules_node.specs.Node.{is_present}
 use Rattle.ct_law_line.proofs.Lives.{Replied}
 use Rattle.ct_law_freeze.proofs.Turning.{sent_still}
 use Rattle.std.specs.Prelude.{◌⊎◌, nat_eq, nat_lt, is_some}
@@ -61,7 +59,6 @@ use Rattle.ct_promise.specs.Marked.{is_removal}
 use Rattle.ct_law_node.proofs.Calling.{own_pending}
 use Rattle.ct_law_freeze.proofs.Turning.{Rest_after}
 use Rattle.ct_law_held.proofs.Holding
-use Rattle.ct_law_held.proofs.Holding.{in_state, put_other}
 use Rattle.ct_law_lead.proofs.Rounding.{not_freezing}
 use Rattle.ct_register.proofs.Places.{at_other}
 use Rattle.ct_store.specs.Map.{look}
@@ -106,10 +103,6 @@ known_held who calls n x y db key st g l z wish calm k = record {
 }
 
 -- ---- what it told of itself
-
-held_not_present : (x y : Node) (db : ℕ) (key : List ℕ) (st : RecState) (g l : ℕ) → Held_node x y db key st g l → is_present y.phase ≡ false
-unfolding is_present
-held_not_present x y db key st g l z = ⊎_elim (λ (e : y.phase ≡ Freezing g l). ap is_present e) (λ p. ap is_present p.0) z.phase
 
 -- a node with a lock told nothing of its line
 replied_held : (r s : Lines) (a b : Ages) (n q vbase pbase : ℕ) (table : List TableRow) (x y : Node) (db : ℕ) (key : List ℕ) (st : RecState) (g l : ℕ) → s ≡ record r { records = s.records } → Held_node x y db key st g l → x.phase ≡ Freezing g l → is_some (state_at db key x).locked ≡ true →

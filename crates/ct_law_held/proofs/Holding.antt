@@ -19,7 +19,7 @@ use Rattle.ct_rules.specs.declared.state.RecState.{RecState}
 use Rattle.ct_rules_node.specs.Node.{is_among}
 use Rattle.ct_cluster.specs.Cluster.{Cluster}
 use Rattle.ct_register.specs.Register.{Register, Accepts}
-use Rattle.ct_register.specs.Lines.{Lines, with_record}
+use Rattle.ct_register.specs.Lines.{Lines}
 use Rattle.ct_register.specs.Marks.{MarksStep}
 use Rattle.ct_register.specs.Words.{at, at_key}
 use Rattle.ct_register.proofs.Places.{at_same, at_other, at_key_same, at_key_other}
@@ -192,10 +192,7 @@ module _ (c : Config) (rules : Rules) (w v : Cluster) (r : Lines) (a : Ages) (n 
   abbrev pub ages : Ages
   ages = ages_moved c rules w v r a g records worlds ghosts live moved
 
-  -- the registers are those after the answer, and all lines live on
-  pub held_lines : record r { records = records } ≡ with_record g db key here.register r
-  held_lines = refl
-
+  -- all lines live on
   pub held_live : LinesLive c rules v (record r { records = records }) ages
   held_live = moved_live c rules w v r a g records worlds ghosts live moved
 

@@ -62,7 +62,7 @@ unfolding PhaseSays state_at db_at
 phase_lead c rules who w v r a n x l Idle e k = k
 phase_lead c rules who w v r a n x l (Freezing g h) e k = (k.0, k.1, k.2, k.3, k.4, λ ne db key. rests_lead db key _ x l (k.5 ne db key), k.6, k.7)
 phase_lead c rules who w v r a n x l (Frozen g) e k = (k.0, k.1, k.2, k.3, λ ne db key. rests_lead db key _ x l (k.4 ne db key), k.5, k.6, k.7)
-phase_lead c rules who w v r a n x l Serving e k = (k.0, subst (λ (j : ℕ). NodeStays c (era_of r a (r.line n)) rules who j n (record x { lead = Nothing })) (sym e) k.1, k.2)
+phase_lead c rules who w v r a n x l Serving e k = (k.0, subst (λ (j : ℕ). NodeStays c (era_of r a (r.line n)) rules who j n (record x { lead = Nothing })) (sym e) k.1, k.2, k.3)
 phase_lead c rules who w v r a n x l Installed e k = (k.0, subst (λ (j : ℕ). NodeStays c (era_of r a (r.line n)) rules who j n (record x { lead = Nothing })) (sym e) k.1, k.2)
 
 replied_lead : (r : Lines) (a : Ages) (g n vbase pbase : ℕ) (table : List _) (x : Node) (l : Lead) → Replied r a g n vbase pbase table x → Replied r a g n vbase pbase table (record x { lead = l })

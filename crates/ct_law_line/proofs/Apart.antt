@@ -1,5 +1,5 @@
 -- A node that did nothing lives on, when registers and worlds go on.
-use Rattle.std.proofs.Common.{◌≡◌, ◌≢◌, ℕ, ◌<◌, ◌≤◌, Bool, true, false, ◌||◌, ◌^◌, List, [], ◌∷◌, Some, inl, inr, ⊎_elim, refl, sym, ap, ◌∙◌, subst, arith}
+use Rattle.std.proofs.Common.{◌≡◌, ◌≢◌, ℕ, ◌<◌, ◌≤◌, Bool, true, false, ◌||◌, ◌^◌, List, [], ◌∷◌, inl, inr, ⊎_elim, refl, sym, ap, ◌∙◌, subst, arith}
 use Rattle.std.specs.Prelude.{nat_eq}
 use Rattle.std.specs.List.{AllByRecursion}
 use Rattle.std.proofs.lemmas.Bool.{cases_eq, eq-eqb, cases_Bool}
@@ -27,7 +27,7 @@ use Rattle.ct_law_node.proofs.Pending.{Callers, NodeKnown}
 use Rattle.ct_law_node.proofs.Forming.{Is_formed}
 use Rattle.ct_law_node.proofs.Staying.{NodeStays}
 use Rattle.ct_law_line.proofs.Ages.{Ages, era_of, row_in, begun_view, Rests}
-use Rattle.ct_law_line.proofs.Lives.{Replied, ReplySays, Waits, WasSent, IsGatheredOf, LeadSays, PhaseSays, NodeLives}
+use Rattle.ct_law_line.proofs.Lives.{AllHaveInstalled, Replied, ReplySays, Waits, WasSent, IsGatheredOf, LeadSays, PhaseSays, NodeLives}
 use Rattle.ct_law_line.proofs.Later.{Later, Away}
 use Rattle.ct_law_line.proofs.Framing.{ticket_later}
 
@@ -176,7 +176,14 @@ module _ (c : Config) (rules : Rules) (who them : Callers) (w v : Cluster) (r : 
       h.6,
       begun_away g is h.7,
     )
-    phase_away p is h = (
+    phase_away Serving is h = (
+      λ out. h.0 (sym away.line ∙ out),
+      stays_away h.1 h.0,
+      subst (λ (j : ℕ). (db : ℕ) (key : List ℕ) → (b.worlds j db key).nodes k ≡ view db key x) (sym away.line) (λ db key. away.views (r.line k) db key (named h.0) ∙ h.2 db key),
+      λ ne. subst (λ (j : ℕ). AllHaveInstalled s j (s.members j)) (sym away.line)
+          (λ m among. later.installed (r.line k) m (h.3 (λ e. ne (away.line ∙ e)) m (subst (λ (ms : List ℕ). is_among m ms ≡ true) (later.members (r.line k) (named h.0)) among))),
+    )
+    phase_away Installed is h = (
       λ out. h.0 (sym away.line ∙ out),
       stays_away h.1 h.0,
       subst (λ (j : ℕ). (db : ℕ) (key : List ℕ) → (b.worlds j db key).nodes k ≡ view db key x) (sym away.line) (λ db key. away.views (r.line k) db key (named h.0) ∙ h.2 db key),

@@ -12,8 +12,7 @@ use Rattle.ct_call.specs.Rules.{Rules}
 use Rattle.ct_merge.specs.Gathered.{Gathered, nothing, gathered_all}
 use Rattle.ct_merge.specs.Rule.{row_at}
 use Rattle.ct_merge.proofs.Among.{In}
-use Rattle.ct_rules.specs.State.{nothing_kept}
-use Rattle.ct_rules_node.specs.Node.{is_persistent, kind_at, Node, Phase, Idle, Freezing, Frozen, Committing, Lead, Nothing, Freezes, Pulls, Installs, Completed, is_among, is_present, name_of, db_at, state_at}
+use Rattle.ct_rules_node.specs.Node.{is_persistent, kind_at, Node, Phase, Idle, Serving, Installed, Freezing, Frozen, Committing, Lead, Nothing, Freezes, Pulls, Installs, Completed, is_among, is_present, name_of, db_at, state_at}
 use Rattle.ct_rules_node.specs.Rounds.{row_of}
 use Rattle.ct_rules_node.specs.Admission.{record_in}
 use Rattle.ct_cluster.specs.Cluster.{Cluster, is_up, node_at}
@@ -108,7 +107,8 @@ LeadSays c w r a n (Completed g members t) = IsTicket c r g n members × (r.born
 abbrev pub HasTicket : Lines → ℕ → Type 0
 HasTicket r g = (h : ℕ) × (r.leader g ≡ Some h)
 
--- by its phase: nothing is kept, or its records are those of the worlds of its line, or it rests there
+-- by its phase: nothing is kept, or its records are those of the worlds of its line, or it rests there; and it serves only where
+-- all members of its line have installed that, or in line 1
 unfoldable pub PhaseSays : Config → Rules → Callers → Cluster → Lines → Ages → ℕ → Node → Phase → Type 0
 PhaseSays c rules who w r a n x Idle = (r.line n ≡ 0) × ((db : ℕ) → (db_at db x).records ≡ []) × ((db : ℕ) → (db_at db x).commit ≡ None)
 PhaseSays c rules who w r a n x (Freezing g h) = HasTicket r g × (r.born g ≡ false) × (x.promise ≡ g) × (r.pline n < g) × (r.line n ≡ 0 → (db : ℕ) → (db_at db x).records ≡ []) × (r.line n ≢ 0 → (db : ℕ) (key : List ℕ) → Rests db key ((a.worlds (r.line n) db key).nodes n) x) × ((db : ℕ) → (db_at db x).commit ≡ None) × (is_among n (r.members g) ≡ true)
@@ -116,7 +116,9 @@ PhaseSays c rules who w r a n x (Frozen g) = HasTicket r g × (x.promise ≡ g) 
     ((db : ℕ) (key : List ℕ) → (state_at db key x).locked ≡ None) ×
     -- where generation g was born, each world of it has the node as it will install it
     (r.born g ≡ true → (db : ℕ) (key : List ℕ) → (a.worlds g db key).nodes n ≡ begun_view (scene c (era_of r a g) rules db key) (row_in a g db key) n (state_at db key x).wish x.next)
-PhaseSays c rules who w r a n x p = (r.line n ≢ 0) × NodeStays c (era_of r a (r.line n)) rules who w.calls n (record x { lead = Nothing }) × ((db : ℕ) (key : List ℕ) → (a.worlds (r.line n) db key).nodes n ≡ view db key x)
+PhaseSays c rules who w r a n x Serving = (r.line n ≢ 0) × NodeStays c (era_of r a (r.line n)) rules who w.calls n (record x { lead = Nothing }) × ((db : ℕ) (key : List ℕ) → (a.worlds (r.line n) db key).nodes n ≡ view db key x) ×
+    (r.line n ≢ 1 → AllHaveInstalled r (r.line n) (r.members (r.line n)))
+PhaseSays c rules who w r a n x Installed = (r.line n ≢ 0) × NodeStays c (era_of r a (r.line n)) rules who w.calls n (record x { lead = Nothing }) × ((db : ℕ) (key : List ℕ) → (a.worlds (r.line n) db key).nodes n ≡ view db key x)
 
 pub record NodeLives (c : Config) (rules : Rules) (who : Callers) (w : Cluster) (r : Lines) (a : Ages) (n : ℕ) (x : Node) : Type 0 where
   pub size : length x.dbs ≡ length c.dbs
@@ -149,7 +151,6 @@ pub record Lives (c : Config) (rules : Rules) (w : Cluster) (r : Lines) : Type 0
   pub last : r.last ≡ w.ticket
   pub holder : r.holder ≡ w.holder
   pub size : length w.nodes ≡ c.nodes
-  pub down : (n : ℕ) → is_up n w ≡ false → (node_at n w).phase ≡ Idle
   pub up : (n : ℕ) → is_up n w ≡ true → nat_lt n c.nodes ≡ true
   pub lines : LinesLive c rules w r ages
   pub nodes : (n : ℕ) → nat_lt n c.nodes ≡ true → NodeLives c rules who w r ages n (node_at n w)

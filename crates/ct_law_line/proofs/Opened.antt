@@ -1,6 +1,6 @@
 -- A cluster lives at the opening: the worlds of all records are at their opening, and nothing was sent.
-use Rattle.std.proofs.Common.{◌≡◌, ℕ, zero, suc, ◌+◌, true, false, cond, List, [], ◌∷◌, Some, None, refl, sym, ap, ◌∙◌, subst, arith, eqb-true}
-use Rattle.std.specs.Prelude.{nat_eq, nat_lt, slice_get, replicate}
+use Rattle.std.proofs.Common.{◌≡◌, ℕ, zero, suc, ◌+◌, true, cond, List, [], ◌∷◌, Some, None, refl, sym, ap, ◌∙◌, subst, arith, eqb-true}
+use Rattle.std.specs.Prelude.{nat_eq, nat_lt}
 use Rattle.std.specs.List.{list_all, range_with_len}
 use Rattle.ct_msg.specs.declared.client.ClientOp.TheVariants as op
 use Rattle.ct_msg.specs.declared.config.Config.{Config}
@@ -8,9 +8,9 @@ use Rattle.ct_frame.specs.Fields.{is_node, ascends}
 use Rattle.ct_call.specs.Rules.{Rules}
 use Rattle.ct_rules.specs.State.{rsn_of}
 use Rattle.ct_rules_node.specs.Node as node
-use Rattle.ct_rules_node.specs.Node.{Node, Database, Committing, Idle, master_of, is_among, kind_at, is_readonly}
+use Rattle.ct_rules_node.specs.Node.{Node, Database, Committing, master_of, is_among}
 use Rattle.ct_cluster.specs.Cluster as cluster
-use Rattle.ct_cluster.specs.Cluster.{everyone, numbers, or_absent, node_at, is_up}
+use Rattle.ct_cluster.specs.Cluster.{everyone, numbers, node_at, is_up}
 use Rattle.ct_register.specs.Lines
 use Rattle.ct_register.proofs.Formed.{legal_is_formed}
 use Rattle.ct_register.proofs.Opened.{opened_below, opened_db}
@@ -19,7 +19,6 @@ use Rattle.ct_register.proofs.Small.{none_not_some}
 use Rattle.ct_promise.specs.Promises.{IsConfig}
 use Rattle.ct_promise.specs.Born.{has_pushed}
 use Rattle.ct_law_world.specs.World as law
-use Rattle.ct_law_world.specs.World.{View}
 use Rattle.ct_law_record.proofs.Law.{bare_ghost, bare_holds}
 use Rattle.ct_law_record.proofs.MarkedLaw.{bare_marks}
 use Rattle.ct_law_shown.specs.Shown.{scene, view, mails}
@@ -116,17 +115,11 @@ opened_node c rules n lt =
         λ none. absurd (omega arith),
         record { present = ap (λ g. nat_eq 1 g) one; knows = ms; promise = sym one; lead = λ _. refl; size = s.size; known = record { order = s.known.order; dbs = s.known.dbs }; waits = s.waits; serves = λ e. refl; formed = formed },
         λ db key. ap (λ (w : law.World). w.nodes n) (opened_world c db key) ∙ ap (view db key) (opened_below c n lt),
+        λ ne. absurd (ne one),
       );
       lead = tt;
       replies = tt;
     }
-
--- who does not run is not there
-down_at : (k n : ℕ) (x : Node) → cluster.is_true (slice_get (replicate k true) n) ≡ false → (or_absent (slice_get (replicate k x) n)).phase ≡ Idle
-unfolding cluster.is_true cluster.absent or_absent
-down_at zero n x e = refl
-down_at (suc k) zero x e = absurd (cc)
-down_at (suc k) (suc n) x e = down_at k n x e
 
 opened_cluster : (c : Config) (rules : Rules) → IsConfig c → Lives c rules (cluster.opening c) (Lines.opening c)
 unfolding cluster.opening is_up node_at
@@ -137,7 +130,6 @@ opened_cluster c rules is = record {
   last = refl;
   holder = refl;
   size = (opened_stays c rules no_callers).size;
-  down = λ n down. down_at c.nodes n (node.opening c (everyone c)) down;
   up = λ n up. below_everyone c n ((opened_stays c rules no_callers).up n up);
   lines = opened_lines c rules is;
   nodes = λ n lt. subst (λ (x : Node). NodeLives c rules no_callers (cluster.opening c) (Lines.opening c) (opened_ages c) n x) (sym (opened_below c n lt)) (opened_node c rules n lt);

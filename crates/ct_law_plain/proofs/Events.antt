@@ -1,5 +1,5 @@
 -- Which events are plain: a call that is no commit, a message of a record, a vacuum, and what Retry and Thaw do of records.
-use Rattle.std.proofs.Common.{◌≡◌, ℕ, ◌+◌, Bool, false, List, [], ◌∷◌, Option, Some, None, refl, ap}
+use Rattle.std.proofs.Common.{◌≡◌, ℕ, ◌+◌, Bool, false, List, [], ◌∷◌, Option, Some, None, refl}
 use Rattle.std.specs.Prelude.{◌&&◌}
 use Rattle.ct_bytes.specs.Words.{others}
 use Rattle.ct_msg.specs.declared.client.Answer.{Answer}
@@ -7,11 +7,10 @@ use Rattle.ct_msg.specs.declared.client.ClientOp.{ClientOp}
 use Rattle.ct_msg.specs.declared.client.ClientOp.TheVariants as op
 use Rattle.ct_msg.specs.declared.client.Why.{Why}
 use Rattle.ct_msg.specs.declared.config.Config.{Config}
-use Rattle.ct_frame.specs.declared.frame.Frame.{Frame}
 use Rattle.ct_call.specs.Rules.{Rules}
 use Rattle.ct_store.specs.Map.{Pairs}
 use Rattle.ct_rules.specs.Parts.{Moving, keeps, want}
-use Rattle.ct_rules.specs.Moves.{call_again, revoke_again, release}
+use Rattle.ct_rules.specs.Moves.{call_again, revoke_again}
 use Rattle.ct_rules.specs.declared.event.Place.{Place}
 use Rattle.ct_rules.specs.declared.state.RecState.{RecState}
 use Rattle.ct_rules.specs.declared.state.Wish.{Wish}
@@ -19,11 +18,11 @@ use Rattle.ct_rules_node.specs.Node.{Phase, Freezing, Database, is_freezing}
 use Rattle.ct_rules_node.specs.Turn.{Turn, does, makes, answers}
 use Rattle.ct_rules_node.specs.Databases.{read_pair}
 use Rattle.ct_rules_node.specs.Records.{at_record}
-use Rattle.ct_rules_node.specs.Clients.{is_commit, is_unlock, frozen_if_unlocked, refusal, unlocks, reads, serves, serves_or, client}
+use Rattle.ct_rules_node.specs.Clients.{is_commit, is_unlock, refusal, unlocks, reads, serves, serves_or, client}
 use Rattle.ct_rules_node.specs.Rounds.{Called, want_again_of, want_again, want_all}
 use Rattle.ct_rules_node.specs.Retries.{call_all, revoke_all, revoke_in}
-use Rattle.ct_rules_node.specs.Steps.{on_record_of, vacuum_all, vacuums}
-use Rattle.ct_law_shown.proofs.Speaking.{Told, want_told, store_told, release_told, unlock_told, vacuum_told, call_again_told, revoke_again_told, arrive_told}
+use Rattle.ct_rules_node.specs.Steps.{vacuum_all, vacuums}
+use Rattle.ct_law_shown.proofs.Speaking.{Told, want_told, store_told, unlock_told, vacuum_told, call_again_told, revoke_again_told}
 use Rattle.ct_law_plain.proofs.Plainly.{IsOfRecord, Speaks, SamePlain, plain_same, plain_after, either_plain, at_record_plain}
 
 -- ---- small words
@@ -74,10 +73,6 @@ unfolding unlocks is_freezing
 unlocks_plain c me call db key t (Freezing g leader) e = absurd (cc)
 unlocks_plain c me call db key t _ e = at_record_plain c me db key _ t (λ at o h. unlock_told at call o h)
 
--- and there, up to the look whether it was the last lock
-releases_plain : (c : Config) (me call db : ℕ) (key : List ℕ) (t : Turn) → SamePlain me t (at_record c me db key (λ at o. release call o) t)
-releases_plain c me call db key t = at_record_plain c me db key _ t (λ at o h. release_told at call o h)
-
 wants_plain : (c : Config) (rules : Rules) (me call db : ℕ) (key : List ℕ) (asked : ClientOp) (t : Turn) → SamePlain me t (at_record c me db key (λ at o. want at rules call asked o) t)
 wants_plain c rules me call db key asked t = at_record_plain c me db key _ t (λ at o h. want_told at rules call asked o h)
 
@@ -108,17 +103,6 @@ serves_or_plain c rules me call asked t None e f = serves_plain c rules me call 
 pub client_plain : (c : Config) (rules : Rules) (me call : ℕ) (asked : ClientOp) (t : Turn) → is_commit asked ≡ false → is_last_unlock asked t.node.phase ≡ false → SamePlain me t (client c rules me call asked t)
 unfolding client makes
 client_plain c rules me call asked t e f = plain_after (makes_plain me call t) (serves_or_plain c rules me call asked (makes call t) (refusal c rules t.node asked) e f)
-
--- a call that is refused
-pub refused_plain : (c : Config) (rules : Rules) (me call : ℕ) (asked : ClientOp) (t : Turn) (w : Why) → refusal c rules t.node asked ≡ Some w → SamePlain me t (client c rules me call asked t)
-unfolding client serves_or
-refused_plain c rules me call asked t w e = rw e (plain_after (makes_plain me call t) (answers_plain me call _ (makes call t)))
-
--- an unlock at a node that freezes is plain up to the look whether that was the last lock
-pub last_unlock : (c : Config) (rules : Rules) (me call db : ℕ) (key : List ℕ) (t : Turn) (g leader : ℕ) → t.node.phase ≡ Freezing g leader →
-    (u : Turn) × SamePlain me t u × (serves c rules me call t (op.Unlock db key) ≡ frozen_if_unlocked me g leader u)
-unfolding serves unlocks
-last_unlock c rules me call db key t g leader e = (at_record c me db key (λ at o. release call o) t, releases_plain c me call db key t, ap (unlocks c me call db key t) e)
 
 -- ---- Thaw, Retry, Vacuum and the messages of records
 
@@ -163,8 +147,3 @@ vacuum_all_plain c me db (e ∷ m) t = plain_after (at_record_plain c me db e.0 
 pub vacuums_plain : (c : Config) (me db : ℕ) (t : Turn) → SamePlain me t (vacuums c me db t)
 unfolding vacuums
 vacuums_plain c me db t = either_plain _ (vacuum_all_plain c me db _ t) plain_same
-
-pub on_record_of_plain : (c : Config) (rules : Rules) (me : ℕ) (f : Frame) (t : Turn) (r : Option (ℕ × List ℕ)) → SamePlain me t (on_record_of c rules me f t r)
-unfolding on_record_of
-on_record_of_plain c rules me f t None = plain_same
-on_record_of_plain c rules me f t (Some r) = either_plain _ (at_record_plain c me r.0 r.1 _ t (λ at o h. arrive_told at rules f.sender f.msg o h)) plain_same

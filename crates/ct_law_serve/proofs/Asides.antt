@@ -45,7 +45,7 @@ use Rattle.ct_law_line.proofs.Apart.{each_then}
 use Rattle.ct_law_line.proofs.Faces.{Turned}
 use Rattle.ct_law_stop.proofs.Wordless.{wordless_turned, nothing_turned}
 use Rattle.ct_law_lead.proofs.Rounding.{Says_round, foreign}
-use Rattle.ct_law_serve.proofs.Present.{reply_still, present_lives, known_all}
+use Rattle.ct_law_serve.proofs.Present.{serving_says, reply_still, present_lives, known_all}
 use Rattle.ct_law_serve.proofs.Quietly.{Quietly, quiet_then, quiet_makes, quiet_commit, quiet_read, quiet_pupdate, quiet_pack, quiet_release, quiet_take}
 use Rattle.ct_law_serve.proofs.Records.{present_here, locked_here}
 
@@ -72,7 +72,7 @@ module _ (c : Config) (rules : Rules) (w : Cluster) (r : Lines) (h : Lives c rul
         says = each_then (λ s. Says_round c w r h.ages n s.frame) (λ s. MailSays c r h.ages s.frame) (λ s k. record { round = k.round; sound = λ j i. absurd (let o = k.none in cc) }) (frames_of u.outs) said;
         replies = λ k ne. each_then (λ s. Says_round c w r h.ages n s.frame) (λ s. ReplySays r h.ages k (node_at k w) s.frame s.frame.msg) (λ s i. foreign r h.ages n k (node_at k w) s.frame s.frame.msg i.sender ne) (frames_of u.outs) said;
         own = each_then (λ s. Says_round c w r h.ages n s.frame) (λ s. ReplySays r h.ages n u.node s.frame s.frame.msg) (λ s k. reply_still r h.ages h.ages r.records n x u.node s.frame s.frame.msg present after promise (λ m db key ne. refl) k.reply) (frames_of u.outs) said;
-        mine = present_lives c rules h.who w w r h.ages h.ages r.records n x u.node (h.nodes n there) is stays quiet.pbase (λ db key. is.shows db key ∙ sym (views db key))
+        mine = present_lives c rules h.who w w r h.ages h.ages r.records n x u.node (h.nodes n there) is stays quiet.pbase (λ e. serving_says c rules h.who w r h.ages n x x.phase (sym quiet.phase ∙ e) (h.nodes n there).phase) (λ db key. is.shows db key ∙ sym (views db key))
             (happens_locked c rules n t e (locked_here c rules w r h n there present)) (subst (λ (l : Lead). LeadSays c w r h.ages n l) (sym quiet.lead) (h.nodes n there).lead)
             (each_then (λ q. ReplySays r h.ages n x q.frame q.frame.msg) (λ q. ReplySays r h.ages n u.node q.frame q.frame.msg) (λ q k. reply_still r h.ages h.ages r.records n x u.node q.frame q.frame.msg present after promise (λ m db key ne. refl) k) w.sent (h.nodes n there).replies);
       })

@@ -1,9 +1,8 @@
 -- Every client's call at a node that is present.
-use Rattle.std.proofs.Common.{◌≡◌, ℕ, Bool, true, false, List, [], ◌∷◌, Option, Some, None, ⊎_elim, refl, sym, ap, ◌∙◌, subst}
+use Rattle.std.proofs.Common.{◌≡◌, ℕ, true, false, ◌∷◌, Option, Some, None, ⊎_elim, refl, sym, ◌∙◌}
 use Rattle.std.specs.Prelude.{nat_lt}
 use Rattle.std.proofs.lemmas.Bool.{cases_Bool}
 use Rattle.ct_msg.specs.Client.{is_read, db_of}
-use Rattle.ct_msg.specs.declared.client.Answer.TheVariants as answer
 use Rattle.ct_msg.specs.declared.client.ClientOp.{ClientOp}
 use Rattle.ct_msg.specs.declared.client.ClientOp.TheVariants as op
 use Rattle.ct_msg.specs.declared.client.Why.{Why}
@@ -11,20 +10,18 @@ use Rattle.ct_msg.specs.declared.config.Config.{Config}
 use Rattle.ct_frame.specs.declared.event.Event.TheVariants as event
 use Rattle.ct_call.specs.Rules.{Rules}
 use Rattle.ct_rules_node.specs.Node.{is_present, is_persistent, kind_at}
-use Rattle.ct_rules_node.specs.Turn.{Turn, begins, makes, answers}
-use Rattle.ct_rules_node.specs.Clients as clients
-use Rattle.ct_rules_node.specs.Clients.{client, refusal, serves_or, is_commit}
+use Rattle.ct_rules_node.specs.Turn.{begins}
+use Rattle.ct_rules_node.specs.Clients.{client, refusal, is_commit}
 use Rattle.ct_rules_node.specs.Steps.{happens}
 use Rattle.ct_cluster.specs.Cluster.{Cluster, node_at, pending}
 use Rattle.ct_register.specs.Lines.{Lines}
 use Rattle.ct_promise.specs.Promises.{IsConfig}
 use Rattle.ct_law_node.proofs.Calling.{own_pending}
 use Rattle.ct_law_cluster.proofs.Admitted.{admits}
-use Rattle.ct_law_cluster.proofs.Configured.{refusals_silent}
 use Rattle.ct_law_cluster.proofs.Served.{record_kind}
 use Rattle.ct_law_line.proofs.Lives.{Lives}
 use Rattle.ct_law_line.proofs.Faces.{Turned}
-use Rattle.ct_law_held.proofs.Declining.{refused_turned}
+use Rattle.ct_law_held.proofs.Declining.{refusal_turned}
 use Rattle.ct_law_serve.proofs.Calling.{call_turned}
 use Rattle.ct_law_serve.proofs.Asides.{commit_turned, read_turned}
 
@@ -47,19 +44,13 @@ persistent_turned c rules w r h n (op.Apply db key f arg) there present own free
 persistent_turned c rules w r h n (op.Store db key v) there present own free kind = absurd (absurd_kind c rules w n (op.Store db key v) free kind refl refl)
 persistent_turned c rules w r h n (op.Unlock db key) there present own free kind = absurd (absurd_kind c rules w n (op.Unlock db key) free kind refl refl)
 
-refused_here : (c : Config) (rules : Rules) (w : Cluster) (r : Lines) (h : Lives c rules w r) (n : ℕ) (o : ClientOp) (reason : Why) → nat_lt n c.nodes ≡ true → refusal c rules (node_at n w) o ≡ Some reason → Call_turned c rules w r h n o
-unfolding happens client serves_or
-refused_here c rules w r h n o reason there why =
-    subst (λ (u : Turn). Turned c rules h.who w r h.ages n (own_pending n w.calls o ∷ pending w) u) (sym (ap (serves_or c rules n w.calls o (makes w.calls (begins (node_at n w)))) why))
-    (refused_turned c rules w r h n o reason there (refusals_silent c rules (node_at n w) o reason why))
-
 -- a client's call, refused or not
 pub client_turned : (c : Config) (rules : Rules) (w : Cluster) (r : Lines) (h : Lives c rules w r) (n : ℕ) (o : ClientOp) → IsConfig c → nat_lt n c.nodes ≡ true → is_present (node_at n w).phase ≡ true → h.who w.calls ≡ (n, o) →
     (client c rules n w.calls o (begins (node_at n w))).spent ≡ false → Call_turned c rules w r h n o
 client_turned c rules w r h n o config there present own whole = either (refusal c rules (node_at n w) o) refl
   where
     either : (why : Option Why) → refusal c rules (node_at n w) o ≡ why → Call_turned c rules w r h n o
-    either (Some reason) why = refused_here c rules w r h n o reason there why
+    either (Some reason) why = refusal_turned c rules w r h n o reason there why
     either None free = ⊎_elim
         (λ (kind : is_persistent (kind_at c (db_of o)) ≡ true). persistent_turned c rules w r h n o there present own free kind)
         (λ (kind : is_persistent (kind_at c (db_of o)) ≡ false). call_turned c rules w r h n o config there present own free whole kind)

@@ -25,7 +25,7 @@ use Rattle.ct_law_node.proofs.Delivering.{IsShown}
 use Rattle.ct_law_cluster.proofs.Opening.{absent_known}
 use Rattle.ct_law_plain.proofs.Locked.{CommitLocked, commit_locked}
 use Rattle.ct_law_line.proofs.Ages.{Ages, era_of, LineLives}
-use Rattle.ct_law_line.proofs.Lives.{Replied, ReplySays, LeadSays, PhaseSays, NodeLives, Lives}
+use Rattle.ct_law_line.proofs.Lives.{AllHaveInstalled, Replied, ReplySays, LeadSays, PhaseSays, NodeLives, Lives}
 use Rattle.ct_law_line.proofs.Lined.{beyond}
 use Rattle.ct_law_generation.proofs.Running.{other_rules}
 
@@ -59,14 +59,20 @@ present_says c rules who w r a n x (Frozen g) e k = absurd (cc)
 present_says c rules who w r a n x Serving e k = record { lined = k.0; stays = unled c (era_of r a (r.line n)) rules who w.calls n x refl k.1; shows = k.2 }
 present_says c rules who w r a n x Installed e k = record { lined = k.0; stays = unled c (era_of r a (r.line n)) rules who w.calls n x refl k.1; shows = k.2 }
 
+-- where it serves all members have installed its line, or that is line 1
+pub serving_says : (c : Config) (rules : Rules) (who : Callers) (w : Cluster) (r : Lines) (a : Ages) (n : ℕ) (x : Node) (p : Phase) → p ≡ Serving → PhaseSays c rules who w r a n x p → r.line n ≢ 1 → AllHaveInstalled r (r.line n) (r.members (r.line n))
+unfolding PhaseSays
+serving_says c rules who w r a n x Serving e k = k.3
+serving_says c rules who w r a n x _ e k = absurd (cc)
+
 -- the same with other registers of records and other worlds
-still_says : (c : Config) (rules : Rules) (who : Callers) (v : Cluster) (r : Lines) (a b : Ages) (records : ℕ → ℕ → List ℕ → Register) (n : ℕ) (y : Node) (p : Phase) → is_present p ≡ true → r.line n ≢ 0 →
+still_says : (c : Config) (rules : Rules) (who : Callers) (v : Cluster) (r : Lines) (a b : Ages) (records : ℕ → ℕ → List ℕ → Register) (n : ℕ) (y : Node) (p : Phase) → is_present p ≡ true → (p ≡ Serving → r.line n ≢ 1 → AllHaveInstalled r (r.line n) (r.members (r.line n))) → r.line n ≢ 0 →
     NodeStays c (era_of r a (r.line n)) rules who v.calls n y → ((db : ℕ) (key : List ℕ) → (b.worlds (r.line n) db key).nodes n ≡ view db key y) → PhaseSays c rules who v (record r { records = records }) b n y p
 unfolding PhaseSays is_present is_present_in db_at state_at
-still_says c rules who v r a b records n y Idle e lined h shows = absurd (cc)
-still_says c rules who v r a b records n y (Freezing g l) e lined h shows = absurd (cc)
-still_says c rules who v r a b records n y (Frozen g) e lined h shows = absurd (cc)
-still_says c rules who v r a b records n y Serving e lined h shows = (
+still_says c rules who v r a b records n y Idle e thawed lined h shows = absurd (cc)
+still_says c rules who v r a b records n y (Freezing g l) e thawed lined h shows = absurd (cc)
+still_says c rules who v r a b records n y (Frozen g) e thawed lined h shows = absurd (cc)
+still_says c rules who v r a b records n y Serving e thawed lined h shows = (
   lined,
   record {
     present = h.present;
@@ -80,8 +86,9 @@ still_says c rules who v r a b records n y Serving e lined h shows = (
     formed = h.formed;
   },
   shows,
+  thawed refl,
 )
-still_says c rules who v r a b records n y Installed e lined h shows = (
+still_says c rules who v r a b records n y Installed e thawed lined h shows = (
   lined,
   record {
     present = h.present;
@@ -133,10 +140,10 @@ reply_still r a b records n x y f m before after promise views k = tt
 -- ---- it lives on
 
 pub present_lives : (c : Config) (rules : Rules) (who : Callers) (w v : Cluster) (r : Lines) (a b : Ages) (records : ℕ → ℕ → List ℕ → Register) (n : ℕ) (x y : Node) → NodeLives c rules who w r a n x → Is_present c rules who w r a n x →
-    NodeStays c (era_of r a (r.line n)) rules who v.calls n y → y.pbase ≡ x.pbase → ((db : ℕ) (key : List ℕ) → (b.worlds (r.line n) db key).nodes n ≡ view db key y) → CommitLocked c y →
+    NodeStays c (era_of r a (r.line n)) rules who v.calls n y → y.pbase ≡ x.pbase → (y.phase ≡ Serving → r.line n ≢ 1 → AllHaveInstalled r (r.line n) (r.members (r.line n))) → ((db : ℕ) (key : List ℕ) → (b.worlds (r.line n) db key).nodes n ≡ view db key y) → CommitLocked c y →
     LeadSays c v (record r { records = records }) b n y.lead → AllByRecursion (λ q. ReplySays (record r { records = records }) b n y q.frame q.frame.msg) v.sent → NodeLives c rules who v (record r { records = records }) b n y
 unfolding is_committing is_locked
-present_lives c rules who w v r a b records n x y own is stays pbase shows commits lead replies =
+present_lives c rules who w v r a b records n x y own is stays pbase thawed shows commits lead replies =
     let promise : y.promise ≡ x.promise = stays.promise ∙ sym is.stays.promise in
     record {
       size = stays.size;
@@ -152,7 +159,7 @@ present_lives c rules who w v r a b records n x y own is stays pbase shows commi
       formed = stays.formed;
       commits = λ db k e. (commit_locked c y db commits (ap is_some e)).2;
       persist = λ db k e. (commit_locked c y db commits (ap is_some e)).0;
-      phase = still_says c rules who v r a b records n y y.phase (phase_of (r.line n) y stays.present) is.lined stays shows;
+      phase = still_says c rules who v r a b records n y y.phase (phase_of (r.line n) y stays.present) thawed is.lined stays shows;
       lead = lead;
       replies = replies;
     }

@@ -32,10 +32,11 @@ use Rattle.ct_law_line.proofs.Ages.{Ages}
 use Rattle.ct_law_line.proofs.Lives.{RoundSays, ReplySays}
 use Rattle.ct_law_lead.proofs.Rounding.{Says_round}
 
--- From one middle of a turn to another the node's base and lead stay, and each message that is sent is of no record and says
+-- From one middle of a turn to another the node's base, phase and lead stay, and each message that is sent is of no record and says
 -- what is so.
 pub record Quietly (c : Config) (w : Cluster) (r : Lines) (a : Ages) (n : ℕ) (t u : Turn) : Type 0 where
   pub pbase : u.node.pbase ≡ t.node.pbase
+  pub phase : u.node.phase ≡ t.node.phase
   pub lead : u.node.lead ≡ t.node.lead
   pub frames : AllByRecursion (λ s. Says_round c w r a n s.frame) (frames_of t.outs) → AllByRecursion (λ s. Says_round c w r a n s.frame) (frames_of u.outs)
 
@@ -44,15 +45,16 @@ module _ (c : Config) (w : Cluster) (r : Lines) (a : Ages) (n : ℕ) where
   Quiet t u = Quietly c w r a n t u
 
   pub quiet_none : (t : Turn) → Quiet t t
-  quiet_none t = record { pbase = refl; lead = refl; frames = λ h. h }
+  quiet_none t = record { pbase = refl; phase = refl; lead = refl; frames = λ h. h }
 
   pub quiet_then : (t u v : Turn) → Quiet t u → Quiet u v → Quiet t v
-  quiet_then t u v p q = record { pbase = q.pbase ∙ p.pbase; lead = q.lead ∙ p.lead; frames = λ h. q.frames (p.frames h) }
+  quiet_then t u v p q = record { pbase = q.pbase ∙ p.pbase; phase = q.phase ∙ p.phase; lead = q.lead ∙ p.lead; frames = λ h. q.frames (p.frames h) }
 
   quiet_does : (x : Out) (t : Turn) → AllByRecursion (λ s. Says_round c w r a n s.frame) (frames_of (x ∷ [])) → Quiet t (does x t)
   unfolding does
   quiet_does x t k = record {
     pbase = refl;
+    phase = refl;
     lead = refl;
     frames = λ h. subst (λ (l : List Sent). AllByRecursion (λ s. Says_round c w r a n s.frame) l) (sym (frames_more t.outs (x ∷ []))) (all_append (λ s. Says_round c w r a n s.frame) (frames_of t.outs) (frames_of (x ∷ [])) h k);
   }
@@ -67,15 +69,15 @@ module _ (c : Config) (w : Cluster) (r : Lines) (a : Ages) (n : ℕ) where
 
   pub quiet_makes : (number : ℕ) (t : Turn) → Quiet t (makes number t)
   unfolding makes
-  quiet_makes number t = record { pbase = refl; lead = refl; frames = λ h. h }
+  quiet_makes number t = record { pbase = refl; phase = refl; lead = refl; frames = λ h. h }
 
   quiet_db : (db : ℕ) (d : Database) (t : Turn) → Quiet t (with_node (with_db db d t.node) t)
   unfolding with_node with_db
-  quiet_db db d t = record { pbase = refl; lead = refl; frames = λ h. h }
+  quiet_db db d t = record { pbase = refl; phase = refl; lead = refl; frames = λ h. h }
 
   quiet_places : (placement : List Assigned) (held : List Address) (run : ℕ) (t : Turn) → Quiet t (with_node (record t.node { placement = placement; held = held; last_run = run }) t)
   unfolding with_node
-  quiet_places placement held run t = record { pbase = refl; lead = refl; frames = λ h. h }
+  quiet_places placement held run t = record { pbase = refl; phase = refl; lead = refl; frames = λ h. h }
 
   -- a message that says nothing of records nor of rounds
   abbrev Mute : Msg → Type 0

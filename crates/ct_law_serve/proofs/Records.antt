@@ -126,6 +126,7 @@ module _ (c : Config) (rules : Rules) (w : Cluster) (r : Lines) (h : Lives c rul
     goes = goes;
     fits = fits;
     pbase = same.pbase;
+    phase = λ e. inl (sym same.phase ∙ e);
     lead = same.lead;
     own = own_of g n t (happens c rules n t e) same refl (of_era c (era_of r h.ages g) rules h.who w.calls n x is.stays);
   }) (says_none c w r h.ages n (happens c rules n t e))

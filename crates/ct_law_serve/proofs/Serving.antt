@@ -1,7 +1,7 @@
 -- The parts of a turn hold where the node goes on by rules of records, and says more of rounds and commits: the registers accept
 -- what it tells, its line lives on in the worlds that follow, and no other line sees it.
 use Rattle.std.proofs.Common.{◌≡◌, ◌≢◌, ℕ, ◌<◌, ◌^◌, Bool, true, false, cond, List, [], ◌∷◌, ◌++◌, Option, Some, None, append-nil, ⊎_elim, refl, sym, ap, ◌∙◌, subst, arith}
-use Rattle.std.specs.Prelude.{nat_eq, nat_lt, ◌&&◌}
+use Rattle.std.specs.Prelude.{◌⊎◌, nat_eq, nat_lt, ◌&&◌}
 use Rattle.std.specs.List.{AllByRecursion}
 use Rattle.std.proofs.lemmas.Bool.{cases_eq, ne_eqb, eq-eqb, cases_Bool}
 use Rattle.ct_msg.specs.declared.config.Config.{Config}
@@ -12,7 +12,7 @@ use Rattle.ct_frame.specs.declared.frame.Msg.TheVariants as msg
 use Rattle.ct_call.specs.Rules.{Rules}
 use Rattle.ct_lcp2.proofs.Choices.{all_append}
 use Rattle.ct_rules.specs.State.{rsn_of}
-use Rattle.ct_rules_node.specs.Node.{Node, is_present, master_of, state_at}
+use Rattle.ct_rules_node.specs.Node.{Node, Serving, is_present, master_of, state_at}
 use Rattle.ct_rules_node.specs.Turn.{Turn, begins}
 use Rattle.ct_rules_node.specs.Admission.{record_in}
 use Rattle.ct_cluster.specs.Cluster.{Cluster, Sent, node_at}
@@ -47,7 +47,7 @@ use Rattle.ct_law_removal.proofs.Removed.{MayRemove, told_removal}
 use Rattle.ct_law_plain.proofs.Locked.{CommitLocked}
 use Rattle.ct_law_generation.proofs.Going.{marks_step}
 use Rattle.ct_law_line.proofs.Ages.{Ages, era_of, LineLives}
-use Rattle.ct_law_line.proofs.Lives.{ReplySays, RoundSays, MailSays, LeadSays, NodeLives, Lives}
+use Rattle.ct_law_line.proofs.Lives.{AllHaveInstalled, ReplySays, RoundSays, MailSays, LeadSays, NodeLives, Lives}
 use Rattle.ct_law_line.proofs.Later.{Later}
 use Rattle.ct_law_line.proofs.Framing.{mail_later}
 use Rattle.ct_law_line.proofs.Moving.{Moved, ages_moved, moved_live}
@@ -58,7 +58,7 @@ use Rattle.ct_law_freeze.proofs.Stood.{lead_later}
 use Rattle.ct_law_freeze.proofs.Turning.{sent_still}
 use Rattle.ct_law_lead.proofs.Rounding.{Says_round, sends, sends_untold, sends_mails, sends_all, foreign}
 use Rattle.ct_law_lead.proofs.Again.{Says_more}
-use Rattle.ct_law_serve.proofs.Present.{Is_present, reply_still, present_lives, line_here, shown_here}
+use Rattle.ct_law_serve.proofs.Present.{Is_present, serving_says, reply_still, present_lives, line_here, shown_here}
 
 -- ---- what is asked
 
@@ -74,6 +74,8 @@ pub record Serves (c : Config) (rules : Rules) (w : Cluster) (r : Lines) (h : Li
   pub goes : Goes_on c (era_of r h.ages (r.line n)) rules h.who w.calls n pend (h.ages.worlds (r.line n)) (begins (node_at n w)) u
   pub fits : AllByRecursion (Is_fit c (r.line n) r) (labels_of n pend u.outs)
   pub pbase : u.node.pbase ≡ (node_at n w).pbase
+  -- it serves only where it did, or where all members have installed its line
+  pub phase : u.node.phase ≡ Serving → ((node_at n w).phase ≡ Serving) ⊎ AllHaveInstalled r (r.line n) (r.members (r.line n))
   pub lead : u.node.lead ≡ (node_at n w).lead
   pub own : AllByRecursion (λ s. Is_own (r.line n) n s.frame) (frames_of u.outs)
 
@@ -275,8 +277,14 @@ module _ (c : Config) (rules : Rules) (w : Cluster) (r : Lines) (h : Lives c rul
       (all_sent (λ q. ReplySays after b n v.node q.frame q.frame.msg) (own_replies after b g n n v.node (frames_of u.outs) t.own)
       (sends_all (λ f. ReplySays after b n v.node f f.msg) more.frames (each_then (Says_round c w r a n) (λ f. ReplySays after b n v.node f f.msg) (λ f k. still f k.reply) more.frames more.all))))
 
+  thawed : v.node.phase ≡ Serving → r.line n ≢ 1 → AllHaveInstalled r (r.line n) (r.members (r.line n))
+  thawed e ne = ⊎_elim
+      (λ (was : x.phase ≡ Serving). serving_says c rules h.who w r a n x x.phase was (h.nodes n there).phase ne)
+      (λ (all : AllHaveInstalled r (r.line n) (r.members (r.line n))). all)
+      (t.phase (sym (ap (λ (y : Node). y.phase) more.node) ∙ e))
+
   mine : NodeLives c rules h.who z after b n v.node
-  mine = present_lives c rules h.who w z r a b records n x v.node (h.nodes n there) is stays (ap (λ (y : Node). y.pbase) more.node ∙ t.pbase) own_views locked leads replies
+  mine = present_lives c rules h.who w z r a b records n x v.node (h.nodes n there) is stays (ap (λ (y : Node). y.pbase) more.node ∙ t.pbase) thawed own_views locked leads replies
 
   -- ---- marks
 

@@ -1,5 +1,5 @@
 -- A Retry and a Thaw at a node that is present.
-use Rattle.std.proofs.Common.{◌≡◌, ℕ, ◌+◌, true, false, List, [], ◌∷◌, Option, Some, None, ⊎_elim, refl, sym, ap, ◌∙◌, subst}
+use Rattle.std.proofs.Common.{◌≡◌, ℕ, ◌+◌, true, false, List, [], ◌∷◌, Option, Some, None, ⊎_elim, inl, inr, refl, sym, ap, ◌∙◌, subst}
 use Rattle.std.specs.Prelude.{nat_lt}
 use Rattle.std.specs.List.{AllByRecursion}
 use Rattle.ct_msg.specs.declared.config.Config.{Config}
@@ -74,6 +74,7 @@ retry_here c rules w r h n config there present =
       goes = resends_go c era rules h.who w.calls n (pending w) worlds t begin.member at here.stays;
       fits = subst (AllByRecursion (Is_fit c (r.line n) r)) (sym (resends_silent c era rules h.who w.calls n (pending w) t at here.stays refl)) tt;
       pbase = same.pbase;
+      phase = λ e. inl (sym same.phase ∙ e);
       lead = same.lead;
       own = own_of (r.line n) n t u same refl (of_era c era rules h.who w.calls n x here.stays);
     }) (subst (λ (y : Turn). Says_more c w r h.ages n u y) (sym (retry_is c n t present)) says)
@@ -114,6 +115,7 @@ thaw_turned c rules w r h n f config there present sent is spent =
       goes = thaws_go c era rules h.who w.calls n g (pending w) worlds t from here.stays find whole;
       fits = thaws_tell c era rules r h.who w.calls n (pending w) worlds t begin installed from here.stays find tt whole;
       pbase = same.pbase;
+      phase = λ e. inr installed;
       lead = same.lead;
       own = own_of g n (thawing g t) (thaws c rules n g t) same refl (of_era c era rules h.who w.calls n x here.stays);
     }) (subst (λ (y : Turn). Says_more c w r h.ages n (thaws c rules n g t) y) (sym turn) (says_none c w r h.ages n (thaws c rules n g t))))

@@ -47,7 +47,6 @@ module _ (c : Config) (rules : Rules) (w : Cluster) (r : Lines) (h : Lives c rul
     last = h.last;
     holder = h.holder;
     size = h.size;
-    down = h.down;
     up = h.up;
     lines = called_lines;
     nodes = λ k lt. called_node k (h.nodes k lt);

@@ -17,7 +17,7 @@ use Rattle.ct_cluster.specs.declared.step.Step.{Step}
 use Rattle.ct_cluster.specs.declared.step.StepFault.{StepFault}
 use Rattle.ct_register.specs.Lines.{Lines}
 use Rattle.ct_register.specs.Legal.{AcceptsLabels}
-use Rattle.ct_register.specs.Marks.{Mark, Marks, AreFrom, GoOn, MarksStep}
+use Rattle.ct_register.specs.Marks.{MarksStep}
 use Rattle.ct_promise.specs.Generation.{record_labels}
 use Rattle.ct_promise.specs.Marked.{is_removed}
 use Rattle.ct_law_world.specs.World.{Mail}
@@ -111,15 +111,14 @@ module _ (c : Config) (rules : Rules) (w v : Cluster) (r : Lines) (h : Lives c r
   quiet_mail = same_frames (λ (f : Frame). MailSays c s h.ages f) w.sent v.sent quiet.frames (each_then (λ q. MailSays c r h.ages q.frame) (λ q. MailSays c s h.ages q.frame) (λ q m. mail_later c r h.ages s h.ages q.frame later m) w.sent h.mail)
 
   -- it lives on
-  unfoldable pub quiet_lives : v.ticket ≡ w.ticket → v.holder ≡ o → ((n : ℕ) → is_up n v ≡ false → is_up n w ≡ false) → ((n : ℕ) → is_up n v ≡ true → nat_lt n c.nodes ≡ true) → Lives c rules v s
-  quiet_lives ticket holder up there = record {
+  unfoldable pub quiet_lives : v.ticket ≡ w.ticket → v.holder ≡ o → ((n : ℕ) → is_up n v ≡ true → nat_lt n c.nodes ≡ true) → Lives c rules v s
+  quiet_lives ticket holder there = record {
     who = h.who;
     ages = h.ages;
     formed = record { owners = h.formed.owners; order = h.formed.order; databases = h.formed.databases };
     last = h.last ∙ sym ticket;
     holder = sym holder;
     size = ap (λ (ns : List Node). length ns) quiet.nodes ∙ h.size;
-    down = λ n e. ap (λ (x : Node). x.phase) (same_node n) ∙ h.down n (up n e);
     up = there;
     lines = quiet_lines;
     nodes = λ n lt. quiet_node n (h.nodes n lt);
@@ -130,20 +129,20 @@ module _ (c : Config) (rules : Rules) (w v : Cluster) (r : Lines) (h : Lives c r
 
 module _ (c : Config) (rules : Rules) (w : Cluster) (r : Lines) (h : Lives c rules w r) (run : Outcome) (o : Option ℕ) (quiet : Quiet w run.cluster) where
   -- all holds after it
-  pub quiet_after : run.cluster.ticket ≡ w.ticket → run.cluster.holder ≡ o → ((n : ℕ) → is_up n run.cluster ≡ false → is_up n w ≡ false) → ((n : ℕ) → is_up n run.cluster ≡ true → nat_lt n c.nodes ≡ true) → AcceptsLabels c rules r (record_labels c run.trace) (record r { holder = o }) →
+  pub quiet_after : run.cluster.ticket ≡ w.ticket → run.cluster.holder ≡ o → ((n : ℕ) → is_up n run.cluster ≡ true → nat_lt n c.nodes ≡ true) → AcceptsLabels c rules r (record_labels c run.trace) (record r { holder = o }) →
       ((g db : ℕ) (key : List ℕ) → is_removed r g db key run.trace ≡ false) → After c rules r h.ages run
   unfolding quiet_lives
-  quiet_after ticket holder up there told kept = record {
+  quiet_after ticket holder there told kept = record {
     lines = record r { holder = o };
     accepts = told;
-    lives = quiet_lives c rules w run.cluster r h o quiet ticket holder up there;
+    lives = quiet_lives c rules w run.cluster r h o quiet ticket holder there;
     marks = λ g e db key. subst (λ (b : Bool). MarksStep b (marks_of (h.ages.ghosts g db key)) (marks_of (h.ages.ghosts g db key))) (sym (kept g db key)) (marks_stay _);
   }
 
 -- so it is where nothing happened
 pub idle_after : (c : Config) (rules : Rules) (w : Cluster) (r : Lines) (h : Lives c rules w r) → After c rules r h.ages (unchanged w)
 unfolding unchanged
-idle_after c rules w r h = quiet_after c rules w r h (unchanged w) r.holder (record { nodes = refl; frames = refl; calls = refl }) refl (sym h.holder) (λ n e. e) h.up refl (λ g db key. refl)
+idle_after c rules w r h = quiet_after c rules w r h (unchanged w) r.holder (record { nodes = refl; frames = refl; calls = refl }) refl (sym h.holder) h.up refl (λ g db key. refl)
 
 -- and where a step is refused, so that only one that is taken is looked at
 pub after_taken : (c : Config) (rules : Rules) (w : Cluster) (r : Lines) (h : Lives c rules w r) (s : Step) → (is_allowed s ≡ true → fault_of c w s ≡ None → After c rules r h.ages (came_of w s (steps c rules w s))) →

@@ -91,10 +91,9 @@ unfolding lock_held
 free_for n None e = tt
 free_for n (Some k) e = eqb-true k n (required (nat_eq k n) _ e)
 
--- the node is there and runs, all members are nodes and it is one, and no other has the recovery lock
+-- the node is there, all members are nodes and it is one, and no other has the recovery lock
 record Recovers (c : Config) (w : Cluster) (n : ℕ) (members : List ℕ) : Type 0 where
   there : nat_lt n c.nodes ≡ true
-  up : is_up n w ≡ true
   real : list_all is_node members ≡ true
   nodes : (m : ℕ) → is_among m members ≡ true → nat_lt m c.nodes ≡ true
   own : is_among n members ≡ true
@@ -108,7 +107,6 @@ recovers c w n members is e =
     let own = first_none _ _ up.1 in
     let free = first_none _ _ own.1 in record {
       there = each_there c (n ∷ members) nodes.0 n (first_among n members);
-      up = required (is_up n w) _ up.0;
       real = all_nodes c members (at_most_sixteen_nodes c is) (rest_there c n members nodes.0);
       nodes = each_there c members (rest_there c n members nodes.0);
       own = required (is_among n members) _ own.0;
@@ -129,7 +127,7 @@ begun_after c rules w r h n members order k =
     let t = begin_turned c rules v (ticketed g n members r) lives n g members (pending w) (is_ticket c rules w r h n members free k.real order k.nodes k.own) (unborn c rules w r h n members free) k.there in
     let own : List Line = line.Ticket g n ∷ [] in
     subst (λ (ls : List Label). After c rules r h.ages (record { cluster = (put n u own v).cluster; trace = Ticket g n members ∷ ls })) (sym (labels_are (step.Recover n members) n (length v.sent + 1) (pending w) u.outs))
-    (turned_after c rules v (ticketed g n members r) lives n (pending w) u own t k.there k.up
+    (turned_after c rules v (ticketed g n members r) lives n (pending w) u own t k.there
     r h.ages (Ticket g n members ∷ labels_of n (pending w) u.outs)
     (ticketed g n members r, accepted c rules w r h n members free, t.accepts)
     t.marks)

@@ -10,8 +10,6 @@ use Rattle.ct_cluster.specs.Faults.{no_such_node, fault_of}
 use Rattle.ct_cluster.specs.Steps.{done, drop, deliver, repeat, with_fate, steps}
 use Rattle.ct_cluster.specs.Traces.{own_labels}
 use Rattle.ct_law_shown.specs.Waiting.{told_line, told_lines, told_step, came_of, outcome}
-use Rattle.ct_cluster.specs.declared.step.Line.{Line}
-use Rattle.ct_cluster.specs.declared.step.Line.TheVariants as line
 use Rattle.ct_cluster.specs.declared.step.Step.TheVariants as step
 use Rattle.ct_register.specs.Lines.{Lines}
 use Rattle.ct_promise.specs.Generation.{speaks_of_records}
@@ -22,15 +20,6 @@ use Rattle.ct_law_line.proofs.Faces.{After}
 use Rattle.ct_law_stop.proofs.Quiet.{frames, Quiet, quiet_after, after_taken}
 
 -- ---- a start
-
--- who is marked runs
-up_mark : (bs : List Bool) (n k : ℕ) → is_true (slice_get (slice_set bs n true) k) ≡ false → is_true (slice_get bs k) ≡ false
-unfolding is_true
-up_mark [] n k e = e
-up_mark (b ∷ bs) zero zero e = absurd (cc)
-up_mark (b ∷ bs) zero (suc k) e = e
-up_mark (b ∷ bs) (suc n) zero e = e
-up_mark (b ∷ bs) (suc n) (suc k) e = up_mark bs n k e
 
 -- who runs then was marked, or ran
 up_since : (bs : List Bool) (n k : ℕ) → is_true (slice_get (slice_set bs n true) k) ≡ true → (k ≡ n) ⊎ (is_true (slice_get bs k) ≡ true)
@@ -48,21 +37,21 @@ started_there c w n e = required (nat_lt n c.nodes) _ (first_none _ _ e).0
 pub start_after : (c : Config) (rules : Rules) (w : Cluster) (r : Lines) (h : Lives c rules w r) (n : ℕ) → After c rules r h.ages (outcome c rules w (step.Start n))
 unfolding steps done came_of told_step own_labels told_lines told_line speaks_of_records is_removal is_up
 start_after c rules w r h n = after_taken c rules w r h (step.Start n) (λ t e.
-    quiet_after c rules w r h (came_of w (step.Start n) (steps c rules w (step.Start n))) r.holder (record { nodes = refl; frames = refl; calls = refl }) refl (sym h.holder) (λ k down. up_mark w.running n k down) (λ k up. ⊎_elim (λ (is : k ≡ n). subst (λ (j : ℕ). nat_lt j c.nodes ≡ true) (sym is) (started_there c w n e)) (λ (was : is_true (slice_get w.running k) ≡ true). h.up k was) (up_since w.running n k up)) (r, refl, refl) (λ g db key. refl))
+    quiet_after c rules w r h (came_of w (step.Start n) (steps c rules w (step.Start n))) r.holder (record { nodes = refl; frames = refl; calls = refl }) refl (sym h.holder) (λ k up. ⊎_elim (λ (is : k ≡ n). subst (λ (j : ℕ). nat_lt j c.nodes ≡ true) (sym is) (started_there c w n e)) (λ (was : is_true (slice_get w.running k) ≡ true). h.up k was) (up_since w.running n k up)) (r, refl, refl) (λ g db key. refl))
 
 -- ---- a mark of who is able
 
 pub able_after : (c : Config) (rules : Rules) (w : Cluster) (r : Lines) (h : Lives c rules w r) (n : ℕ) (able : Bool) → After c rules r h.ages (outcome c rules w (step.Able n able))
 unfolding steps done came_of told_step own_labels told_lines told_line is_up
 able_after c rules w r h n able = after_taken c rules w r h (step.Able n able) (λ t e.
-    quiet_after c rules w r h (came_of w (step.Able n able) (steps c rules w (step.Able n able))) r.holder (record { nodes = refl; frames = refl; calls = refl }) refl (sym h.holder) (λ k down. down) h.up refl (λ g db key. refl))
+    quiet_after c rules w r h (came_of w (step.Able n able) (steps c rules w (step.Able n able))) r.holder (record { nodes = refl; frames = refl; calls = refl }) refl (sym h.holder) h.up refl (λ g db key. refl))
 
 -- ---- the recovery lock
 
 pub yield_after : (c : Config) (rules : Rules) (w : Cluster) (r : Lines) (h : Lives c rules w r) (n : ℕ) → After c rules r h.ages (outcome c rules w (step.Yield n))
 unfolding steps done came_of told_step own_labels told_lines told_line speaks_of_records is_removal is_up
 yield_after c rules w r h n = after_taken c rules w r h (step.Yield n) (λ t e.
-    quiet_after c rules w r h (came_of w (step.Yield n) (steps c rules w (step.Yield n))) None (record { nodes = refl; frames = refl; calls = refl }) refl refl (λ k down. down) h.up (yield_accepted c rules w n r (yields c w n e) h.holder) (λ g db key. refl))
+    quiet_after c rules w r h (came_of w (step.Yield n) (steps c rules w (step.Yield n))) None (record { nodes = refl; frames = refl; calls = refl }) refl refl h.up (yield_accepted c rules w n r (yields c w n e) h.holder) (λ g db key. refl))
 
 -- ---- messages
 
@@ -95,14 +84,14 @@ fate_up (suc k) s f w n = refl
 -- where a message was dropped, or lost, all holds
 pub fate_after : (c : Config) (rules : Rules) (w : Cluster) (r : Lines) (h : Lives c rules w r) (k : ℕ) (s : Sent) (f : Fate) → sent_at k w ≡ Some s → After c rules r h.ages (record { cluster = with_fate k s f w; trace = [] })
 fate_after c rules w r h k s f e =
-    quiet_after c rules w r h (record { cluster = with_fate k s f w; trace = [] }) r.holder (fate_quiet k s f w e) (fate_ticket k s f w) (fate_holder k s f w ∙ sym h.holder) (λ n down. sym (fate_up k s f w n) ∙ down) (λ n up. h.up n (sym (fate_up k s f w n) ∙ up)) refl (λ g db key. refl)
+    quiet_after c rules w r h (record { cluster = with_fate k s f w; trace = [] }) r.holder (fate_quiet k s f w e) (fate_ticket k s f w) (fate_holder k s f w ∙ sym h.holder) (λ n up. h.up n (sym (fate_up k s f w n) ∙ up)) refl (λ g db key. refl)
 
 pub drop_after : (c : Config) (rules : Rules) (w : Cluster) (r : Lines) (h : Lives c rules w r) (k : ℕ) → After c rules r h.ages (outcome c rules w (step.Drop k))
 unfolding steps done drop came_of told_step own_labels told_lines
 drop_after c rules w r h k = after_taken c rules w r h (step.Drop k) (λ t e. dropped (sent_at k w) refl)
   where
     dropped : (m : Option Sent) → sent_at k w ≡ m → After c rules r h.ages (came_of w (step.Drop k) (drop k w m))
-    dropped None e = quiet_after c rules w r h (record { cluster = w; trace = [] }) r.holder (record { nodes = refl; frames = refl; calls = refl }) refl (sym h.holder) (λ n down. down) h.up refl (λ g db key. refl)
+    dropped None e = quiet_after c rules w r h (record { cluster = w; trace = [] }) r.holder (record { nodes = refl; frames = refl; calls = refl }) refl (sym h.holder) h.up refl (λ g db key. refl)
     dropped (Some s) e = fate_after c rules w r h k s Dropped e
 
 -- a message that comes to a node which is down is lost
@@ -114,4 +103,4 @@ lost_after c rules w r h k s e down = rw down (fate_after c rules w r h k s Drop
 pub lost_again : (c : Config) (rules : Rules) (w : Cluster) (r : Lines) (h : Lives c rules w r) (k : ℕ) (s : Sent) → is_up s.frame.receiver w ≡ false → After c rules r h.ages (came_of w (step.Repeat k) (repeat c rules k w (Some s)))
 unfolding done repeat came_of told_step own_labels told_lines told_line
 lost_again c rules w r h k s down =
-    rw down (quiet_after c rules w r h (record { cluster = w; trace = [] }) r.holder (record { nodes = refl; frames = refl; calls = refl }) refl (sym h.holder) (λ n e. e) h.up refl (λ g db key. refl))
+    rw down (quiet_after c rules w r h (record { cluster = w; trace = [] }) r.holder (record { nodes = refl; frames = refl; calls = refl }) refl (sym h.holder) h.up refl (λ g db key. refl))

@@ -12,7 +12,7 @@ use Rattle.ct_frame.specs.declared.frame.TableRow.{TableRow}
 use Rattle.ct_frame.specs.declared.header.RecCopy.{RecCopy}
 use Rattle.ct_call.specs.Rules.{Rules}
 use Rattle.ct_rules.specs.declared.state.RecState.{RecState}
-use Rattle.ct_rules_node.specs.Node.{Node, Database, Idle, is_among, db_at, state_at, untouched, restarted_db, restarted}
+use Rattle.ct_rules_node.specs.Node.{Node, Database, is_among, db_at, state_at, untouched, restarted_db, restarted}
 use Rattle.ct_rules_node.specs.Rounds.{row_of}
 use Rattle.ct_rules_node.proofs.Refusals.{first_none, required}
 use Rattle.ct_rules_node.proofs.Starting.{restarts_in_order}
@@ -23,8 +23,6 @@ use Rattle.ct_cluster.specs.Labels.{Label, Stopped}
 use Rattle.ct_cluster.specs.Steps.{with_node, without_holder, gone, done, stop, steps}
 use Rattle.ct_cluster.specs.Traces.{own_labels}
 use Rattle.ct_law_shown.specs.Waiting.{Outcome, answerable, told_line, told_lines, told_step, came_of, outcome}
-use Rattle.ct_cluster.specs.declared.step.Line.{Line}
-use Rattle.ct_cluster.specs.declared.step.Line.TheVariants as line
 use Rattle.ct_cluster.specs.declared.step.PendingCall.{PendingCall}
 use Rattle.ct_cluster.specs.declared.step.Step.{Step}
 use Rattle.ct_cluster.specs.declared.step.Step.TheVariants as step
@@ -63,13 +61,6 @@ unfolding also_had
 had_stays n l had g m = at_each (λ m (row : ℕ → Bool). (j : ℕ) → had g m j ≡ true → row j ≡ true) n (at l true (had g n)) (had g)
     (at_each (λ j (b : Bool). had g n j ≡ true → b ≡ true) l true (had g n) (λ _. refl) (λ j _ e. e))
     (λ m _ j e. e) m
-
-other_mark : (bs : List Bool) (n k : ℕ) (b : Bool) → k ≢ n → slice_get (slice_set bs n b) k ≡ slice_get bs k
-other_mark [] n k b ne = refl
-other_mark (x ∷ xs) zero zero b ne = absurd (ne refl)
-other_mark (x ∷ xs) zero (suc k) b ne = refl
-other_mark (x ∷ xs) (suc n) zero b ne = refl
-other_mark (x ∷ xs) (suc n) (suc k) b ne = other_mark xs n k b (λ e. ne (ap suc e))
 
 was_up : (bs : List Bool) (n k : ℕ) → is_true (slice_get (slice_set bs n false) k) ≡ true → is_true (slice_get bs k) ≡ true
 unfolding is_true
@@ -260,13 +251,6 @@ module _ (c : Config) (rules : Rules) (w : Cluster) (r : Lines) (h : Lives c rul
       (λ (ne : k ≢ n). others_live k ne (h.nodes k below))
       (cases_eq k n)
 
-  all_down : nat_lt n c.nodes ≡ true → (k : ℕ) → is_up k v ≡ false → (node_at k v).phase ≡ Idle
-  unfolding with_node restarted is_up node_at
-  all_down lt k down = ⊎_elim
-      (λ (is : k ≡ n). subst (λ (j : ℕ). (node_at j v).phase ≡ Idle) (sym is) (ap (λ (z : Node). z.phase) (here lt)))
-      (λ (ne : k ≢ n). ap (λ (z : Node). z.phase) (other_node n k y w ne) ∙ h.down k (sym (ap is_true (other_mark w.running n k false ne)) ∙ down))
-      (cases_eq k n)
-
   lives_left : nat_lt n c.nodes ≡ true → After c rules r a (record { cluster = v; trace = Stopped n ∷ [] })
   unfolding with_node speaks_of_records is_removal is_up
   lives_left lt = record {
@@ -279,7 +263,6 @@ module _ (c : Config) (rules : Rules) (w : Cluster) (r : Lines) (h : Lives c rul
       last = h.last;
       holder = ap (owner_without n) h.holder ∙ same_without n w.holder;
       size = length-set w.nodes n y ∙ h.size;
-      down = all_down lt;
       up = λ k up. h.up k (was_up w.running n k up);
       lines = left.lines;
       nodes = all_live lt;

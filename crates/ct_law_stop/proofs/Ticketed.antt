@@ -82,7 +82,6 @@ module _ (c : Config) (rules : Rules) (w : Cluster) (r : Lines) (h : Lives c rul
     last = refl;
     holder = refl;
     size = h.size;
-    down = h.down;
     up = h.up;
     lines = ticketed_lines;
     nodes = λ k lt. ticketed_node k (h.nodes k lt);

@@ -1,5 +1,5 @@
 -- All holds after a step in which a node took a turn, where its parts hold of the turn.
-use Rattle.std.proofs.Common.{◌≡◌, ◌≢◌, ℕ, ◌<◌, true, false, List, [], ◌∷◌, ◌++◌, ⊎_elim, inl, inr, sym, ap, ◌∙◌, subst}
+use Rattle.std.proofs.Common.{◌≡◌, ◌≢◌, ℕ, ◌<◌, true, List, [], ◌∷◌, ◌++◌, ⊎_elim, inl, inr, sym, ap, ◌∙◌, subst}
 use Rattle.std.specs.Prelude.{nat_lt, map}
 use Rattle.std.specs.List.{AllByRecursion}
 use Rattle.std.proofs.lemmas.Bool.{cases_eq, ltb-true}
@@ -8,7 +8,7 @@ use Rattle.ct_msg.specs.declared.config.Config.{Config}
 use Rattle.ct_frame.specs.declared.frame.Frame.{Frame}
 use Rattle.ct_call.specs.Rules.{Rules}
 use Rattle.ct_merge.proofs.Among.{In}
-use Rattle.ct_rules_node.specs.Node.{Node, Idle}
+use Rattle.ct_rules_node.specs.Node.{Node}
 use Rattle.ct_rules_node.specs.Turn.{Turn}
 use Rattle.ct_cluster.specs.Cluster.{Cluster, Sent, is_up, node_at}
 use Rattle.ct_cluster.specs.Labels.{Label}
@@ -40,7 +40,7 @@ sent_more f [] ts h = absurd h
 sent_more f (s ∷ ss) ts h = ⊎_elim (λ (e : s.frame ≡ f). inl e) (λ (k : In f (map (λ (s : Sent). s.frame) ss)). inr (sent_more f ss ts k)) h
 
 module _ (c : Config) (rules : Rules) (w : Cluster) (r : Lines) (h : Lives c rules w r) (n : ℕ) (pend : List PendingCall) (u : Turn) (own : List Line) (t : Turned c rules h.who w r h.ages n pend u)
-    (there : nat_lt n c.nodes ≡ true) (up : is_up n w ≡ true) where
+    (there : nat_lt n c.nodes ≡ true) where
   abbrev v : Cluster
   v = (put n u own w).cluster
 
@@ -60,13 +60,6 @@ module _ (c : Config) (rules : Rules) (w : Cluster) (r : Lines) (h : Lives c rul
   all_live : (k : ℕ) → nat_lt k c.nodes ≡ true → NodeLives c rules h.who v t.lines t.ages k (node_at k v)
   all_live k lt = ⊎_elim (λ (is : k ≡ n). subst (λ (j : ℕ). NodeLives c rules h.who v t.lines t.ages j (node_at j v)) (sym is) own_lives) (λ (ne : k ≢ n). others_live k ne lt) (cases_eq k n)
 
-  all_down : (k : ℕ) → is_up k v ≡ false → (node_at k v).phase ≡ Idle
-  unfolding put with_node node_at is_up
-  all_down k down = ⊎_elim
-      (λ (is : k ≡ n). absurd (let e = sym down ∙ ap (λ (j : ℕ). is_up j w) is ∙ up in cc))
-      (λ (ne : k ≢ n). ap (λ (x : Node). x.phase) (other_node n k u.node w ne) ∙ h.down k down)
-      (cases_eq k n)
-
   -- so it is from these registers on, where they accept what is told and marks go on
   pub turned_after : (r0 : Lines) (a0 : Ages) (trace : List Label) → AcceptsLabels c rules r0 (record_labels c trace) t.lines → MarksGoOn r0 trace (marks_in_all a0) (marks_in_all t.ages) →
       After c rules r0 a0 (record { cluster = v; trace = trace })
@@ -81,7 +74,6 @@ module _ (c : Config) (rules : Rules) (w : Cluster) (r : Lines) (h : Lives c rul
       last = t.last ∙ h.last;
       holder = t.holder ∙ h.holder;
       size = length-set w.nodes n u.node ∙ h.size;
-      down = all_down;
       up = h.up;
       lines = t.lives;
       nodes = all_live;

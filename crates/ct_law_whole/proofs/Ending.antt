@@ -21,7 +21,7 @@ use Rattle.ct_law_calls.proofs.Running.{one_logs, opened_calls}
 use Rattle.ct_law_line.specs.Records.{RecordsMarked, LawOfRecords, PromiseOfRecords}
 use Rattle.ct_law_line.proofs.Lives.{Lives}
 use Rattle.ct_law_line.proofs.Faces.{marks_in_all, EntriesAtHome, After, StepLives}
-use Rattle.ct_law_line.proofs.Lined.{lives_stand}
+use Rattle.ct_law_line.proofs.Lined.{lives_stand, generations_stand}
 use Rattle.ct_law_line.proofs.Followed.{records_follow}
 use Rattle.ct_law_line.proofs.Opened.{opened_lives}
 
@@ -36,13 +36,14 @@ steps_live on c rules [] w log r h home calls is = tt
 steps_live on c rules (s ∷ steps) w log r h home calls is =
     let run = ran_one c rules w log s in
     let l = one_logs c rules w log s calls in
-    let k : After c rules r h.ages (outcome_of run) = subst (λ (o : Outcome). After c rules r h.ages o) (sym l.same) (on c rules w r h s (entries_home w home) is) in
+    let k : After c rules r h.ages (outcome_of run) = subst (λ (o : Outcome). After c rules r h.ages o) (sym l.same) (on c rules w r h s is) in
     let there : AllAtHome run.cluster = subst (λ (o : Outcome). AllAtHome o.cluster) (sym l.same) (step_home c rules w s home) in
     let both = lives_stand c rules run.cluster k.lines k.lives (entries_home run.cluster there) in (
       k.lines,
       marks_in_all k.lives.ages,
       k.accepts,
       both.0,
+      generations_stand c rules run.cluster k.lines k.lives,
       calls_stand c run.cluster run.log l.calls,
       both.1,
       k.marks,
@@ -52,7 +53,7 @@ steps_live on c rules (s ∷ steps) w log r h home calls is =
 no_callers : Callers
 no_callers call = (0, op.Unlock 0 [])
 
-all_home : (c : Config) (rules : Rules) → AllAtHome (opening c)
+pub all_home : (c : Config) (rules : Rules) → AllAtHome (opening c)
 all_home c rules = opening_home c (λ n. (all_known c (first_era c) rules no_callers (opening c) (opened_stays c rules no_callers) n).order)
 
 pub law_of_records : StepLives → LawOfRecords

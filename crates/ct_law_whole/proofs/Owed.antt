@@ -103,7 +103,7 @@ module _ (c : Config) (rules : Rules) (w : Cluster) (r : Lines) (h : Lives c rul
   owes pend (event.BeginTakeover able) comes whole owed = absurd owed
 
 pub all_owed : AllOwed
-all_owed c rules w r h n pend e config home there up comes whole owed = owes c rules w r h n config there pend e comes whole owed
+all_owed c rules w r h n pend e config there comes whole owed = owes c rules w r h n config there pend e comes whole owed
 
 -- so the law of records holds, and the promise that follows from it
 pub law_of_records : LawOfRecords

@@ -1,5 +1,5 @@
 -- A cluster lives on through every step, where the parts of each turn hold that a node may take.
-use Rattle.std.proofs.Common.{◌≡◌, ◌≢◌, ℕ, zero, suc, ◌+◌, Bool, true, false, ◌||◌, List, [], ◌∷◌, ◌++◌, length, Option, Some, None, inl, inr, refl, sym, ap, ◌∙◌, subst}
+use Rattle.std.proofs.Common.{◌≡◌, ℕ, zero, suc, ◌+◌, Bool, true, false, ◌||◌, List, [], ◌∷◌, ◌++◌, length, Option, Some, None, inl, inr, refl, sym, ap, ◌∙◌, subst}
 use Rattle.std.specs.Prelude.{nat_lt, map, slice_get}
 use Rattle.std.specs.List.{list_any}
 use Rattle.std.proofs.lemmas.Bool.{cond_both}
@@ -12,7 +12,7 @@ use Rattle.ct_frame.specs.declared.frame.Frame.{Frame}
 use Rattle.ct_call.specs.Rules.{Rules}
 use Rattle.ct_merge.proofs.Among.{In}
 use Rattle.ct_rules_node.specs.Coming.{is_allowed_op}
-use Rattle.ct_rules_node.specs.Node.{Node, has_records, kind_at, master_of, state_at}
+use Rattle.ct_rules_node.specs.Node.{has_records, kind_at}
 use Rattle.ct_rules_node.specs.Refusals.{first_of}
 use Rattle.ct_rules_node.specs.Steps.{happens}
 use Rattle.ct_rules_node.specs.Turn.{Turn, begins}
@@ -45,9 +45,9 @@ use Rattle.ct_law_cluster.proofs.Faulting.{vacuum_kind}
 use Rattle.ct_law_line.specs.Records.{LawOfRecords}
 use Rattle.ct_law_line.proofs.Ages.{Ages}
 use Rattle.ct_law_line.proofs.Lives.{WasSent, Lives}
-use Rattle.ct_law_line.proofs.Faces.{EntriesAtHome, Turned, After, StepLives, marks_in_all}
+use Rattle.ct_law_line.proofs.Faces.{Turned, After, StepLives, marks_in_all}
 use Rattle.ct_law_whole.proofs.Ending.{law_of_records}
-use Rattle.ct_law_stop.proofs.Quiet.{Quiet, quiet_lives, quiet_after, same_node, idle_after, after_taken}
+use Rattle.ct_law_stop.proofs.Quiet.{Quiet, quiet_lives, quiet_after, idle_after, after_taken}
 use Rattle.ct_law_stop.proofs.Standing.{start_after, able_after, yield_after, drop_after, lost_after, lost_again, fate_quiet, fate_ticket, fate_holder, fate_up}
 use Rattle.ct_law_stop.proofs.Stopped.{stop_after}
 use Rattle.ct_law_stop.proofs.Turning.{turned_after}
@@ -69,7 +69,7 @@ Comes c who w n pend (event.BeginTakeover able) = pend ≡ pending w
 
 -- the parts of the turn hold
 abbrev pub AllTurned : Type 0
-AllTurned = (c : Config) (rules : Rules) (w : Cluster) (r : Lines) (h : Lives c rules w r) (n : ℕ) (pend : List PendingCall) (e : Event) → IsConfig c → EntriesAtHome w → nat_lt n c.nodes ≡ true → is_up n w ≡ true →
+AllTurned = (c : Config) (rules : Rules) (w : Cluster) (r : Lines) (h : Lives c rules w r) (n : ℕ) (pend : List PendingCall) (e : Event) → IsConfig c → nat_lt n c.nodes ≡ true →
     Comes c h.who w n pend e → (happens c rules n (begins (node_at n w)) e).spent ≡ false →
     Turned c rules h.who w r h.ages n pend (happens c rules n (begins (node_at n w)) e)
 
@@ -79,14 +79,14 @@ IsOwed (event.BeginTakeover able) = ⊥
 IsOwed e = Unit {0}
 
 abbrev pub AllOwed : Type 0
-AllOwed = (c : Config) (rules : Rules) (w : Cluster) (r : Lines) (h : Lives c rules w r) (n : ℕ) (pend : List PendingCall) (e : Event) → IsConfig c → EntriesAtHome w → nat_lt n c.nodes ≡ true → is_up n w ≡ true →
+AllOwed = (c : Config) (rules : Rules) (w : Cluster) (r : Lines) (h : Lives c rules w r) (n : ℕ) (pend : List PendingCall) (e : Event) → IsConfig c → nat_lt n c.nodes ≡ true →
     Comes c h.who w n pend e → (happens c rules n (begins (node_at n w)) e).spent ≡ false → IsOwed e →
     Turned c rules h.who w r h.ages n pend (happens c rules n (begins (node_at n w)) e)
 
 pub owed_turned : AllOwed → AllTurned
 unfolding happens IsOwed
-owed_turned owed c rules w r h n pend (event.BeginTakeover able) is home there up comes whole = takeover_turned c rules w r h n able pend (node_at n w).lead (h.nodes n there).lead there
-owed_turned owed c rules w r h n pend e is home there up comes whole = owed c rules w r h n pend e is home there up comes whole tt
+owed_turned owed c rules w r h n pend (event.BeginTakeover able) is there comes whole = takeover_turned c rules w r h n able pend (node_at n w).lead (h.nodes n there).lead there
+owed_turned owed c rules w r h n pend e is there comes whole = owed c rules w r h n pend e is there comes whole tt
 
 -- ---- a step with a turn
 
@@ -104,15 +104,15 @@ any_more f (x ∷ xs) ys e = first (f x) e (any_more f xs ys)
     first false k rest = rest k
 
 turn_after : AllTurned → (c : Config) (rules : Rules) (w v : Cluster) (r : Lines) (a : Ages) → After c rules r a (unchanged w) → (h : Lives c rules v r) → h.ages ≡ a → (s : Step) (n : ℕ) (e : Event) → ((ls : List Line) → Is_aside c r (own_labels w s ls)) →
-    IsConfig c → EntriesAtHome v → nat_lt n c.nodes ≡ true → is_up n v ≡ true → Comes c h.who v n (answerable w s) e → After c rules r a (came_of w s (fed c rules n e [] v))
+    IsConfig c → nat_lt n c.nodes ≡ true → Comes c h.who v n (answerable w s) e → After c rules r a (came_of w s (fed c rules n e [] v))
 unfolding came_of told_step put
-turn_after all c rules w v r a refused h same s n e aside is home there up comes = fed_either (After c rules r a) c rules w v s n e [] refused (λ whole.
+turn_after all c rules w v r a refused h same s n e aside is there comes = fed_either (After c rules r a) c rules w v s n e [] refused (λ whole.
     let u : Turn = happens c rules n (begins (node_at n v)) e in
-    let t = all c rules v r h n (answerable w s) e is home there up comes whole in
+    let t = all c rules v r h n (answerable w s) e is there comes whole in
     let ls : List Line = lines_of n (length v.sent + 1) u.outs in
     let more : List Label = labels_of n (answerable w s) u.outs in
     let told : told_step w s ls ≡ own_labels w s ls ++ more = ap (λ (l : List Label). own_labels w s ls ++ l) (labels_are s n (length v.sent + 1) (answerable w s) u.outs) in
-    turned_after c rules v r h n (answerable w s) u [] t there up r a (told_step w s ls)
+    turned_after c rules v r h n (answerable w s) u [] t there r a (told_step w s ls)
     (subst (λ (l : List Label). AcceptsLabels c rules r (record_labels c l) t.lines) (sym told)
     (subst (λ (l : List Label). AcceptsLabels c rules r l t.lines) (sym (filter_more (speaks_of_records c) (own_labels w s ls) more ∙ ap (λ (l : List Label). l ++ record_labels c more) (aside ls).untold)) t.accepts))
     (subst (λ (l : List Label). MarksGoOn r l (marks_in_all a) (marks_in_all t.ages)) (sym told)
@@ -139,7 +139,7 @@ begun_aside c r n o ls = nothing_aside c r
 none_after : (c : Config) (rules : Rules) (w : Cluster) (r : Lines) (h : Lives c rules w r) (s : Step) → ((ls : List Line) → own_labels w s ls ≡ []) → After c rules r h.ages (came_of w s (done [] w))
 unfolding came_of done told_step told_lines
 none_after c rules w r h s own = subst (λ (l : List Label). After c rules r h.ages (record { cluster = w; trace = l ++ [] })) (sym (own []))
-    (quiet_after c rules w r h (record { cluster = w; trace = [] }) r.holder (record { nodes = refl; frames = refl; calls = refl }) refl (sym h.holder) (λ n e. e) h.up refl (λ g db key. refl))
+    (quiet_after c rules w r h (record { cluster = w; trace = [] }) r.holder (record { nodes = refl; frames = refl; calls = refl }) refl (sym h.holder) h.up refl (λ g db key. refl))
 
 -- a message that was sent was sent
 sent_in : (ss : List Sent) (k : ℕ) (s : Sent) → slice_get ss k ≡ Some s → In s.frame (map (λ (x : Sent). x.frame) ss)
@@ -157,31 +157,31 @@ same_pending : (w v : Cluster) → v.nodes ≡ w.nodes → pending w ≡ pending
 unfolding pending
 same_pending w v e = ap (λ ns. pending (record w { nodes = ns })) (sym e)
 
-module _ (all : AllTurned) (c : Config) (rules : Rules) (w : Cluster) (r : Lines) (h : Lives c rules w r) (home : EntriesAtHome w) (is : IsConfig c) where
+module _ (all : AllTurned) (c : Config) (rules : Rules) (w : Cluster) (r : Lines) (h : Lives c rules w r) (is : IsConfig c) where
   client_after : (n : ℕ) (o : ClientOp) → After c rules r h.ages (outcome c rules w (step.Client n o))
   unfolding steps is_allowed fault_of lives_called own_labels answerable Comes pending node_at is_up
   client_after n o = after_taken c rules w r h (step.Client n o) (λ allowed e.
       let ok = there_up c w n [] e in
-      turn_after all c rules w (counted w) r h.ages (idle_after c rules w r h) (lives_called c rules w r h (n, o)) refl (step.Client n o) n (event.Client (w.calls + 1) o) (λ ls. begun_aside c r n o ls) is home ok.0 ok.1
+      turn_after all c rules w (counted w) r h.ages (idle_after c rules w r h) (lives_called c rules w r h (n, o)) refl (step.Client n o) n (event.Client (w.calls + 1) o) (λ ls. begun_aside c r n o ls) is ok.0
       (refl, own_caller (w.calls + 1) (n, o) h.who, allowed, refl))
 
   retry_after : (n : ℕ) → After c rules r h.ages (outcome c rules w (step.Retry n))
   unfolding steps fault_of own_labels answerable Comes
   retry_after n = after_taken c rules w r h (step.Retry n) (λ allowed e.
       let ok = there_up c w n [] e in
-      turn_after all c rules w w r h.ages (idle_after c rules w r h) h refl (step.Retry n) n event.Retry (λ ls. nothing_aside c r) is home ok.0 ok.1 refl)
+      turn_after all c rules w w r h.ages (idle_after c rules w r h) h refl (step.Retry n) n event.Retry (λ ls. nothing_aside c r) is ok.0 refl)
 
   vacuum_after : (n db : ℕ) → After c rules r h.ages (outcome c rules w (step.Vacuum n db))
   unfolding steps fault_of own_labels answerable Comes
   vacuum_after n db = after_taken c rules w r h (step.Vacuum n db) (λ allowed e.
       let ok = there_up c w n _ e in
-      turn_after all c rules w w r h.ages (idle_after c rules w r h) h refl (step.Vacuum n db) n (event.Vacuum db) (λ ls. nothing_aside c r) is home ok.0 ok.1 (vacuum_kind c w n db e, refl))
+      turn_after all c rules w w r h.ages (idle_after c rules w r h) h refl (step.Vacuum n db) n (event.Vacuum db) (λ ls. nothing_aside c r) is ok.0 (vacuum_kind c w n db e, refl))
 
   takeover_after : (n : ℕ) → After c rules r h.ages (outcome c rules w (step.Takeover n))
   unfolding steps fault_of own_labels answerable Comes speaks_of_records is_removal
   takeover_after n = after_taken c rules w r h (step.Takeover n) (λ allowed e.
       let ok = there_up c w n _ e in
-      turn_after all c rules w w r h.ages (idle_after c rules w r h) h refl (step.Takeover n) n (event.BeginTakeover (able_from 0 w.able)) (λ ls. record { untold = refl; kept = λ g db key. refl }) is home ok.0 ok.1 refl)
+      turn_after all c rules w w r h.ages (idle_after c rules w r h) h refl (step.Takeover n) n (event.BeginTakeover (able_from 0 w.able)) (λ ls. record { untold = refl; kept = λ g db key. refl }) is ok.0 refl)
 
   repeat_after : (k : ℕ) → After c rules r h.ages (outcome c rules w (step.Repeat k))
   unfolding steps own_labels repeat answerable Comes
@@ -192,7 +192,7 @@ module _ (all : AllTurned) (c : Config) (rules : Rules) (w : Cluster) (r : Lines
       repeated (Some s) e = either (is_up s.frame.receiver w) refl
         where
           either : (b : Bool) → is_up s.frame.receiver w ≡ b → After c rules r h.ages (came_of w (step.Repeat k) (repeat c rules k w (Some s)))
-          either true up = rw up (turn_after all c rules w w r h.ages (idle_after c rules w r h) h refl (step.Repeat k) s.frame.receiver (event.Arrive s.frame) (λ ls. nothing_aside c r) is home (h.up s.frame.receiver up) up (refl, was_sent w k s e, refl))
+          either true up = rw up (turn_after all c rules w w r h.ages (idle_after c rules w r h) h refl (step.Repeat k) s.frame.receiver (event.Arrive s.frame) (λ ls. nothing_aside c r) is (h.up s.frame.receiver up) (refl, was_sent w k s e, refl))
           either false down = lost_again c rules w r h k s down
 
   -- the cluster in which the message was delivered
@@ -211,25 +211,24 @@ module _ (all : AllTurned) (c : Config) (rules : Rules) (w : Cluster) (r : Lines
           either true up = rw up (
               let v : Cluster = given k s in
               let q : Quiet w v = fate_quiet k s Delivered w e in
-              let lives : Lives c rules v r = quiet_lives c rules w v r h r.holder q (fate_ticket k s Delivered w) (fate_holder k s Delivered w ∙ sym h.holder) (λ n down. sym (fate_up k s Delivered w n) ∙ down) (λ n on. h.up n (sym (fate_up k s Delivered w n) ∙ on)) in
-              let here : EntriesAtHome v = λ n db key. subst (λ (x : Node). n ≢ master_of x.members key → (state_at db key x).entry ≡ None) (sym (same_node c rules w v r h r.holder q n)) (home n db key) in
-              turn_after all c rules w v r h.ages (idle_after c rules w r h) lives refl (step.Deliver k) s.frame.receiver (event.Arrive s.frame) (λ ls. nothing_aside c r) is here (h.up s.frame.receiver up) (fate_up k s Delivered w s.frame.receiver ∙ up)
+              let lives : Lives c rules v r = quiet_lives c rules w v r h r.holder q (fate_ticket k s Delivered w) (fate_holder k s Delivered w ∙ sym h.holder) (λ n on. h.up n (sym (fate_up k s Delivered w n) ∙ on)) in
+              turn_after all c rules w v r h.ages (idle_after c rules w r h) lives refl (step.Deliver k) s.frame.receiver (event.Arrive s.frame) (λ ls. nothing_aside c r) is (h.up s.frame.receiver up)
               (refl, subst (λ (fs : List Frame). In s.frame fs) (sym q.frames) (was_sent w k s e), same_pending w v q.nodes))
           either false down = lost_after c rules w r h k s e down
 
 pub step_lives : AllTurned → StepLives
-step_lives all c rules w r h (step.Client n o) home is = client_after all c rules w r h home is n o
-step_lives all c rules w r h (step.Deliver k) home is = deliver_after all c rules w r h home is k
-step_lives all c rules w r h (step.Drop k) home is = drop_after c rules w r h k
-step_lives all c rules w r h (step.Repeat k) home is = repeat_after all c rules w r h home is k
-step_lives all c rules w r h (step.Retry n) home is = retry_after all c rules w r h home is n
-step_lives all c rules w r h (step.Vacuum n db) home is = vacuum_after all c rules w r h home is n db
-step_lives all c rules w r h (step.Recover n members) home is = recover_after c rules w r h n members is
-step_lives all c rules w r h (step.Yield n) home is = yield_after c rules w r h n
-step_lives all c rules w r h (step.Stop n) home is = stop_after c rules w r h n
-step_lives all c rules w r h (step.Start n) home is = start_after c rules w r h n
-step_lives all c rules w r h (step.Takeover n) home is = takeover_after all c rules w r h home is n
-step_lives all c rules w r h (step.Able n able) home is = able_after c rules w r h n able
+step_lives all c rules w r h (step.Client n o) is = client_after all c rules w r h is n o
+step_lives all c rules w r h (step.Deliver k) is = deliver_after all c rules w r h is k
+step_lives all c rules w r h (step.Drop k) is = drop_after c rules w r h k
+step_lives all c rules w r h (step.Repeat k) is = repeat_after all c rules w r h is k
+step_lives all c rules w r h (step.Retry n) is = retry_after all c rules w r h is n
+step_lives all c rules w r h (step.Vacuum n db) is = vacuum_after all c rules w r h is n db
+step_lives all c rules w r h (step.Recover n members) is = recover_after c rules w r h n members is
+step_lives all c rules w r h (step.Yield n) is = yield_after c rules w r h n
+step_lives all c rules w r h (step.Stop n) is = stop_after c rules w r h n
+step_lives all c rules w r h (step.Start n) is = start_after c rules w r h n
+step_lives all c rules w r h (step.Takeover n) is = takeover_after all c rules w r h is n
+step_lives all c rules w r h (step.Able n able) is = able_after c rules w r h n able
 
 -- so the law of records follows from the turns that are owed
 pub law_from_turns : AllOwed → LawOfRecords

@@ -3,8 +3,8 @@
 ghost use Rattle.ct_law_line.specs.Records.{LawOfRecords, PromiseOfRecords};
 
 /// From the opening, where nothing is marked: step by step there are registers that accept what the step told of records and of
-/// generations, and that the cluster stands for in its records, and marks that hold of them and go on in every line. No answer
-/// is unasked, and the calls that wait are exactly the open ones.
+/// generations, and that the cluster stands for in its records and in the generations of its nodes, and marks that hold of them and
+/// go on in every line. No answer is unasked, and the calls that wait are exactly the open ones.
 pub fn keeps_marks()
     ensures { LawOfRecords }
 {}
