@@ -13,10 +13,12 @@ use Rattle.ct_wire_fields.specs.declared.place.AddressPlace.{AddressPlace}
 use Rattle.ct_wire_fields.specs.declared.place.AddressPlace.TheVariants as address
 use Rattle.ct_wire_fields.specs.declared.place.Place.{Place}
 use Rattle.ct_wire_fields.specs.declared.place.Place.TheVariants as place
+use Rattle.ct_wire_fields.specs.declared.version.Version.{Version}
 use Rattle.ct_wire_fields.specs.declared.draft.Draft.{Draft}
 use Rattle.ct_wire_fields.specs.declared.draft.Reading.{Reading}
 use Rattle.ct_wire_fields.specs.declared.draft.Step.{Step}
 use Rattle.ct_wire_fields.specs.declared.draft.Step.TheVariants.{Next, Whole, Broken}
+use Rattle.ct_wire_fields.specs.Version.{names_families}
 use Rattle.ct_wire_fields.specs.Check.{last_of}
 use Rattle.ct_wire_fields.specs.Reading.{no_draft, number_read, text_read, address_read}
 use Rattle.ct_wire.specs.declared.cursor.Cursor.{Cursor}
@@ -81,16 +83,16 @@ last_is_v6 d (address.Held left) = is_v6 (last_of d.addresses)
 last_is_v6 d (address.Assigned left) = is_v6 (address_in (last_of d.assigned))
 
 -- the first field at a place
-abbrev pub place_width : ℕ → Place → ℕ
+abbrev pub place_width : Version → Place → ℕ
 place_width version (place.Number p) = number_width p
 place_width version (place.Text p) = text_width p
-place_width version (place.Address p) = if nat_lt version 3 then 4 else 1
+place_width version (place.Address p) = if names_families version then 1 else 4
 
 abbrev pub start_width : Reading → ℕ
 start_width r = place_width r.draft.head.version r.place
 
 -- the next field
-abbrev pub stage_width : ℕ → Stage → Place → ℕ
+abbrev pub stage_width : Version → Stage → Place → ℕ
 stage_width version (stage.Text length) (place.Text p) = length
 stage_width version stage.Four (place.Address p) = 4
 stage_width version stage.Sixteen (place.Address p) = 16
@@ -150,9 +152,9 @@ family_read d at p family =
 abbrev pub plain_address : List ℕ → Address
 plain_address field = V4 (number_of field % 4294967296)
 
--- all of an address before version 3, and then its family
+-- all of an address, or its family
 abbrev pub address_start : Draft → ℕ → AddressPlace → List ℕ → Outcome
-address_start d at p field = if nat_lt d.head.version 3 then address_field d at p (plain_address field) (at + 4) else family_read d at p (number_of field)
+address_start d at p field = if names_families d.head.version then family_read d at p (number_of field) else address_field d at p (plain_address field) (at + 4)
 
 abbrev pub address_stage : Draft → ℕ → AddressPlace → Stage → List ℕ → Outcome
 address_stage d at p stage.Four field = address_field d at p (plain_address field) (at + 5)

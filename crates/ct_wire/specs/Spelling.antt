@@ -1,6 +1,6 @@
 -- The layout of a frame: each field with its width, in the order of the bytes. Numbers are big-endian. The version of
 -- the layout says how an address is written and whether a row has its data master.
-use Rattle.std.specs.Prelude.{ℕ, ◌+◌, ◌/◌, ◌%◌, ◌^◌, nat_lt, List, [], ◌∷◌, ◌++◌, length, Option, None, Some, if◌then◌else◌}
+use Rattle.std.specs.Prelude.{ℕ, ◌+◌, ◌/◌, ◌%◌, ◌^◌, List, [], ◌∷◌, ◌++◌, length, Option, None, Some, if◌then◌else◌}
 use Rattle.std.specs.List.{flat_map}
 use Rattle.std.specs.Int.{w16, w32, w64, to_be_bytes}
 use Rattle.ct_bytes.specs.declared.address.Address.{Address}
@@ -14,6 +14,8 @@ use Rattle.ct_frame.specs.declared.frame.Msg.{Msg}
 use Rattle.ct_frame.specs.declared.frame.Msg.TheVariants.{Call, Recall, Give, Pass, Refuse, Grant, Done, Revoke, RevokeAck, VStore, VStored, VDelete, VDeleted, Freeze, FreezeAck, Pull, PullReply, Push, PushAck, Thaw, PUpdate, PAck, Release, ReleaseAck, Take}
 use Rattle.ct_frame.specs.declared.frame.PTable.{PTable}
 use Rattle.ct_frame.specs.declared.frame.TableRow.{TableRow}
+use Rattle.ct_wire_fields.specs.declared.version.Version.{Version}
+use Rattle.ct_wire_fields.specs.Version.{names_families, names_masters, version_number}
 
 -- numbers of four and of eight bytes
 abbrev pub u32 : ℕ → List ℕ
@@ -35,9 +37,9 @@ abbrev pub kind : CallKind → List ℕ
 kind Lock = 0 ∷ []
 kind Read = 1 ∷ []
 
--- a byte for the family, and its number; before version 3 the number alone, and no IPv6 address
-abbrev pub address : ℕ → Address → List ℕ
-address v (V4 n) = if nat_lt v 3 then u32 n else 4 ∷ u32 n
+-- a byte for the family, and its number; in a version that names no families the number alone, and no IPv6 address
+abbrev pub address : Version → Address → List ℕ
+address v (V4 n) = if names_families v then 4 ∷ u32 n else u32 n
 address v (V6 n) = 6 ∷ u64 (n / 2 ^ 64) ++ u64 (n % 2 ^ 64)
 
 -- a node, or 2^32 - 1 for none
@@ -49,9 +51,9 @@ node_or_none (Some n) = u32 n
 abbrev pub list : {X : Type 0} → (X → List ℕ) → List X → List ℕ
 list item xs = u32 (length xs) ++ flat_map item xs
 
--- a row of a table; the data master from version 2 on
-abbrev pub row : ℕ → TableRow → List ℕ
-row v r = u32 r.db ++ key r.key ++ u64 r.rsn ++ value r.value ++ (if nat_lt v 2 then [] else node_or_none r.master)
+-- a row of a table, with its data master where the version names it
+abbrev pub row : Version → TableRow → List ℕ
+row v r = u32 r.db ++ key r.key ++ u64 r.rsn ++ value r.value ++ (if names_masters v then node_or_none r.master else [])
 
 abbrev pub pair : Pair → List ℕ
 pair p = key p.key ++ value p.value
@@ -59,7 +61,7 @@ pair p = key p.key ++ value p.value
 unfoldable pub ptable : PTable → List ℕ
 ptable t = u32 t.db ++ u64 t.seq ++ list pair t.pairs
 
-abbrev pub assigned : ℕ → Assigned → List ℕ
+abbrev pub assigned : Version → Assigned → List ℕ
 assigned v a = address v a.address ++ node_or_none a.node
 
 -- the generations from which the volatile and the persistent databases of a member come
@@ -67,11 +69,11 @@ unfoldable pub bases : ℕ → ℕ → List ℕ
 bases vbase pbase = u64 vbase ++ u64 pbase
 
 -- what a member holds
-unfoldable pub held : ℕ → List TableRow → List PTable → List Address → List ℕ
+unfoldable pub held : Version → List TableRow → List PTable → List Address → List ℕ
 held v table ptables addresses = list (row v) table ++ list ptable ptables ++ list (address v) addresses
 
 -- the fields of each message
-unfoldable pub body : ℕ → Msg → List ℕ
+unfoldable pub body : Version → Msg → List ℕ
 body v (Call db k request call) = u32 db ++ key k ++ kind call
 body v (Recall db k least node request call) = u32 db ++ key k ++ u64 least ++ u32 node ++ kind call
 body v (Give db k rsn x) = u32 db ++ key k ++ u64 rsn ++ value x
@@ -137,20 +139,20 @@ request (Done db k node q) = q
 request _ = 0
 
 -- the first fields of the header: length, the bytes CTDB, version and generation
-abbrev pub front : ℕ → Frame → ℕ → List ℕ
-front v f size = u32 size ++ u32 1129595970 ++ u32 v ++ u64 f.generation
+abbrev pub front : Version → Frame → ℕ → List ℕ
+front v f size = u32 size ++ u32 1129595970 ++ u32 (version_number v) ++ u64 f.generation
 
 -- the others: operation, receiver, sender and request
 abbrev pub names : Frame → List ℕ
 names f = u32 (operation f.msg) ++ u32 f.receiver ++ u32 f.sender ++ u64 (request f.msg)
 
 -- the header of a frame of this size
-abbrev pub header : ℕ → Frame → ℕ → List ℕ
+abbrev pub header : Version → Frame → ℕ → List ℕ
 header v f size = front v f size ++ names f
 
 -- a header has 40 bytes
-abbrev pub size : ℕ → Frame → ℕ
+abbrev pub size : Version → Frame → ℕ
 size v f = 40 + length (body v f.msg)
 
-abbrev pub spelled : ℕ → Frame → List ℕ
+abbrev pub spelled : Version → Frame → List ℕ
 spelled v f = header v f (size v f) ++ body v f.msg

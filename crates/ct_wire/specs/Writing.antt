@@ -6,16 +6,17 @@ use Rattle.ct_bytes.specs.declared.memory.NoMemory.{NoMemory}
 use Rattle.ct_frame.specs.declared.frame.Frame.{Frame}
 use Rattle.ct_wire.specs.declared.encode.EncodeFault.{EncodeFault}
 use Rattle.ct_wire.specs.declared.encode.EncodeFault.TheVariants as fault
+use Rattle.ct_wire_fields.specs.Version.{newest}
 use Rattle.ct_wire.specs.Spelling.{size, spelled}
 
 -- a frame has at most 2^28 bytes
 abbrev pub Refuses : EncodeFault → Frame → Type 0
-Refuses (fault.TooLong n) f = (n ≡ size 3 f) × (268435456 < size 3 f)
+Refuses (fault.TooLong n) f = (n ≡ size newest f) × (268435456 < size newest f)
 Refuses fault.NoMemory f = Unit {0}
 
 -- Ok is the spelling in the newest version, where it is no longer than a frame may be
 abbrev pub Encodes : {X : Type 0} → (X → List ℕ) → Result X EncodeFault → Frame → Type 0
-Encodes bytes (Ok x) f = (bytes x ≡ spelled 3 f) × (size 3 f ≤ 268435456)
+Encodes bytes (Ok x) f = (bytes x ≡ spelled newest f) × (size newest f ≤ 268435456)
 Encodes bytes (Err fault) f = Refuses fault f
 
 -- every piece but the last has so many bytes

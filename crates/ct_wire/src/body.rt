@@ -1,5 +1,6 @@
 //! The body of a frame, written at the end of some bytes.
 ghost use Rattle.std.specs.Prelude.{◌≡◌, ◌++◌, OnOk};
+ghost use Rattle.ct_wire_fields.specs.Version.{newest};
 ghost use Rattle.ct_wire.specs.Spelling.{address, assigned, bases, body, held, key, kind, list, operation, pair, ptable, request, row, u32, u64, value};
 
 use crate::put::{
@@ -126,7 +127,7 @@ fn put_held(
     ptables: &[PTable],
     addresses: &[Address],
 ) -> Result<(), NoMemory>
-    ensures { OnOk result (out.new.items ≡ out.old.items ++ held 3 table.now ptables.now addresses.now) }
+    ensures { OnOk result (out.new.items ≡ out.old.items ++ held newest table.now ptables.now addresses.now) }
 {
     put_rows(out, table)?;
     put_ptables(out, ptables)?;
@@ -141,7 +142,7 @@ fn put_pull_reply(
     ptables: &[PTable],
     addresses: &[Address],
 ) -> Result<(), NoMemory>
-    ensures { OnOk result (out.new.items ≡ out.old.items ++ (bases vbase pbase ++ held 3 table.now ptables.now addresses.now)) }
+    ensures { OnOk result (out.new.items ≡ out.old.items ++ (bases vbase pbase ++ held newest table.now ptables.now addresses.now)) }
 {
     put_bases(out, vbase, pbase)?;
     put_held(out, table, ptables, addresses)
@@ -154,7 +155,7 @@ fn put_push(
     ptables: &[PTable],
     assigns: &[Assigned],
 ) -> Result<(), NoMemory>
-    ensures { OnOk result (out.new.items ≡ out.old.items ++ (list u32 members.now ++ list (row 3) table.now ++ list ptable ptables.now ++ list (assigned 3) assigns.now)) }
+    ensures { OnOk result (out.new.items ≡ out.old.items ++ (list u32 members.now ++ list (row newest) table.now ++ list ptable ptables.now ++ list (assigned newest) assigns.now)) }
 {
     put_nodes(out, members)?;
     put_rows(out, table)?;
@@ -178,14 +179,14 @@ fn put_ack(out: &mut Vec<u8>, db: u32, seq: u64) -> Result<(), NoMemory>
 }
 
 fn put_release(out: &mut Vec<u8>, run: u64, keep: &[Address]) -> Result<(), NoMemory>
-    ensures { OnOk result (out.new.items ≡ out.old.items ++ (u64 run ++ list (address 3) keep.now)) }
+    ensures { OnOk result (out.new.items ≡ out.old.items ++ (u64 run ++ list (address newest) keep.now)) }
 {
     put_u64(out, run)?;
     put_addresses(out, keep)
 }
 
 fn put_take(out: &mut Vec<u8>, run: u64, assigns: &[Assigned]) -> Result<(), NoMemory>
-    ensures { OnOk result (out.new.items ≡ out.old.items ++ (u64 run ++ list (assigned 3) assigns.now)) }
+    ensures { OnOk result (out.new.items ≡ out.old.items ++ (u64 run ++ list (assigned newest) assigns.now)) }
 {
     put_u64(out, run)?;
     put_assigned_list(out, assigns)
@@ -193,7 +194,7 @@ fn put_take(out: &mut Vec<u8>, run: u64, assigns: &[Assigned]) -> Result<(), NoM
 
 #[tactic(auto, using(crate::proofs::Lists::nothing_more), unfolding(crate::specs::Spelling::body))]
 pub fn put_body(out: &mut Vec<u8>, msg: &Msg) -> Result<(), NoMemory>
-    ensures { OnOk result (out.new.items ≡ out.old.items ++ body 3 msg.now) }
+    ensures { OnOk result (out.new.items ≡ out.old.items ++ body newest msg.now) }
 {
     match msg {
         Msg::Call { db, key, kind, .. } => put_call(out, *db, key, *kind),

@@ -140,7 +140,13 @@ fn start_width(reading: &Reading) -> u64
     match &reading.place {
         Place::Number(place) => number_width(place),
         Place::Text(place) => text_width(place),
-        Place::Address(_) => { if reading.draft.head.version < 3 { 4 } else { 1 } }
+        Place::Address(_) => {
+            if reading.draft.head.version.names_families() {
+                1
+            } else {
+                4
+            }
+        }
     }
 }
 
@@ -306,7 +312,7 @@ fn family_read(draft: Draft, at: u64, place: AddressPlace, family: u64) -> Outco
     Outcome::Malformed(at)
 }
 
-/// The first field of an address, which is all of it before version 3.
+/// The first field of an address, which is all of it where a version names no families.
 fn address_start(
     draft: Draft,
     at: u64,
@@ -317,7 +323,7 @@ fn address_start(
     ensures exact { IfOk result (λ o. o ≡ address_start draft at place field.now) }
     ensures sound { IfOk result IsSoundOutcome }
 {
-    if draft.head.version < 3 {
+    if !draft.head.version.names_families() {
         let address = Address::V4((number_of(field) % 4_294_967_296) as u32);
         return address_read(draft, at, place, address, at + 4);
     }
@@ -398,10 +404,10 @@ impl Cursor {
                 Stage::Four => 4,
                 Stage::Sixteen => 16,
                 _ => {
-                    if self.reading.draft.head.version < 3 {
-                        4
-                    } else {
+                    if self.reading.draft.head.version.names_families() {
                         1
+                    } else {
+                        4
                     }
                 }
             },

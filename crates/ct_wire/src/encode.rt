@@ -1,6 +1,7 @@
 //! Frames written as bytes, whole and in pieces.
 ghost use Rattle.std.specs.Prelude.{◌≡◌, ◌++◌, ◌+◌, ◌<◌, ◌≤◌, OnOk, IfOk, IsTrue, length, take, drop, List, ℕ};
 ghost use Rattle.ct_frame.specs.Fields.{well_formed};
+ghost use Rattle.ct_wire_fields.specs.Version.{newest};
 ghost use Rattle.ct_wire.specs.Spelling.{body, front, header, names};
 ghost use Rattle.ct_wire.specs.Writing.{Encodes, GivesPiece, frame_length, piece_size};
 
@@ -8,12 +9,10 @@ use crate::body::{operation, put_body, request};
 use crate::put::{put_u32, put_u64};
 use ct_bytes::memory::NoMemory;
 use ct_frame::frame::Frame;
+use ct_wire_fields::version::Version;
 use std::alloc::{AllocError, AllocFailed, Global};
 use std::marker::Model;
 use thiserror::Error;
-
-/// The version that is written.
-const VERSION: u32 = 3;
 
 /// A frame has at most so many bytes.
 const MOST: u64 = 268_435_456;
@@ -65,11 +64,11 @@ impl<T: Drop> From<AllocFailed<T>> for EncodeFault {
 }
 
 fn put_front(out: &mut Vec<u8>, frame: &Frame, size: u32) -> Result<(), NoMemory>
-    ensures { OnOk result (out.new.items ≡ out.old.items ++ front 3 frame.now size) }
+    ensures { OnOk result (out.new.items ≡ out.old.items ++ front newest frame.now size) }
 {
     put_u32(out, size)?;
     put_u32(out, MAGIC)?;
-    put_u32(out, VERSION)?;
+    put_u32(out, Version::newest().number())?;
     put_u64(out, frame.generation)
 }
 
@@ -83,14 +82,14 @@ fn put_names(out: &mut Vec<u8>, frame: &Frame) -> Result<(), NoMemory>
 }
 
 fn put_header(out: &mut Vec<u8>, frame: &Frame, size: u32) -> Result<(), NoMemory>
-    ensures { OnOk result (out.new.items ≡ out.old.items ++ header 3 frame.now size) }
+    ensures { OnOk result (out.new.items ≡ out.old.items ++ header newest frame.now size) }
 {
     put_front(out, frame, size)?;
     put_names(out, frame)
 }
 
 fn body_of(alloc: Global, frame: &Frame) -> Result<Vec<u8>, NoMemory>
-    ensures { IfOk result (λ v. v.items ≡ body 3 frame.now.msg) }
+    ensures { IfOk result (λ v. v.items ≡ body newest frame.now.msg) }
 {
     let mut out = Vec::new(alloc);
     put_body(&mut out, &frame.msg)?;

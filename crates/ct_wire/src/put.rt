@@ -2,6 +2,7 @@
 ghost use Rattle.std.specs.Prelude.{◌≡◌, ◌++◌, OnOk, length};
 ghost use Rattle.std.specs.Int.{w16, w32, w64, to_be_bytes};
 ghost use Rattle.std.specs.List.{flat_map};
+ghost use Rattle.ct_wire_fields.specs.Version.{newest};
 ghost use Rattle.ct_wire.specs.Spelling.{u32, u64, key, value, kind, address, node_or_none, list, row, pair, ptable, assigned};
 
 use ct_bytes::address::Address;
@@ -65,7 +66,7 @@ pub fn put_kind(out: &mut Vec<u8>, call: CallKind) -> Result<(), NoMemory>
 }
 
 pub fn put_address(out: &mut Vec<u8>, a: &Address) -> Result<(), NoMemory>
-    ensures { OnOk result (out.new.items ≡ out.old.items ++ address 3 a.now) }
+    ensures { OnOk result (out.new.items ≡ out.old.items ++ address newest a.now) }
 {
     match *a {
         Address::V4(number) => {
@@ -90,7 +91,7 @@ pub fn put_node_or_none(out: &mut Vec<u8>, node: Option<u32>) -> Result<(), NoMe
 }
 
 fn put_row(out: &mut Vec<u8>, r: &TableRow) -> Result<(), NoMemory>
-    ensures { OnOk result (out.new.items ≡ out.old.items ++ row 3 r.now) }
+    ensures { OnOk result (out.new.items ≡ out.old.items ++ row newest r.now) }
 {
     put_u32(out, r.db)?;
     put_key(out, &r.key)?;
@@ -116,7 +117,7 @@ fn put_ptable(out: &mut Vec<u8>, t: &PTable) -> Result<(), NoMemory>
 }
 
 fn put_assigned(out: &mut Vec<u8>, a: &Assigned) -> Result<(), NoMemory>
-    ensures { OnOk result (out.new.items ≡ out.old.items ++ assigned 3 a.now) }
+    ensures { OnOk result (out.new.items ≡ out.old.items ++ assigned newest a.now) }
 {
     put_address(out, &a.address)?;
     put_node_or_none(out, a.node)
@@ -133,7 +134,7 @@ pub fn put_nodes(out: &mut Vec<u8>, nodes: &[u32]) -> Result<(), NoMemory>
 }
 
 pub fn put_rows(out: &mut Vec<u8>, table: &[TableRow]) -> Result<(), NoMemory>
-    ensures { OnOk result (out.new.items ≡ out.old.items ++ list (row 3) table.now) }
+    ensures { OnOk result (out.new.items ≡ out.old.items ++ list (row newest) table.now) }
 {
     put_count(out, table.len())?;
     for r in table {
@@ -163,7 +164,7 @@ pub fn put_ptables(out: &mut Vec<u8>, ptables: &[PTable]) -> Result<(), NoMemory
 }
 
 pub fn put_addresses(out: &mut Vec<u8>, addresses: &[Address]) -> Result<(), NoMemory>
-    ensures { OnOk result (out.new.items ≡ out.old.items ++ list (address 3) addresses.now) }
+    ensures { OnOk result (out.new.items ≡ out.old.items ++ list (address newest) addresses.now) }
 {
     put_count(out, addresses.len())?;
     for a in addresses {
@@ -173,7 +174,7 @@ pub fn put_addresses(out: &mut Vec<u8>, addresses: &[Address]) -> Result<(), NoM
 }
 
 pub fn put_assigned_list(out: &mut Vec<u8>, assigns: &[Assigned]) -> Result<(), NoMemory>
-    ensures { OnOk result (out.new.items ≡ out.old.items ++ list (assigned 3) assigns.now) }
+    ensures { OnOk result (out.new.items ≡ out.old.items ++ list (assigned newest) assigns.now) }
 {
     put_count(out, assigns.len())?;
     for a in assigns {

@@ -17,16 +17,19 @@ use Rattle.ct_wire_fields.specs.declared.place.TextPlace.TheVariants as text
 use Rattle.ct_wire_fields.specs.declared.place.AddressPlace.{AddressPlace}
 use Rattle.ct_wire_fields.specs.declared.place.AddressPlace.TheVariants as address
 use Rattle.ct_wire_fields.specs.declared.place.Place.TheVariants as place
+use Rattle.ct_wire_fields.specs.declared.version.Version.{Version}
+use Rattle.ct_wire_fields.specs.declared.version.Version.TheVariants.{One}
 use Rattle.ct_wire_fields.specs.declared.draft.Head.{Head}
 use Rattle.ct_wire_fields.specs.declared.draft.Draft.{Draft}
 use Rattle.ct_wire_fields.specs.declared.draft.Step.{Step}
 use Rattle.ct_wire_fields.specs.declared.draft.Step.TheVariants.{Next, Whole, Broken}
+use Rattle.ct_wire_fields.specs.Version.{names_masters, version_of}
 use Rattle.ct_wire_fields.specs.Check.{is_count, last_of, key_of, value_of, follows_node, follows_db, follows_row, follows_pair, follows_ptable, follows_address, follows_assigned}
 
 -- nothing has been read
 abbrev pub no_draft : Draft
 no_draft = record {
-  head = record { length = 0; version = 0; generation = 0; operation = Call; receiver = 0; sender = 0; request = 0 };
+  head = record { length = 0; version = One; generation = 0; operation = Call; receiver = 0; sender = 0; request = 0 };
   db = 0;
   rsn = 0;
   node = 0;
@@ -100,8 +103,12 @@ length_read d at n = if nat_lt 39 n && nat_lt n 268435457 then to_number (record
 abbrev pub magic_read : Draft → ℕ → ℕ → Step
 magic_read d at n = if n == 1129595970 then to_number d number.Version else Broken at
 
+abbrev pub version_found : Draft → ℕ → Option Version → Step
+version_found d at None = Broken at
+version_found d at (Some v) = to_number (record d { head = record d.head { version = v } }) number.Generation
+
 abbrev pub version_read : Draft → ℕ → ℕ → Step
-version_read d at n = if nat_lt 0 n && nat_lt n 4 then to_number (record d { head = record d.head { version = n } }) number.Generation else Broken at
+version_read d at n = version_found d at (version_of n)
 
 abbrev pub generation_read : Draft → ℕ → ℕ → Step
 generation_read d at n = if is_from_one n then to_number (record d { head = record d.head { generation = n } }) number.Operation else Broken at
@@ -238,7 +245,7 @@ rows_left d left = if nat_lt 0 left then to_number d (number.RowDb left) else to
 
 -- in version 1 the sender of a Push is data master of each row, and so has to be one of its nodes
 abbrev pub may_have_row : Draft → Operation → Bool
-may_have_row d Push = nat_lt 1 d.head.version || list_any (nat_eq d.head.sender) d.nodes
+may_have_row d Push = names_masters d.head.version || list_any (nat_eq d.head.sender) d.nodes
 may_have_row d _ = true
 
 abbrev pub row_db_read : Draft → ℕ → ℕ → ℕ → Step
@@ -261,7 +268,7 @@ plain_master d _ = None
 
 abbrev pub row_value_found : Draft → ℕ → ℕ → List ℕ → Option (List ℕ) → Step
 row_value_found d at left key None = Broken at
-row_value_found d at left key (Some value) = if nat_lt 1 d.head.version then to_number d (number.RowMaster left key value) else rows_left (with_row d key value (plain_master d d.head.operation)) (left - 1)
+row_value_found d at left key (Some value) = if names_masters d.head.version then to_number d (number.RowMaster left key value) else rows_left (with_row d key value (plain_master d d.head.operation)) (left - 1)
 
 -- one of the nodes in a Push; in a PullReply the sender, or 2^32 - 1 for none
 abbrev pub master_of : Draft → ℕ → Operation → Option (Option ℕ)

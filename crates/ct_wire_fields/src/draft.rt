@@ -3,17 +3,18 @@ ghost use Rattle.std.specs.Prelude.{◌≡◌};
 ghost use Rattle.ct_wire_fields.specs.Reading.{no_draft, to_number, to_text, to_address, whole};
 
 use crate::place::{AddressPlace, NumberPlace, Operation, Place, TextPlace};
+use crate::version::Version;
 use ct_bytes::address::Address;
 use ct_bytes::items::Items;
 use ct_frame::frame::{Assigned, Frame, Msg, PTable, TableRow};
 use ct_msg::client::Pair;
 use std::alloc::Global;
 
-/// The header of a frame. What has not been read is 0, or the first operation.
+/// The header of a frame. What has not been read is 0, the first version or the first operation.
 #[derive(Clone, Copy, Debug, PartialEq, Eq)]
 pub struct Head {
     pub length: u32,
-    pub version: u64,
+    pub version: Version,
     pub generation: u64,
     pub operation: Operation,
     pub receiver: u32,
@@ -68,7 +69,7 @@ impl Draft {
         Draft {
             head: Head {
                 length: 0,
-                version: 0,
+                version: Version::One,
                 generation: 0,
                 operation: Operation::Call,
                 receiver: 0,

@@ -5,6 +5,7 @@ ghost use Rattle.ct_wire_fields.specs.Reading.{operation_of, names_request, is_r
 use crate::check::{is_from_one, is_node};
 use crate::draft::{Draft, Head, Step, whole};
 use crate::place::{NumberPlace, Operation};
+use crate::version::Version;
 use ct_frame::frame::Msg;
 
 fn item_at(operations: &[Operation], place: u64) -> Option<Operation>
@@ -102,11 +103,11 @@ impl Draft {
     pub(crate) fn version_read(self, at: u64, number: u64) -> Step
         ensures { result ≡ version_read self at number }
     {
-        if number < 1 || number > 3 {
+        let Some(version) = Version::of(number) else {
             return Step::Broken(at);
-        }
+        };
         let head = Head {
-            version: number,
+            version,
             ..self.head
         };
         Draft { head, ..self }.to_number(NumberPlace::Generation)

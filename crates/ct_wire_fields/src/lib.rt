@@ -9,3 +9,4 @@ pub mod place;
 pub mod reading;
 mod record;
 mod table;
+pub mod version;

@@ -110,7 +110,8 @@ impl Draft {
     {
         match self.head.operation {
             Operation::Push => {
-                self.head.version > 1 || is_among(self.nodes.as_slice(), self.head.sender)
+                self.head.version.names_masters()
+                    || is_among(self.nodes.as_slice(), self.head.sender)
             }
             _ => true,
         }
@@ -190,7 +191,7 @@ impl Draft {
         let Some(value) = value_of(text) else {
             return Ok(Step::Broken(at));
         };
-        if self.head.version > 1 {
+        if self.head.version.names_masters() {
             return Ok(self.to_number(NumberPlace::RowMaster { left, key, value }));
         }
         let master = self.plain_master();
