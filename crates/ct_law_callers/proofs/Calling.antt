@@ -2,7 +2,7 @@
 use Rattle.std.proofs.Common.{◌≡◌, ℕ, ◌+◌, ◌≤◌, Bool, true, false, cond, List, [], ◌∷◌, Option, Some, None, refl, ap, ◌∙◌, arith}
 use Rattle.std.specs.Prelude.{nat_eq, is_none}
 use Rattle.std.proofs.lemmas.Bool.{ne_eqb, eq-eqb}
-use Rattle.ct_msg.specs.Client.{db_of, is_read, key_of}
+use Rattle.ct_msg.specs.Client.{db_of, is_read}
 use Rattle.ct_msg.specs.declared.client.ClientOp.{ClientOp}
 use Rattle.ct_msg.specs.declared.client.ClientOp.TheVariants as op
 use Rattle.ct_msg.specs.declared.client.Why.TheVariants as why
@@ -15,7 +15,6 @@ use Rattle.ct_rules.specs.declared.state.RecState.{RecState}
 use Rattle.ct_rules.specs.declared.state.Wish.{Wish}
 use Rattle.ct_rules_node.specs.Node.{Node, Database, Committing, is_persistent, has_records, kind_at}
 use Rattle.ct_rules_node.specs.Refusals.{refused_if}
-use Rattle.ct_rules_node.specs.Clients as clients
 use Rattle.ct_rules_node.specs.Clients.{refusal, no_such_db, wrong_kind, is_commit}
 use Rattle.ct_rules_node.proofs.Refusals.{first_none, not_refused}
 use Rattle.ct_law_wish.proofs.Wishing.{Wishful}
@@ -39,7 +38,7 @@ old_call calls k x y who l e = ap (λ (b : Bool). cond b x (who k)) (ne_eqb k (c
 more_wish : (c : Config) (who : Callers) (calls n db : ℕ) (key : List ℕ) (x : ℕ × ClientOp) (w : Option Wish) → Wishful (Waits c who calls n db key) w → Wishful (Waits c (called (calls + 1) x who) (calls + 1) n db key) w
 unfolding Wishful Waits Known
 more_wish c who calls n db key x None h = tt
-more_wish c who calls n db key x (Some w) h = ((old_call calls w.call x (n, w.op) who h.0.1 h.0.0, (let l = h.0.1 in omega arith), h.0.2, h.0.3), h.1)
+more_wish c who calls n db key x (Some w) h = ((old_call calls w.call x (n, w.op) who h.0.1 h.0.0, (let l = h.0.1 in omega arith), h.0.2, h.0.3), h.1, h.2)
 
 more_wishes : (c : Config) (who : Callers) (calls n db : ℕ) (x : ℕ × ClientOp) (m : Pairs RecState) → EachWish (Waits c who calls n) (Commits who calls n) db m → EachWish (Waits c (called (calls + 1) x who) (calls + 1) n) (Commits (called (calls + 1) x who) (calls + 1) n) db m
 unfolding EachWish
@@ -83,9 +82,9 @@ kind_of_call c rules n o e f g = (let a = (first_none _ _ (first_none _ _ e).1).
 pub new_known : (c : Config) (rules : Rules) (who : Callers) (calls n : ℕ) (asked : ClientOp) (node : Node) → IsNew (Waits c (called (calls + 1) (n, asked) who) (calls + 1) n) (Commits (called (calls + 1) (n, asked) who) (calls + 1) n) c rules node (calls + 1) asked
 unfolding IsNew Waits Known Commits is_commit is_read
 new_known c rules who calls n (op.Commit db writes) node = λ e. (own_call (calls + 1) (n, op.Commit db writes) who, omega arith)
-new_known c rules who calls n (op.Read db key) node = λ e f. ((own_call (calls + 1) (n, op.Read db key) who, omega arith, refl, refl), there c rules node (op.Read db key) e f)
-new_known c rules who calls n (op.Lock db key) node = λ e. ((own_call (calls + 1) (n, op.Lock db key) who, omega arith, refl, refl), there c rules node (op.Lock db key) e (kind_of_call c rules node (op.Lock db key) e refl refl))
-new_known c rules who calls n (op.Write db key v) node = λ e. ((own_call (calls + 1) (n, op.Write db key v) who, omega arith, refl, refl), there c rules node (op.Write db key v) e (kind_of_call c rules node (op.Write db key v) e refl refl))
-new_known c rules who calls n (op.Apply db key f arg) node = λ e. ((own_call (calls + 1) (n, op.Apply db key f arg) who, omega arith, refl, refl), there c rules node (op.Apply db key f arg) e (kind_of_call c rules node (op.Apply db key f arg) e refl refl))
-new_known c rules who calls n (op.Store db key v) node = λ e. ((own_call (calls + 1) (n, op.Store db key v) who, omega arith, refl, refl), there c rules node (op.Store db key v) e (kind_of_call c rules node (op.Store db key v) e refl refl))
-new_known c rules who calls n (op.Unlock db key) node = λ e. ((own_call (calls + 1) (n, op.Unlock db key) who, omega arith, refl, refl), there c rules node (op.Unlock db key) e (kind_of_call c rules node (op.Unlock db key) e refl refl))
+new_known c rules who calls n (op.Read db key) node = λ e f. ((own_call (calls + 1) (n, op.Read db key) who, omega arith, refl, refl), there c rules node (op.Read db key) e f, refl)
+new_known c rules who calls n (op.Lock db key) node = λ e. ((own_call (calls + 1) (n, op.Lock db key) who, omega arith, refl, refl), there c rules node (op.Lock db key) e (kind_of_call c rules node (op.Lock db key) e refl refl), refl)
+new_known c rules who calls n (op.Write db key v) node = λ e. ((own_call (calls + 1) (n, op.Write db key v) who, omega arith, refl, refl), there c rules node (op.Write db key v) e (kind_of_call c rules node (op.Write db key v) e refl refl), refl)
+new_known c rules who calls n (op.Apply db key f arg) node = λ e. ((own_call (calls + 1) (n, op.Apply db key f arg) who, omega arith, refl, refl), there c rules node (op.Apply db key f arg) e (kind_of_call c rules node (op.Apply db key f arg) e refl refl), refl)
+new_known c rules who calls n (op.Store db key v) node = λ e. ((own_call (calls + 1) (n, op.Store db key v) who, omega arith, refl, refl), there c rules node (op.Store db key v) e (kind_of_call c rules node (op.Store db key v) e refl refl), refl)
+new_known c rules who calls n (op.Unlock db key) node = λ e. ((own_call (calls + 1) (n, op.Unlock db key) who, omega arith, refl, refl), there c rules node (op.Unlock db key) e (kind_of_call c rules node (op.Unlock db key) e refl refl), refl)

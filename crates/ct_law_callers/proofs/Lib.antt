@@ -5,3 +5,4 @@ pub mod Calling
 pub mod Steps
 pub mod Reached
 pub mod Telling
+pub mod Asked

@@ -54,15 +54,15 @@ module _ (P : ℕ → List ℕ → ℕ → ClientOp → Type 0) (Q : ℕ → ℕ
   want_again_of_calls db key rules at o None own h = h
   want_again_of_calls db key rules at o (Some w) own h = want_wish (P db key) at rules w.call w.op (keeps (record o.state { wish = None }) o) own tt
 
-  want_again_calls : (db : ℕ) (key : List ℕ) (rules : Rules) → KeepsWish P Q db key (want_again rules)
+  pub want_again_calls : (db : ℕ) (key : List ℕ) (rules : Rules) → KeepsWish P Q db key (want_again rules)
   unfolding want_again
   want_again_calls db key rules at o h = want_again_of_calls db key rules at o o.state.wish h h
 
-  call_again_calls : (db : ℕ) (key : List ℕ) → KeepsWish P Q db key call_again
+  pub call_again_calls : (db : ℕ) (key : List ℕ) → KeepsWish P Q db key call_again
   unfolding call_again call_again_of send performs
   call_again_calls db key at o h = grind (arith, h)
 
-  revoke_again_calls : (db : ℕ) (key : List ℕ) → KeepsWish P Q db key revoke_again
+  pub revoke_again_calls : (db : ℕ) (key : List ℕ) → KeepsWish P Q db key revoke_again
   unfolding revoke_again revoke_again_of
   revoke_again_calls db key at o h = grind (arith, h, send_all_same)
 

@@ -1,13 +1,13 @@
 -- The persistent database that a merge keeps: it is of a pull of the greatest base, and none of these has a greater number.
-use Rattle.std.proofs.Common.{◌≡◌, ◌≢◌, ℕ, zero, suc, ◌+◌, ◌<◌, ◌≤◌, Bool, true, false, cond, List, [], ◌∷◌, ◌++◌, length, map, Option, None, Some, refl, sym, ap, ◌∙◌, subst, arith}
-use Rattle.std.specs.Prelude.{◌==◌, nat_eq}
-use Rattle.std.specs.List.{filter, AllByRecursion}
-use Rattle.std.specs.Ordering.{nat_cmp, is_lt, ordering_then}
+use Rattle.std.proofs.Common.{◌≡◌, ℕ, ◌≤◌, true, false, List, [], ◌∷◌, ◌++◌, Some, subst, arith}
+use Rattle.std.specs.Prelude.{◌==◌}
+use Rattle.std.specs.List.{AllByRecursion}
+use Rattle.std.specs.Ordering.{is_lt}
 use Rattle.std.proofs.lemmas.Bool.{cond_both, eqb-true}
 use Rattle.ct_frame.specs.declared.round.Pull.{Pull}
-use Rattle.ct_merge.specs.Placing.{better, better_of, best_from, best}
+use Rattle.ct_merge.specs.Placing.{better, best_from, best}
 use Rattle.ct_merge.specs.Held.{ptable_rank, ptables_of}
-use Rattle.ct_merge.specs.Rule.{told, pparent, ptables_at, is_ptable_at}
+use Rattle.ct_merge.specs.Rule.{told}
 use Rattle.ct_merge.specs.declared.held.HeldPTable.{HeldPTable}
 
 -- ---- the best has what all have, and the greatest number

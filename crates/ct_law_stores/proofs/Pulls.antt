@@ -1,13 +1,11 @@
 -- What a Pull is told of persistent databases: each of them, whole.
-use Rattle.std.proofs.Common.{◌≡◌, ◌≢◌, ℕ, zero, suc, ◌+◌, ◌<◌, ◌≤◌, Bool, true, false, cond, List, [], ◌∷◌, ◌++◌, length, map, Option, None, Some, refl, sym, ap, ◌∙◌, subst, arith}
+use Rattle.std.proofs.Common.{◌≡◌, ℕ, zero, suc, ◌+◌, ◌<◌, true, false, List, [], ◌∷◌, length, None, Some, refl, sym, ap, ◌∙◌, subst, arith}
 use Rattle.std.specs.Prelude.{nat_eq, slice_get}
-use Rattle.std.specs.List.{find, AllByRecursion}
 use Rattle.std.specs.Ordering.{nat_cmp, is_eq}
-use Rattle.std.specs.BTreeMap.{is_at}
-use Rattle.std.proofs.lemmas.Bool.{cond_both, eqb-true, eq-eqb, ne_eqb}
+use Rattle.std.proofs.lemmas.Bool.{cond_both, eq-eqb, ne_eqb}
 use Rattle.ct_msg.specs.declared.config.Config.{Config}
 use Rattle.ct_frame.specs.declared.frame.PTable.{PTable}
-use Rattle.ct_merge.specs.Rule.{ptable_at, is_ptable_at}
+use Rattle.ct_merge.specs.Rule.{ptable_at}
 use Rattle.ct_persist.specs.Persisted.{Persisted, listed}
 use Rattle.ct_rules_node.specs.Node.{Database, is_persistent, kind_at, or_untouched}
 use Rattle.ct_rules_node.specs.Rounds.{ptables_of}

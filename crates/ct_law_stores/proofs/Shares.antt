@@ -1,15 +1,15 @@
 -- Whom a placement gives an address, and what it is made of.
-use Rattle.std.proofs.Common.{◌≡◌, ◌≢◌, ℕ, zero, suc, ◌+◌, ◌<◌, ◌≤◌, Bool, true, false, cond, ◌||◌, List, [], ◌∷◌, ◌++◌, length, map, Option, None, Some, refl, sym, ap, ◌∙◌, subst, arith, ⊎_elim, inl, inr}
-use Rattle.std.specs.Prelude.{is_some, ◌⊎◌}
-use Rattle.std.specs.List.{filter, list_any, AllByRecursion}
-use Rattle.std.proofs.lemmas.Bool.{cond_both, eqb-true, or_cases}
+use Rattle.std.proofs.Common.{◌≡◌, ℕ, Bool, true, false, cond, List, [], ◌∷◌, Option, None, Some, refl, sym, ap, ◌∙◌, subst, ⊎_elim}
+use Rattle.std.specs.Prelude.{is_some}
+use Rattle.std.specs.List.{list_any, AllByRecursion}
+use Rattle.std.proofs.lemmas.Bool.{cond_both, or_cases}
 use Rattle.ct_bytes.proofs.Words.{this_node_is}
 use Rattle.ct_bytes.proofs.AddressOrder.{address_is}
 use Rattle.ct_bytes.specs.Words.{is_this_node}
 use Rattle.ct_bytes.specs.Address.{same_address}
 use Rattle.ct_bytes.specs.declared.address.Address.{Address}
 use Rattle.ct_frame.specs.declared.frame.Assigned.{Assigned}
-use Rattle.ct_rules_node.specs.Node.{holder_in, assigned_all}
+use Rattle.ct_rules_node.specs.Node.{holder_in}
 use Rattle.ct_rules_node.specs.Takeovers.{share, assigned_in, has_address}
 
 -- no two items are of one address

@@ -1,12 +1,11 @@
 -- What the facts give: the cluster stands for the registers of databases and of addresses.
-use Rattle.std.proofs.Common.{◌≡◌, ◌≢◌, ℕ, zero, suc, ◌+◌, ◌<◌, ◌≤◌, Bool, true, false, cond, List, [], ◌∷◌, ◌++◌, length, Option, None, Some, refl, sym, ap, ◌∙◌, subst, arith}
-use Rattle.std.specs.Prelude.{nat_lt, is_some}
+use Rattle.std.proofs.Common.{◌≡◌, ◌≢◌, ℕ, zero, suc, true, false, List, [], ◌∷◌, Option, None, Some, refl, sym, ap, ◌∙◌}
+use Rattle.std.specs.Prelude.{is_some}
 use Rattle.std.specs.List.{filter}
-use Rattle.std.proofs.lemmas.Bool.{cond_both, eqb-true}
+use Rattle.std.proofs.lemmas.Bool.{cond_both}
 use Rattle.ct_bytes.proofs.AddressOrder.{address_is}
 use Rattle.ct_bytes.specs.Address.{same_address}
 use Rattle.ct_bytes.specs.declared.address.Address.{Address}
-use Rattle.ct_bytes.specs.declared.address.Address.TheVariants.{V4, V6}
 use Rattle.ct_msg.specs.declared.config.Config.{Config}
 use Rattle.ct_msg.specs.declared.config.DbKind.{DbKind}
 use Rattle.ct_msg.specs.declared.config.DbKind.TheVariants.{Persistent}
@@ -18,8 +17,8 @@ use Rattle.ct_cluster.specs.Cluster.{Cluster, node_at}
 use Rattle.ct_register.specs.Stands.{IsAfter, HoldsAddress}
 use Rattle.ct_register.specs.Placing.{given_placement}
 use Rattle.ct_register.specs.Lines.{Lines}
-use Rattle.ct_law_stores.proofs.Facts.{Has, Gone, Callers, StoresHold, after}
-use Rattle.ct_law_stores.proofs.Places.{Turns, PlacesHold, plan, or_nothing_pushed, made_by}
+use Rattle.ct_law_stores.proofs.Facts.{Has, Gone, StoresHold, after}
+use Rattle.ct_law_stores.proofs.Places.{Turns, PlacesHold, plan, or_nothing_pushed}
 
 -- ---- databases
 
@@ -27,11 +26,11 @@ is_of : (k : Option DbKind) → k ≡ Some Persistent → is_persistent k ≡ tr
 unfolding is_persistent
 is_of k e = ap is_persistent e
 
-pub stores_stand : (config : Config) (who : Callers) (w : Cluster) (r : Lines) (has : Has) (gone : Gone) → StoresHold config who w r has gone → (n db : ℕ) → r.pline n ≢ 0 → is_among n (r.members (r.pline n)) ≡ true → kind_at config db ≡ Some Persistent →
+pub stores_stand : (config : Config) (w : Cluster) (r : Lines) (has : Has) (gone : Gone) → StoresHold config w r has gone → (n db : ℕ) → r.pline n ≢ 0 → is_among n (r.members (r.pline n)) ≡ true → kind_at config db ≡ Some Persistent →
     (j : ℕ) × IsAfter j n (r.databases (r.pline n) db) (db_at db (node_at n w)).store
-stores_stand config who w r has gone h n db line member kind =
-    let e : (db_at db (node_at n w)).store ≡ after (has (r.pline n) n db) (r.databases (r.pline n) db) = h.stores n db (is_of (kind_at config db) kind) line in
-    let c = h.counted (r.pline n) db in (
+stores_stand config w r has gone h n db line member kind =
+    let e : (db_at db (node_at n w)).store ≡ after (has (r.pline n) n db) (r.databases (r.pline n) db) = h.holds.stores n db (is_of (kind_at config db) kind) line in
+    let c = h.holds.counted (r.pline n) db in (
       has (r.pline n) n db,
       record {
         number = ap (λ (p : Persisted). p.seq) e;

@@ -1,20 +1,18 @@
 -- How an update changes what a node has, and what stays of messages when databases grow.
-use Rattle.std.proofs.Common.{◌≡◌, ◌≢◌, ℕ, zero, suc, ◌+◌, ◌<◌, ◌≤◌, Bool, true, false, cond, List, [], ◌∷◌, ◌++◌, length, Option, None, Some, refl, sym, ap, ◌∙◌, arith, subst}
+use Rattle.std.proofs.Common.{◌≡◌, ℕ, zero, suc, ◌+◌, ◌<◌, ◌≤◌, Bool, true, false, List, [], ◌∷◌, ◌++◌, length, Option, None, Some, refl, sym, ap, ◌∙◌, arith, subst}
 use Rattle.std.specs.Prelude.{take, slice_get, nat_lt, nat_eq, ◌&&◌}
-use Rattle.std.proofs.lemmas.Bool.{cond_both, eqb-true, eq-eqb, ltb-true, ltb-false, lt-ltb, and_parts}
+use Rattle.std.proofs.lemmas.Bool.{cond_both, eqb-true, eq-eqb, lt-ltb, and_parts}
 use Rattle.ct_msg.specs.declared.client.Pair.{Pair}
 use Rattle.ct_msg.specs.declared.config.Config.{Config}
 use Rattle.ct_frame.specs.declared.frame.Msg.{Msg}
 use Rattle.ct_frame.specs.declared.frame.Msg.TheVariants as msg
-use Rattle.ct_frame.specs.declared.frame.PTable.{PTable}
 use Rattle.ct_store.specs.Map.{Pairs}
-use Rattle.ct_merge.specs.Rule.{ptable_at}
 use Rattle.ct_persist.specs.Persisted.{Persisted, written, updated, fits, listed}
 use Rattle.ct_persist.specs.Updates.{contents}
-use Rattle.ct_rules_node.specs.Node.{is_persistent, kind_at}
 use Rattle.ct_register.specs.Database.{Database, contents_after}
-use Rattle.ct_register.specs.Lines.{Lines}
-use Rattle.ct_law_stores.proofs.Facts.{Has, after, Stands}
+use Rattle.ct_rules_node.specs.Node.{Lead, Installs}
+use Rattle.ct_rules_node.specs.Rounds.{push_of}
+use Rattle.ct_law_stores.proofs.Facts.{Has, Bases, after, Stands, LeadStands}
 
 -- ---- one commit more
 
@@ -44,13 +42,18 @@ update_next i d ws e fit =
 
 -- ---- what stays of messages
 
--- born lines keep their numbers and bases, commits only get more, and so does what nodes have
-pub record Grow (r s : Lines) (has more : Has) : Type 0 where
+-- a database later: its number and its base stay, commits only follow those that were there, and no fewer are acknowledged
+pub record Grown (d e : Database) : Type 0 where
+  pub seq : e.seq ≡ d.seq
+  pub base : e.base ≡ d.base
+  pub acked : d.acked ≤ e.acked
+  pub commits : (i : ℕ) (ws : List Pair) → slice_get d.commits i ≡ Some ws → slice_get e.commits i ≡ Some ws
+  pub first : (j : ℕ) → j ≤ length d.commits → take j e.commits ≡ take j d.commits
+
+-- lines stay born and their databases grow, and so does what nodes have
+pub record Grow (r s : Bases) (has more : Has) : Type 0 where
   pub born : (g : ℕ) → r.born g ≡ true → s.born g ≡ true
-  pub seq : (g db : ℕ) → r.born g ≡ true → (s.databases g db).seq ≡ (r.databases g db).seq
-  pub base : (g db : ℕ) → r.born g ≡ true → (s.databases g db).base ≡ (r.databases g db).base
-  pub commits : (g db i : ℕ) (ws : List Pair) → r.born g ≡ true → slice_get (r.databases g db).commits i ≡ Some ws → slice_get (s.databases g db).commits i ≡ Some ws
-  pub first : (g db j : ℕ) → r.born g ≡ true → j ≤ length (r.databases g db).commits → take j (s.databases g db).commits ≡ take j (r.databases g db).commits
+  pub databases : (g db : ℕ) → r.born g ≡ true → Grown (r.databases g db) (s.databases g db)
   pub rises : (g n db : ℕ) → has g n db ≤ more g n db
 
 -- of the databases that this message was pulled from, its sender has as many commits as before
@@ -58,26 +61,40 @@ unfoldable pub IsStill : Has → Has → ℕ → Msg → Type 0
 IsStill has more n (msg.PullReply vbase pbase table ptables addresses) = (db : ℕ) → more pbase n db ≡ has pbase n db
 IsStill has more n _ = Unit {0}
 
-after_same : (j : ℕ) (d e : Database) → e.seq ≡ d.seq → e.base ≡ d.base → take j e.commits ≡ take j d.commits → after j e ≡ after j d
+pub after_same : (j : ℕ) (d e : Database) → e.seq ≡ d.seq → e.base ≡ d.base → take j e.commits ≡ take j d.commits → after j e ≡ after j d
 after_same j d e s b t = (λ i. record { seq = s i + j; pairs = contents (t i) (b i) })
 
 -- what a message stands for it stands for later, too
-pub stands_later : (config : Config) (r s : Lines) (has more : Has) (g n : ℕ) (m : Msg) → Grow r s has more → ((g db k : ℕ) → has g k db ≤ length (r.databases g db).commits) → IsStill has more n m →
+pub stands_later : (config : Config) (r s : Bases) (has more : Has) (g n : ℕ) (m : Msg) → Grow r s has more → ((g db k : ℕ) → has g k db ≤ length (r.databases g db).commits) → IsStill has more n m →
     Stands config r has g n m → Stands config s more g n m
 unfolding Stands IsStill
 stands_later config r s has more g n (msg.PUpdate db seq writes) grow within still h =
-    (grow.born g h.0, h.1, h.2 ∙ sym (ap (λ (x : ℕ). x + suc h.1) (grow.seq g db h.0)), grow.commits g db h.1 writes h.0 h.3)
+    (grow.born g h.0, h.1, h.2 ∙ sym (ap (λ (x : ℕ). x + suc h.1) ((grow.databases g db h.0).seq)), (grow.databases g db h.0).commits h.1 writes h.3)
 stands_later config r s has more g n (msg.PAck db seq) grow within still h =
-    (grow.born g h.0, (let same = grow.seq g db h.0 in let le = h.1 in let up = grow.rises g n db in omega arith))
+    (grow.born g h.0, (let same = (grow.databases g db h.0).seq in let le = h.1 in let up = grow.rises g n db in omega arith))
 stands_later config r s has more g n (msg.PullReply vbase pbase table ptables addresses) grow within still h = (
   grow.born pbase h.0,
   λ db p. h.1 db p ∙ sym (ap (λ (q : Persisted). Some (record { db = db; seq = q.seq; pairs = listed q.pairs }))
       (ap (λ (j : ℕ). after j (s.databases pbase db)) (still db) ∙
-      after_same (has pbase n db) (r.databases pbase db) (s.databases pbase db) (grow.seq pbase db h.0) (grow.base pbase db h.0) (grow.first pbase db (has pbase n db) h.0 (within pbase db n)))),
+      after_same (has pbase n db) (r.databases pbase db) (s.databases pbase db) ((grow.databases pbase db h.0).seq) ((grow.databases pbase db h.0).base) ((grow.databases pbase db h.0).first (has pbase n db) (within pbase db n)))),
 )
 stands_later config r s has more g n (msg.Push members table ptables assigned) grow within still h =
-    (grow.born g h.0, λ db p is. h.1 db p is ∙ (λ i. record { seq = sym (grow.seq g db h.0) i; pairs = sym (grow.base g db h.0) i }))
+    (grow.born g h.0, λ db p is. h.1 db p is ∙ (λ i. record { seq = sym ((grow.databases g db h.0).seq) i; pairs = sym ((grow.databases g db h.0).base) i }))
 stands_later config r s has more g n _ grow within still h = h
+
+-- and so does what a node leads
+pub lead_later : (config : Config) (r s : Bases) (has more : Has) (n : ℕ) (l : Lead) → Grow r s has more → ((g db k : ℕ) → has g k db ≤ length (r.databases g db).commits) →
+    LeadStands config r has n l → LeadStands config s more n l
+unfolding LeadStands push_of IsStill
+lead_later config r s has more n (Installs g members missing body) grow within h = stands_later config r s has more g n (push_of body) grow within tt h
+lead_later config r s has more n _ grow within h = h
+
+-- what does not change has grown
+pub grown_same : (d : Database) → Grown d d
+grown_same d = record { seq = refl; base = refl; acked = omega arith; commits = λ i ws e. e; first = λ j l. refl }
+
+pub grow_same : (b : Bases) (has : Has) → Grow b b has has
+grow_same b has = record { born = λ g e. e; databases = λ g db e. grown_same (b.databases g db); rises = λ g n db. omega arith }
 
 -- ---- an update comes
 

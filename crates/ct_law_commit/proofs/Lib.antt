@@ -1,0 +1,4 @@
+pub mod Commit
+pub mod Update
+pub mod Ack
+pub mod Freeze

@@ -1,0 +1,9 @@
+pub mod Changes
+pub mod Quiet
+pub mod Law
+pub mod Kept
+pub mod Lists
+pub mod Settling
+pub mod One
+pub mod Databases
+pub mod Outs

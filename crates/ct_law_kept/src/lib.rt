@@ -1,0 +1,2 @@
+//! What a step keeps of persistent databases: the facts that hold in every run, where it changes none of them, or one.
+#![tactic(auto)]
