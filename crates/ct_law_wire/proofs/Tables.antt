@@ -55,7 +55,7 @@ db_follows (Some last) db k up =
     (or_cases (ltb last.db db) ((last.db == db) && key_before last.key k) up)
 
 -- the fields of a row up to its value, and what is left of it
-row_parts : (v : Version) (r : TableRow) (bytes : List ℕ) → row v r ++ bytes ≡ u32 r.db ++ (key r.key ++ (u64 r.rsn ++ (value r.value ++ (cond (names_masters v) (node_or_none r.master) [] ++ bytes))))
+pub row_parts : (v : Version) (r : TableRow) (bytes : List ℕ) → row v r ++ bytes ≡ u32 r.db ++ (key r.key ++ (u64 r.rsn ++ (value r.value ++ (cond (names_masters v) (node_or_none r.master) [] ++ bytes))))
 row_parts v r bytes = regrouped_6 (u32 r.db) (key r.key) (u64 r.rsn) (value r.value) (cond (names_masters v) (node_or_none r.master) []) bytes
 
 -- behind the value

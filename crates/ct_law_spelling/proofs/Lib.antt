@@ -1,0 +1,5 @@
+pub mod Back
+pub mod Bodies
+pub mod Items
+pub mod Tables
+pub mod Whole
