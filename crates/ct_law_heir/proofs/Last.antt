@@ -30,13 +30,13 @@ use Rattle.ct_law_lead.proofs.Gathering.{MoreMissing, gathers, pull_of, pullrepl
 use Rattle.ct_law_heir.proofs.Newly.{pushes_turned}
 
 -- nobody is missing after the reply of node k
-record Is_last (k g : ℕ) (l : Lead) : Type 0 where
-  members : List ℕ
-  missing : List ℕ
-  before : Gathered
-  is : l ≡ Pulls g members missing before
-  among : is_among k missing ≡ true
-  none : others k missing ≡ []
+pub record Is_last (k g : ℕ) (l : Lead) : Type 0 where
+  pub members : List ℕ
+  pub missing : List ℕ
+  pub before : Gathered
+  pub is : l ≡ Pulls g members missing before
+  pub among : is_among k missing ≡ true
+  pub none : others k missing ≡ []
 
 last_or_more : (k g : ℕ) (l : Lead) → MoreMissing k g l ⊎ Is_last k g l
 unfolding MoreMissing
@@ -52,7 +52,7 @@ last_or_more k g (Installs q members missing b) = inl tt
 last_or_more k g (Completed q members x) = inl tt
 
 -- then the round is noted and pushed
-pushed_is : (n g : ℕ) (pull : Pull) (t : Turn) (l : Lead) (k : Is_last pull.node g l) → on_pullreply n g pull t l ≡ pushes n g k.members (body_of n k.members (finished (gathered pull k.before))) t
+pub pushed_is : (n g : ℕ) (pull : Pull) (t : Turn) (l : Lead) (k : Is_last pull.node g l) → on_pullreply n g pull t l ≡ pushes n g k.members (body_of n k.members (finished (gathered pull k.before))) t
 unfolding on_pullreply all_pulled
 pushed_is n g pull t l k = ap (on_pullreply n g pull t) k.is
     ∙ ap (λ (b : Bool). cond b (all_pulled n g k.members (gathered pull k.before) t (others pull.node k.missing)) t) (and_from (nat_eq g g) (is_among pull.node k.missing) (eq-eqb g g refl) k.among)

@@ -1,9 +1,8 @@
 -- In a cluster that lives, what is made of the last reply is a birth that the registers allow.
 use Rattle.std.proofs.Common.{◌≡◌, ◌≢◌, ℕ, Bool, true, false, cond, List, [], map, Option, Some, None, ⊎_elim, refl, sym, ap, ◌∙◌, subst}
-use Rattle.std.specs.Prelude.{nat_eq, nat_lt}
-use Rattle.ct_bytes.specs.Words.{others}
+use Rattle.std.specs.Prelude.{nat_lt}
 use Rattle.std.specs.Option.{option_map}
-use Rattle.std.proofs.lemmas.Bool.{and_from, cases_eq, ne_eqb, eq-eqb, cases_Bool}
+use Rattle.std.proofs.lemmas.Bool.{cases_eq, ne_eqb, cases_Bool}
 use Rattle.ct_msg.specs.declared.config.Config.{Config}
 use Rattle.ct_frame.specs.declared.event.Event.TheVariants as event
 use Rattle.ct_frame.specs.declared.frame.Frame.{Frame}
@@ -18,8 +17,8 @@ use Rattle.ct_merge.specs.Placing.{best}
 use Rattle.ct_merge.specs.Rule.{rows_at, row_at}
 use Rattle.ct_merge.specs.declared.held.HeldRow.{HeldRow}
 use Rattle.ct_merge.proofs.Among.{in_of}
-use Rattle.ct_rules_node.specs.Node.{Node, Lead, Nothing, Pulls, is_among}
-use Rattle.ct_rules_node.specs.Rounds.{body_of, mastered, pushes, on_pullreply, all_pulled}
+use Rattle.ct_rules_node.specs.Node.{Node, Lead, Nothing, Pulls}
+use Rattle.ct_rules_node.specs.Rounds.{body_of, mastered, pushes, on_pullreply}
 use Rattle.ct_rules_node.specs.Steps.{happens, arrives, if_sound}
 use Rattle.ct_rules_node.specs.Turn.{begins}
 use Rattle.ct_cluster.specs.Cluster.{Cluster, absent, node_at}
@@ -33,13 +32,13 @@ use Rattle.ct_promise.specs.Marked.{AllMarks}
 use Rattle.ct_law_record.proofs.MarkedRun
 use Rattle.ct_law_line.proofs.Lives.{Lives, LeadSays, IsTicket, IsGatheredOf}
 use Rattle.ct_law_line.proofs.Best.{best_is_copy}
-use Rattle.ct_law_line.proofs.Begotten.{parent, parent_is, in_order, told_is, born_parent, no_row, copies, mastered_row, all_heirs}
+use Rattle.ct_law_line.proofs.Begotten.{parent, parent_is, in_order, told_is, born_parent, no_row, copies, row_is, all_heirs}
 use Rattle.ct_law_line.proofs.Heirs.{taken_reading}
 use Rattle.ct_law_line.proofs.Rounds.{counts, round_accepted}
 use Rattle.ct_law_line.proofs.Lined.{beyond}
-use Rattle.ct_law_line.proofs.Merged.{rows_merged}
 use Rattle.ct_law_line.proofs.Faces.{marks_in_all}
 use Rattle.ct_law_freeze.proofs.Freezing.{HasCome}
+use Rattle.ct_law_heir.proofs.Last.{pushed_is}
 use Rattle.ct_law_lead.proofs.Gathering.{gathers, pull_of, reply_came}
 use Rattle.ct_law_merges.specs.Merges.{IsLastReply, body_at, StandsForBirth, MergesSo, KeepsWhatWasSeen, value_of}
 
@@ -73,18 +72,13 @@ module _ (c : Config) (rules : Rules) (w : Cluster) (r : Lines) (h : Lives c rul
   pub stands_so : (db : ℕ) (key : List ℕ) → StandsForBirth (birth_list r body.vparent so_many db key) (row_at db key body.table)
   stands_so db key = subst (λ (l : List (List ℕ)). StandsForBirth l (row_at db key body.table)) (same_births db key) (stands_here db key)
 
-  row_is : (db : ℕ) (key : List ℕ) → row_at db key body.table ≡ option_map (mastered n) (option_map (λ (z : HeldRow). z.row) (best row_rank (rows_at db key k.pulls)))
-  unfolding body_of
-  row_is db key = mastered_row n db key (finished x).table.table
-      ∙ ap (option_map (mastered n)) (ap (λ (y : Gathered). row_at db key (finished y).table.table) k.same ∙ (rows_merged k.pulls (in_order c rules w r h n g members x db key ticket k)).2 db key)
-
   -- a row is that of a copy in the parent, which has a mark there
   marked_there : (db : ℕ) (key : List ℕ) (y : TableRow) → row_at db key body.table ≡ Some y → IsCopyAt (marks_in_all h.ages (parent c rules w r h n g members x db key ticket k) db key).marks (r.records (parent c rules w r h n g members x db key ticket k) db key).versions y.rsn y.value
   unfolding mastered
   marked_there db key y e = go (best row_rank (rows_at db key k.pulls)) refl
     where
       is : Some y ≡ option_map (mastered n) (option_map (λ (z : HeldRow). z.row) (best row_rank (rows_at db key k.pulls)))
-      is = sym e ∙ row_is db key
+      is = sym e ∙ row_is c rules w r h n g members x db key ticket k
 
       go : (o : Option HeldRow) → best row_rank (rows_at db key k.pulls) ≡ o → IsCopyAt (marks_in_all h.ages (parent c rules w r h n g members x db key ticket k) db key).marks (r.records (parent c rules w r h n g members x db key ticket k) db key).versions y.rsn y.value
       go None none = absurd (let f : Some y ≡ None = is ∙ ap (λ (o : Option HeldRow). option_map (mastered n) (option_map (λ (z : HeldRow). z.row) o)) none in cc)
@@ -133,17 +127,11 @@ module _ (c : Config) (rules : Rules) (w : Cluster) (r : Lines) (h : Lives c rul
   all_came = subst (λ (ms : List ℕ). IsGatheredOf w n f.generation members ms (gathered pull k.before)) k.alone
       (gathers w n f.generation members k.missing k.before pull (reply_came w n f k.vbase k.pbase k.table k.ptables k.addresses k.reply come) k.waits says.2)
 
-  pushed_is : on_pullreply n f.generation pull (begins (node_at n w)) (node_at n w).lead ≡ pushes n f.generation members (body_at c w n members f k) (begins (node_at n w))
-  unfolding on_pullreply all_pulled
-  pushed_is = ap (on_pullreply n f.generation pull (begins (node_at n w))) k.leads
-      ∙ ap (λ (b : Bool). cond b (all_pulled n f.generation members (gathered pull k.before) (begins (node_at n w)) (others pull.node k.missing)) (begins (node_at n w))) (and_from (nat_eq f.generation f.generation) (is_among pull.node k.missing) (eq-eqb f.generation f.generation refl) k.waits)
-      ∙ ap (all_pulled n f.generation members (gathered pull k.before) (begins (node_at n w))) k.alone
-
   turn_is : happens c rules n (begins (node_at n w)) (event.Arrive f) ≡ pushes n f.generation members (body_at c w n members f k) (begins (node_at n w))
   unfolding happens arrives if_sound
   turn_is = ap (λ (m : Msg). arrives c rules n f (begins (node_at n w)) m) k.reply
       ∙ ap (λ (b : Bool). cond b (on_pullreply n f.generation pull (begins (node_at n w)) (node_at n w).lead) (begins (node_at n w))) k.sound
-      ∙ pushed_is
+      ∙ pushed_is n f.generation pull (begins (node_at n w)) (node_at n w).lead (record { members = members; missing = k.missing; before = k.before; is = k.leads; among = k.waits; none = k.alone })
 
   pub merges_so : MergesSo c rules w r (marks_in_all h.ages) n members f (body_at c w n members f k)
   merges_so = record {
