@@ -1,0 +1,89 @@
+-- A step at one record keeps all records of a node in form.
+use Rattle.std.proofs.Common.{◌≡◌, ◌≢◌, ℕ, ◌<◌, ◌^◌, Bool, true, false, cond, ◌||◌, List, [], Some, None, refl, sym, ◌∙◌, ap, subst}
+use Rattle.std.proofs.lemmas.Bool.{cond_both, eqb-true, eqb-false}
+use Rattle.std.specs.Prelude.{nat_eq}
+use Rattle.std.specs.BTreeMap.{is_at}
+use Rattle.ct_bytes.specs.Key.{key_cmp}
+use Rattle.ct_frame.specs.Fields.{is_db}
+use Rattle.ct_call.specs.Rules.{Rules}
+use Rattle.std.specs.Cmp.{eq_by_cmp_equiv}
+use Rattle.std.specs.Cmp.Lexicographic.{nat_list_cmp_total}
+use Rattle.std.specs.Ordering.{is_eq}
+use Rattle.ct_store.proofs.Maps.{one_key, equal}
+use Rattle.ct_law_rules.specs.Form.{HasCounters, MayCome}
+use Rattle.ct_rules.specs.Moves.{move, unless_spent}
+use Rattle.ct_rules.specs.Parts.{Moving}
+use Rattle.ct_law_rules.specs.Sent.{is_from_node}
+use Rattle.ct_rules.specs.declared.event.MoveEvent.{MoveEvent}
+use Rattle.ct_rules.specs.declared.event.Place.{Place}
+use Rattle.ct_rules.specs.declared.state.RecState.{RecState}
+use Rattle.ct_law_rules.proofs.Events.{form_kept, form_under}
+use Rattle.ct_law_rules.proofs.Tracking.{holder_tracks}
+use Rattle.ct_law_rules.proofs.SentEvents.{what_is_sent}
+use Rattle.ct_rules_node.specs.Node.{Node, Database, db_at, or_nothing, with_db, state_at}
+use Rattle.ct_store.specs.Map.{look}
+use Rattle.ct_law_rules.specs.Laws.{TracksAsHolder}
+use Rattle.ct_rules_node.specs.Records.{acted, at_record, place_of, put_back, view}
+use Rattle.ct_rules_node.proofs.AtRecord.{at_set, formed_is_kept, moves_at}
+use Rattle.ct_node_form.specs.Form.{IsFormed, MovesKeepForm}
+
+-- under another floor and a next request number that is not smaller
+pub formed_under : (at : Place) (next floor next' : ℕ) (s : RecState) → HasCounters next' floor → IsFormed at next s → IsFormed (record at { floor = floor }) next' s
+formed_under at next floor next' s counters h = record {
+  form = form_under at next floor next' s counters h.form;
+  tracks = record { tracked_held = h.tracks.tracked_held; vacuum_untracked = h.tracks.vacuum_untracked };
+  waits = h.waits;
+}
+
+-- the same state under the same floor
+formed_same : (at : Place) (next f g : ℕ) (s u : RecState) → f ≡ g → s ≡ u → IsFormed (record at { floor = g }) next u → IsFormed (record at { floor = f }) next s
+formed_same at next f g s u e i h = subst (λ (x : ℕ). IsFormed (record at { floor = x }) next s) (sym e) (subst (λ (x : RecState). IsFormed (record at { floor = g }) next x) (sym i) h)
+
+whole : (o : Moving) → o.spent ≡ false → unless_spent o ≡ Some o
+whole o e = ap (λ (b : Bool). cond b None (Some o)) e
+
+-- what a step leaves of its record
+left_formed : (at : Place) (rules : Rules) (e : MoveEvent) (s : RecState) (next : ℕ) (o : Moving) → is_db at.db ≡ true → IsFormed at next s → MayCome s e → is_from_node e ≡ true →
+    move at rules e (record { state = s; next = next; floor = at.floor; acts = []; spent = false }) ≡ o → o.spent ≡ false → IsFormed (record at { floor = o.floor }) o.next o.state
+left_formed at rules e s next o db h may from is unspent =
+    let a = form_kept at rules e s next o h.form may (ap unless_spent is ∙ whole o unspent) in
+    let b = what_is_sent at rules e s next o db h.form h.waits may from (ap unless_spent is ∙ whole o unspent) in
+    let c = subst (λ (x : Moving). TracksAsHolder at x.state.copy x.state.tracking x.state.vacuum) is (holder_tracks at rules e (record { state = s; next = next; floor = at.floor; acts = []; spent = false }) h.tracks) in
+    record { form = a.form; tracks = record { tracked_held = c.tracked_held; vacuum_untracked = c.vacuum_untracked }; waits = b.1 }
+
+itself : (k : List ℕ) → is_eq (key_cmp k k) ≡ true
+itself k = (eq_by_cmp_equiv nat_list_cmp_total).refl k
+
+-- or another key, or the same
+by_key : (P : List ℕ → Type 0) (k q : List ℕ) → P k → (q ≢ k → P q) → P q
+by_key P k q here there = cond_both (is_at (key_cmp q) k) true false (λ (_ : Bool). P q)
+    (λ t. subst P (sym (one_key q k (equal _ t))) here) (λ f. there (λ e. absurd (let h = ap (λ (x : List ℕ). is_at (key_cmp x) k) e ∙ itself k in cc)))
+
+by_db : (P : ℕ → Type 0) (d e : ℕ) → P d → (e ≢ d → P e) → P e
+by_db P d e here there = cond_both (nat_eq e d) true false (λ (_ : Bool). P e) (λ t. subst P (sym (eqb-true e d t)) here) (λ f. there (eqb-false e d f))
+
+no_left : (a b : Bool) → a || b ≡ false → b ≡ false
+no_left true b e = absurd (cc)
+no_left false b e = e
+
+same_state : (d : ℕ) (q : List ℕ) (n u : Node) → db_at d u ≡ db_at d n → state_at d q u ≡ state_at d q n
+unfolding state_at
+same_state d q n u e = ap (λ (x : Database). or_nothing (look q x.records)) e
+
+pub moves_keep_form : MovesKeepForm
+unfolding at_record acted put_back view place_of db_at with_db
+moves_keep_form c rules me db key e t asc l isdb h may from unspent =
+    let n = t.node in
+    let at = place_of c me db key n in
+    let o = move at rules e (view db key n) in
+    let u = put_back db key o n in
+    let k = moves_at c me db key (λ at o. move at rules e o) t asc in
+    let f : IsFormed (record at { floor = o.floor }) o.next o.state = left_formed at rules e (state_at db key n) n.next o isdb (h db key) may from refl (no_left t.spent o.spent unspent) in
+    let floor : (db_at db u).floor ≡ o.floor = ap (λ (d : Database). d.floor) (at_set n.dbs db _ l) in
+    let counted : (x : ℕ) → x < 2 ^ 62 → HasCounters o.next x = λ x b. record { from_one = f.form.counters.from_one; next_limit = f.form.counters.next_limit; floor_limit = b } in
+    λ d q. by_db (λ (d : ℕ). IsFormed (place_of c me d q u) o.next (state_at d q u)) db d
+    (by_key (λ (q : List ℕ). IsFormed (place_of c me db q u) o.next (state_at db q u)) key q
+    (formed_same at o.next _ _ _ _ floor (k.seen l ∙ formed_is_kept (record at { floor = o.floor }) o.next o.state f.form f.tracks) f)
+    (λ m. formed_same (place_of c me db q n) o.next _ _ _ _ floor (k.other_keys q m) (formed_under (place_of c me db q n) n.next o.floor o.next (state_at db q n) (counted o.floor f.form.counters.floor_limit) (h db q))))
+    (λ m. formed_same (place_of c me d q n) o.next _ _ _ _ (ap (λ (x : Database). x.floor) (k.other_dbs d m)) (same_state d q n u (k.other_dbs d m))
+    (formed_under (place_of c me d q n) n.next (db_at d n).floor o.next (state_at d q n) (counted _ (h d q).form.counters.floor_limit) (h d q)))

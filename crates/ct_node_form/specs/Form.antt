@@ -1,0 +1,32 @@
+-- What a node keeps of every record is in form, and stays so.
+use Rattle.std.specs.Prelude.{◌≡◌, ℕ, ◌<◌, true, false, List, length}
+use Rattle.ct_msg.specs.declared.config.Config.{Config}
+use Rattle.ct_frame.specs.Fields.{is_db}
+use Rattle.ct_call.specs.Rules.{Rules}
+use Rattle.ct_law_rules.specs.Form.{IsInForm, MayCome}
+use Rattle.ct_law_rules.specs.Laws.{TracksAsHolder}
+use Rattle.ct_rules.specs.Moves.{move}
+use Rattle.ct_law_rules.specs.Sent.{is_from_node, waits_for_nodes}
+use Rattle.ct_rules.specs.declared.event.MoveEvent.{MoveEvent}
+use Rattle.ct_rules.specs.declared.event.Place.{Place}
+use Rattle.ct_rules.specs.declared.state.RecState.{RecState}
+use Rattle.ct_rules_node.specs.Laws.{NodeAscends}
+use Rattle.ct_rules_node.specs.Node.{Node, state_at}
+use Rattle.ct_rules_node.specs.Records.{at_record, place_of}
+use Rattle.ct_rules_node.specs.Turn.{Turn}
+
+-- a state is in form at its place, nodes are tracked only where the node is holder, and all that waits is of nodes
+pub record IsFormed (at : Place) (next : ℕ) (s : RecState) : Type 0 where
+  pub form : IsInForm at next s
+  pub tracks : TracksAsHolder at s.copy s.tracking s.vacuum
+  pub waits : waits_for_nodes s ≡ true
+
+-- so is what the node keeps of each record
+abbrev pub AreFormed : Config → ℕ → Node → Type 0
+AreFormed c me n = (db : ℕ) (key : List ℕ) → IsFormed (place_of c me db key n) n.next (state_at db key n)
+
+-- a step at one record, where no number reaches 2^62, leaves all records of the node so
+abbrev pub MovesKeepForm : Type 0
+MovesKeepForm = (c : Config) (rules : Rules) (me db : ℕ) (key : List ℕ) (e : MoveEvent) (t : Turn) →
+    NodeAscends t.node → db < length t.node.dbs → is_db db ≡ true → AreFormed c me t.node → MayCome (state_at db key t.node) e → is_from_node e ≡ true →
+    (at_record c me db key (λ at o. move at rules e o) t).spent ≡ false → AreFormed c me (at_record c me db key (λ at o. move at rules e o) t).node

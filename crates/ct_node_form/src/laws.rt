@@ -1,0 +1,7 @@
+//! What a node keeps of its records stays in form.
+ghost use Rattle.ct_node_form.specs.Form.{MovesKeepForm};
+
+/// A step at one record, where no number reaches 2^62, leaves what the node keeps of every record in form.
+pub fn moves_keep_form()
+    ensures { MovesKeepForm }
+{}
