@@ -1,0 +1,5 @@
+pub mod Alike
+pub mod Read
+pub mod Stop
+pub mod Install
+pub mod Ticket
