@@ -203,11 +203,6 @@ unfolding with_fate is_up
 fate_up n zero m f w e = e
 fate_up n (suc k) m f w e = e
 
-fate_given : (k : ℕ) (m : Sent) (f : Fate) (w : Cluster) → (with_fate k m f w).calls ≡ w.calls
-unfolding with_fate
-fate_given zero m f w = refl
-fate_given (suc k) m f w = refl
-
 arrive_calls : (c : Config) (rules : Rules) (n : ℕ) (e : Event) (v : Cluster) (x : Stepped) (who : Opened) → Calls c v who → is_up n v ≡ true → open_at n e who ≡ who → IsNew c e who (begins (node_at n v)) → fed c rules n e [] v ≡ Ok x → Calls_after c who x
 unfolding IsGiven
 arrive_calls c rules n e v x who h up same new ok = subst (λ (f : Opened). Calls_after c f x) same (fed_calls c rules n e [] v x who h up new (subst (λ (f : Opened). IsGiven v.calls f) (sym same) h.given) (λ xs f. refl) (λ xs f a. a) ok)
