@@ -1,9 +1,9 @@
-//! What comes of each message that speaks of one record, at its receiver.
-ghost use Rattle.std.specs.Prelude.{◌≡◌, ◌+◌, ◌<◌, ◌^◌, ◌∷◌, nat_lt, nat_le, None, Some, OnOk, is_none};
+//! What comes of the messages that a record is asked for, given, passed and refused by.
+ghost use Rattle.std.specs.Prelude.{◌≡◌, ◌+◌, ◌<◌, ◌^◌, ◌∷◌, nat_lt, None, Some, OnOk};
 ghost use Rattle.std.specs.List.{list_any};
 ghost use Rattle.ct_call.specs.Shown.{rules_of};
 ghost use Rattle.ct_rules.specs.State.{rsn_of, rank, is_given};
-ghost use Rattle.ct_rules.specs.Messages.{is_misplaced, pass_again, is_request, enqueue, called, on_call, same_recall, wait, handle, recalled, on_recall, hand_on, on_give, becomes, accept, refuse, on_pass, on_refuse, read_granted, on_grant, on_done, called_in, acknowledge, on_revoke, acknowledged, on_revokeack, stored_copy, deleted_copy, on_vstore, on_vdelete, finish, on_vstored, on_vdeleted};
+ghost use Rattle.ct_rules.specs.Messages.{is_misplaced, pass_again, is_request, enqueue, called, on_call, same_recall, wait, handle, recalled, on_recall, hand_on, on_give, becomes, accept, refuse, on_pass, on_refuse, on_done};
 
 use ct_bytes::copies::Duplicate;
 use ct_bytes::items::Items;
@@ -11,12 +11,11 @@ use ct_bytes::memory::NoMemory;
 use ct_bytes::value::Value;
 use ct_call::table::CallTable;
 use ct_draft::draft::Draft;
-use ct_draft::parts::{is_read_kind, kind_of, same_kind};
+use ct_draft::parts::{is_read_kind, same_kind};
 use ct_frame::frame::{CallKind, Msg};
-use ct_frame::header::{Header, NONE, READ_ONLY_COPY, RecCopy};
-use ct_msg::client::Answer;
-use ct_rules::event::{Act, Place};
-use ct_rules::state::{Entry, RecallNote, Waiter, Wish};
+use ct_frame::header::{Header, NONE, RecCopy};
+use ct_rules::event::Place;
+use ct_rules::state::{Entry, RecallNote, Waiter};
 
 /// Is a copy for reading asked for of a database that hands out none?
 #[tactic(auto, unfolding(ct_rules::specs::Messages::is_misplaced))]
@@ -398,60 +397,6 @@ pub(crate) fn on_refuse(
     }
 }
 
-// Grant, from the holder
-/// The wish is cleared and answered.
-#[tactic(auto, unfolding(ct_rules::specs::Messages::read_granted, ct_rules::specs::Parts::keeps))]
-fn read_granted(draft: &mut Draft, request: u64, value: &Value) -> Result<(), NoMemory>
-    ensures { OnOk result (draft.new ≡ read_granted request draft.old draft.old.state.wish value.now) }
-{
-    let Some(wish) = &draft.state.wish else {
-        return Ok(());
-    };
-    let call = wish.call;
-    draft.clear_wish();
-    draft.reply(call, Answer::Read(value.copy()?))
-}
-
-/// Has the node no copy above this RSN?
-#[tactic(auto, unfolding(ct_rules::specs::State::rank))]
-fn is_at_most(draft: &Draft, rsn: u64) -> bool
-    ensures { result ≡ nat_le (rank draft.now.state.copy) (rsn + 1) }
-{
-    match &draft.state.copy {
-        Some(copy) => copy.header.rsn <= rsn,
-        None => true,
-    }
-}
-
-/// A Grant comes: the copy is kept where it is wished for and not older than the one here.
-#[tactic(auto, unfolding(ct_rules::specs::Messages::on_grant, ct_rules::specs::Parts::keeps))]
-pub(crate) fn on_grant(
-    draft: &mut Draft,
-    at: &Place,
-    holder: u32,
-    request: u64,
-    rsn: u64,
-    value: &Value,
-) -> Result<(), NoMemory>
-    ensures { OnOk result (draft.new ≡ on_grant at.now holder request rsn value.now draft.old) }
-{
-    if !draft.is_wished(at, request, CallKind::Read)
-        || draft.is_holder(at)
-        || !is_at_most(draft, rsn)
-    {
-        return Ok(());
-    }
-    draft.set_copy(RecCopy {
-        header: Header {
-            rsn,
-            dmaster: holder,
-            flags: READ_ONLY_COPY,
-        },
-        value: value.copy()?,
-    });
-    read_granted(draft, request, value)
-}
-
 // Done, at the location master
 /// A Done comes: the head is taken off, and the holder is asked for the next one.
 #[tactic(auto, unfolding(ct_rules::specs::Messages::on_done, ct_rules::specs::Messages::on_done_of, ct_rules::specs::Messages::is_request, ct_rules::specs::Parts::keeps))]
@@ -469,202 +414,4 @@ pub(crate) fn on_done(
     }
     let _ = draft.state.queue.take_first();
     draft.next(at)
-}
-
-// Revoke, from the holder, and RevokeAck, at the holder
-/// A copy for reading of at most this RSN is one no more.
-#[tactic(auto, unfolding(ct_rules::specs::Messages::called_in))]
-fn called_in(draft: &mut Draft, rsn: u64)
-    ensures { draft.new ≡ record draft.old { state = record draft.old.state { copy = called_in rsn draft.old.state.copy } } }
-{
-    if let Some(copy) = &mut draft.state.copy {
-        if copy.header.flags == READ_ONLY_COPY && copy.header.rsn <= rsn {
-            copy.header.flags = 0;
-        }
-    }
-}
-
-/// The copy is called in, and the holder gets a RevokeAck.
-#[tactic(auto, unfolding(ct_rules::specs::Messages::acknowledge, ct_rules::specs::Parts::keeps))]
-fn acknowledge(draft: &mut Draft, at: &Place, holder: u32, rsn: u64) -> Result<(), NoMemory>
-    ensures { OnOk result (draft.new ≡ acknowledge at.now holder rsn draft.old) }
-{
-    called_in(draft, rsn);
-    let msg = Msg::RevokeAck {
-        db: at.db,
-        key: at.key.copy()?,
-        rsn,
-    };
-    draft.send(holder, msg)
-}
-
-/// A Revoke comes: a wish of kind `Read` is called for again under another number.
-#[tactic(auto, unfolding(ct_rules::specs::Messages::on_revoke, ct_rules::specs::Messages::on_revoke_of, ct_rules::specs::Messages::renew, ct_rules::specs::Parts::reaches))]
-pub(crate) fn on_revoke(
-    draft: &mut Draft,
-    at: &Place,
-    holder: u32,
-    rsn: u64,
-) -> Result<(), NoMemory>
-    requires { draft.old.next < 2 ^ 62 }
-    ensures { OnOk result (draft.new ≡ on_revoke at.now holder rsn draft.old) }
-{
-    match &draft.state.wish {
-        Some(wish) if is_read_kind(kind_of(at, &wish.op)) => {
-            let call = wish.call;
-            let op = wish.op.copy()?;
-            let request = draft.draw();
-            draft.set_wish(Wish { call, request, op });
-            acknowledge(draft, at, holder, rsn)?;
-            let msg = Msg::Call {
-                db: at.db,
-                key: at.key.copy()?,
-                request,
-                kind: CallKind::Read,
-            };
-            draft.send(at.lmaster, msg)
-        }
-        _ => acknowledge(draft, at, holder, rsn),
-    }
-}
-
-/// A RevokeAck comes: the last one ends the revocation.
-#[tactic(auto, unfolding(ct_rules::specs::Messages::on_revokeack, ct_rules::specs::Messages::acknowledged, ct_rules::specs::Parts::keeps))]
-pub(crate) fn on_revokeack(
-    draft: &mut Draft,
-    at: &Place,
-    table: &CallTable,
-    node: u32,
-    rsn: u64,
-) -> Result<(), NoMemory>
-    requires { rsn_of draft.old.state.copy < 2 ^ 62 }
-    ensures { OnOk result (draft.new ≡ on_revokeack at.now (rules_of table.now) node rsn draft.old) }
-{
-    if draft.state.tracking.ack(node, rsn) {
-        draft.end_revocation(at, table)
-    } else {
-        Ok(())
-    }
-}
-
-// the two phases of a vacuum
-/// An old copy that is neither locked nor mastered here becomes the deleted record.
-#[tactic(auto, unfolding(ct_rules::specs::Messages::stored_copy))]
-fn stored_copy(draft: &mut Draft, at: &Place, sender: u32, rsn: u64)
-    ensures { draft.new ≡ record draft.old { state = record draft.old.state { copy = stored_copy at.now.me sender rsn (is_none draft.old.state.locked) draft.old.state.copy } } }
-{
-    let Some(copy) = &draft.state.copy else {
-        return;
-    };
-    if copy.header.rsn < rsn && draft.state.locked.is_none() && copy.header.dmaster != at.me {
-        draft.set_copy(RecCopy {
-            header: Header {
-                rsn,
-                dmaster: sender,
-                flags: 0,
-            },
-            value: Value::empty(draft.alloc),
-        });
-    }
-}
-
-/// A copy of at most this RSN that is neither locked nor mastered here is removed.
-#[tactic(auto, unfolding(ct_rules::specs::Messages::deleted_copy))]
-fn deleted_copy(draft: &mut Draft, at: &Place, rsn: u64)
-    ensures { draft.new ≡ record draft.old { state = record draft.old.state { copy = deleted_copy at.now.me rsn (is_none draft.old.state.locked) draft.old.state.copy } } }
-{
-    let Some(copy) = &draft.state.copy else {
-        return;
-    };
-    if copy.header.rsn <= rsn && draft.state.locked.is_none() && copy.header.dmaster != at.me {
-        draft.clear_copy();
-    }
-}
-
-/// A VStore comes.
-#[tactic(auto, unfolding(ct_rules::specs::Messages::on_vstore, ct_rules::specs::Parts::keeps))]
-pub(crate) fn on_vstore(
-    draft: &mut Draft,
-    at: &Place,
-    sender: u32,
-    rsn: u64,
-) -> Result<(), NoMemory>
-    ensures { OnOk result (draft.new ≡ on_vstore at.now sender rsn draft.old) }
-{
-    stored_copy(draft, at, sender, rsn);
-    let msg = Msg::VStored {
-        db: at.db,
-        key: at.key.copy()?,
-        rsn,
-    };
-    draft.send(sender, msg)
-}
-
-/// A VDelete comes.
-#[tactic(auto, unfolding(ct_rules::specs::Messages::on_vdelete, ct_rules::specs::Parts::keeps))]
-pub(crate) fn on_vdelete(
-    draft: &mut Draft,
-    at: &Place,
-    sender: u32,
-    rsn: u64,
-) -> Result<(), NoMemory>
-    ensures { OnOk result (draft.new ≡ on_vdelete at.now sender rsn draft.old) }
-{
-    deleted_copy(draft, at, rsn);
-    let msg = Msg::VDeleted {
-        db: at.db,
-        key: at.key.copy()?,
-        rsn,
-    };
-    draft.send(sender, msg)
-}
-
-/// Nothing is left of the record, and the floor is above all that was.
-#[tactic(auto, unfolding(ct_rules::specs::Messages::finish, ct_rules::specs::Messages::greater, ct_rules::specs::Parts::end_vacuum, ct_rules::specs::Parts::reaches, ct_rules::specs::Parts::keeps))]
-pub(crate) fn finish(draft: &mut Draft, rsn: u64) -> Result<(), NoMemory>
-    requires { rsn < 2 ^ 62 }
-    ensures { OnOk result (draft.new ≡ finish rsn draft.old) }
-{
-    draft.clear_copy();
-    draft.clear_entry();
-    draft.end_vacuum();
-    draft.reaches(rsn + 2);
-    draft.floor = draft.floor.max(rsn + 2);
-    draft.performs(Act::Finished { floor: draft.floor })
-}
-
-/// A VStored comes: after the last one all others get a VDelete.
-#[tactic(auto, unfolding(ct_rules::specs::Messages::on_vstored, ct_rules::specs::Messages::on_vstored_of, ct_rules::specs::Parts::keeps))]
-pub(crate) fn on_vstored(draft: &mut Draft, at: &Place, node: u32, rsn: u64) -> Result<(), NoMemory>
-    ensures { OnOk result (draft.new ≡ on_vstored at.now node rsn draft.old) }
-{
-    let Some(vacuum) = &mut draft.state.vacuum else {
-        return Ok(());
-    };
-    if !vacuum.stored(node, rsn) {
-        return Ok(());
-    }
-    let others = Vec::from_slice(draft.alloc, vacuum.missing())?;
-    let msg = Msg::VDelete {
-        db: at.db,
-        key: at.key.copy()?,
-        rsn,
-    };
-    draft.send_all(others.as_slice(), &msg)
-}
-
-/// A VDeleted comes: after the last one nothing is left of the record.
-#[tactic(auto, unfolding(ct_rules::specs::Messages::on_vdeleted, ct_rules::specs::Messages::on_vdeleted_of, ct_rules::specs::Messages::finish, ct_rules::specs::Parts::keeps))]
-pub(crate) fn on_vdeleted(draft: &mut Draft, node: u32, rsn: u64) -> Result<(), NoMemory>
-    requires { rsn < 2 ^ 62 }
-    ensures { OnOk result (draft.new ≡ on_vdeleted node rsn draft.old) }
-{
-    let Some(vacuum) = &mut draft.state.vacuum else {
-        return Ok(());
-    };
-    if vacuum.deleted(node, rsn) {
-        finish(draft, rsn)
-    } else {
-        Ok(())
-    }
 }

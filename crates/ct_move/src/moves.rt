@@ -8,10 +8,9 @@ ghost use Rattle.ct_rules.specs.State.{rsn_of, value_of};
 ghost use Rattle.ct_law_rules.specs.Form.{MayCome};
 ghost use Rattle.ct_rules.specs.Moves.{store, release, unlock, is_vacuumed, phase_message, begin_vacuum, vacuum_at_home, vacuum, call_again, revoke_again, arrive, move};
 
-use crate::messages::{
-    finish, on_call, on_done, on_give, on_grant, on_pass, on_recall, on_refuse, on_revoke,
-    on_revokeack, on_vdelete, on_vdeleted, on_vstore, on_vstored,
-};
+use crate::messages::{on_call, on_done, on_give, on_pass, on_recall, on_refuse};
+use crate::phases::{finish, on_vdelete, on_vdeleted, on_vstore, on_vstored};
+use crate::readers::{on_grant, on_revoke, on_revokeack};
 use ct_bytes::memory::NoMemory;
 use ct_bytes::value::Value;
 use ct_call::table::CallTable;
