@@ -3,3 +3,5 @@ pub mod Read
 pub mod Stop
 pub mod Install
 pub mod Ticket
+pub mod Choose
+pub mod Round

@@ -17,7 +17,7 @@ use Rattle.ct_law_stores.proofs.Stores.{Grow, grow_same, lead_later}
 use Rattle.ct_law_kept.proofs.Kept.{Kept}
 
 module _ (config : Config) (x : Choice) (nodes : ℕ → Node) (r : Lines) (has : Has) (g n : ℕ) (members : List ℕ) (h : Holds config nodes (bases r) has) (unborn : r.born g ≡ false) where
-  abbrev told : Lines
+  abbrev pub told : Lines
   told = goes config x (Ticket g n members) r
 
   abbrev given : Bases

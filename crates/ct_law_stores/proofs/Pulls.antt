@@ -16,7 +16,7 @@ use Rattle.ct_rules_node.specs.Rounds.{ptables_of}
 abbrev pub table_of : ℕ → Persisted → PTable
 table_of db p = record { db = db; seq = p.seq; pairs = listed p.pairs }
 
-cmp_flips : (a b : ℕ) → is_eq (nat_cmp a b) ≡ nat_eq b a
+pub cmp_flips : (a b : ℕ) → is_eq (nat_cmp a b) ≡ nat_eq b a
 cmp_flips a b = grind arith
 
 below_none : (c : Config) (i : ℕ) (ds : List Database) (db : ℕ) → db < i → ptable_at db (ptables_of c i ds) ≡ None
