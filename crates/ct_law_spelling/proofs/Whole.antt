@@ -192,7 +192,8 @@ length_back : (b : Bool) (k : ℕ) (bytes : List ℕ) (f : Frame) (n : ℕ) (res
 length_back true k bytes f n rest fits e = (refl, (magic_back k).back 4 bytes f n rest fits e)
 length_back false k bytes f n rest fits e = absurd (cc)
 
-begins : (bytes : List ℕ) (f : Frame) (n : ℕ) (rest : List ℕ) → IsBytes bytes → eaten start [] bytes ≡ End.Ends f n rest → BeginsWith f n bytes
+-- what stands at the front of bytes that led to this end
+pub begins : (bytes : List ℕ) (f : Frame) (n : ℕ) (rest : List ℕ) → IsBytes bytes → eaten start [] bytes ≡ End.Ends f n rest → (v : Version) × (front : List ℕ) × Spelling f v front × (bytes ≡ front ++ rest) × (n ≡ length front)
 begins bytes f n rest fits e =
     let x = field_of start bytes f n rest (omega arith) fits e in
     let word = word_of x.field x.size x.field_fits in
@@ -202,7 +203,7 @@ begins bytes f n rest fits e =
     let s = spelling_from k t.1.taken f t.1.fills short t.1.holds in
     let parts : bytes ≡ (u32 k ++ t.1.taken) ++ rest = x.parts ∙ ap (λ (y : List ℕ). y ++ x.more) (sym word.0) ∙ ap (λ (y : List ℕ). u32 k ++ y) t.1.parts in
     let count : n ≡ length (u32 k ++ t.1.taken) = omega (arith, t.1.whole, t.1.fills) in
-    (t.1.holds.v, u32 k ++ t.1.taken, rest, s, parts, count)
+    (t.1.holds.v, u32 k ++ t.1.taken, s, parts, count)
 
 -- the answer of a reading
 abbrev answer : Frame × ℕ → Result (Frame × ℕ) WireFault
@@ -221,7 +222,10 @@ told_ends (End.Ends g m rest) f n is =
 told_ends (End.Breaks offset) f n is = absurd (cc)
 
 read_begins : (bytes : List ℕ) (f : Frame) (n : ℕ) → IsBytes bytes → decoded bytes ≡ Ok (f, n) → BeginsWith f n bytes
-read_begins bytes f n fits is = let e = told_ends (eaten start [] bytes) f n is in begins bytes f n e.0 fits e.1
+read_begins bytes f n fits is =
+    let e = told_ends (eaten start [] bytes) f n is in
+    let b = begins bytes f n e.0 fits e.1 in
+    (b.0, b.1, e.0, b.2, b.3, b.4)
 
 begins_read : (bytes : List ℕ) (f : Frame) (n : ℕ) → BeginsWith f n bytes → decoded bytes ≡ Ok (f, n)
 begins_read bytes f n b = ap decoded b.4 ∙ reads_what_is_spelled f b.0 b.1 b.2 b.3 ∙ ap (λ (k : ℕ). Ok (f, k)) (sym b.5)

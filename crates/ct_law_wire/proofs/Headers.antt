@@ -16,7 +16,7 @@ use Rattle.ct_wire_fields.specs.Reading.{begun, is_request, names_request, no_dr
 use Rattle.ct_wire.specs.Cursor.{number_of, start}
 use Rattle.ct_wire.specs.Decoding.{End, eaten}
 use Rattle.ct_wire.specs.Spelling.{body, operation, request, size, spelled, u32, u64}
-use Rattle.ct_law_wire.specs.Grammar.{ReadsWhatIsSpelled, Spelling, SpellsApart}
+use Rattle.ct_law_wire.specs.Grammar.{ReadsWhatIsSpelled, Spelling, SpellsApart, WritesSpellings}
 use Rattle.ct_law_wire.proofs.Fields.{Goes, field_eaten, long_goes, when, word_goes}
 use Rattle.ct_law_wire.proofs.Lists.{small_node}
 use Rattle.ct_law_wire.proofs.Messages.{body_goes, head_of, headed, op_of, small_from_one}
@@ -189,3 +189,6 @@ spells_apart f g v w a b x y s t same =
     let bytes : a ≡ b = sym (take_at a x (length a) refl) ∙ ap (take (length a)) same ∙ ap (λ (n : ℕ). take n (b ++ y)) two.1 ∙ take_at b y (length b) refl in
     let versions : Some v ≡ Some w = sym (version_read f v) ∙ ap version_in (sym s.fields ∙ bytes ∙ t.fields) ∙ version_read g w in
     (two.0, some_version v w versions, bytes)
+
+pub writes_spellings : WritesSpellings
+writes_spellings f bytes kept said written = record { kept = kept; said = said; short = written.1; fields = written.0 }

@@ -13,9 +13,10 @@ use Rattle.ct_frame.specs.declared.frame.PTable.{PTable}
 use Rattle.ct_frame.specs.declared.frame.TableRow.{TableRow}
 use Rattle.ct_frame.specs.Fields.{well_formed}
 use Rattle.ct_wire_fields.specs.declared.version.Version.{Version}
-use Rattle.ct_wire_fields.specs.Version.{names_families, names_masters}
+use Rattle.ct_wire_fields.specs.Version.{names_families, names_masters, newest}
 use Rattle.ct_wire.specs.Decoding.{decoded}
 use Rattle.ct_wire.specs.Spelling.{size, spelled}
+use Rattle.ct_wire.specs.Writing.{Encodes}
 
 -- a key has 1 to 255 bytes
 abbrev pub IsKey : List ℕ → Type 0
@@ -74,6 +75,10 @@ pub record Spelling (f : Frame) (v : Version) (bytes : List ℕ) : Type 0 where
   pub said : Says v f.sender f.msg
   pub short : size v f ≤ 268435456
   pub fields : bytes ≡ spelled v f
+
+-- what the encoder answers is a spelling in the newest version, where keys, values and addresses are in range
+abbrev pub WritesSpellings : Type 0
+WritesSpellings = (f : Frame) (bytes : List ℕ) → IsTrue (well_formed f) → Says newest f.sender f.msg → Encodes (λ x. x) (Ok bytes) f → Spelling f newest bytes
 
 -- a spelling is read as its frame, with its length, whatever follows it
 abbrev pub ReadsWhatIsSpelled : Type 0
