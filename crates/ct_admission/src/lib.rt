@@ -1,0 +1,5 @@
+//! Which messages a node drops before their own rule is looked at.
+#![tactic(auto)]
+
+pub mod admission;
+pub mod named;

@@ -1,0 +1,45 @@
+-- What a step that was planned changes and does.
+use Rattle.std.specs.Prelude.{◌≡◌, ℕ, ◌<◌, true, false, length, Result, Ok, Err}
+use Rattle.ct_persist.specs.Persisted.{updated}
+use Rattle.ct_rules_node.specs.Node.{Node, db_at, with_db}
+use Rattle.ct_rules_node.specs.Records.{put_back}
+use Rattle.ct_rules_node.specs.Turn.{Turn}
+use Rattle.ct_node_state.specs.Whole.{left_as}
+use Rattle.ct_planned.specs.declared.change.Change.{Change}
+use Rattle.ct_planned.specs.declared.change.Change.TheVariants as change
+use Rattle.ct_turn.specs.declared.turn.CoreFault.{CoreFault}
+use Rattle.ct_turn.specs.declared.turn.CoreFault.TheVariants.{Exhausted, NoMemory}
+use Rattle.ct_planned.specs.declared.change.Planned.{Planned}
+
+-- the node after a change
+unfoldable pub changed_by : Change → Node → Node
+changed_by change.Nothing n = n
+changed_by (change.Record db key state next floor) n = put_back db key (left_as state next floor) n
+changed_by (change.Update db seq writes) n = with_db db (record (db_at db n) { store = updated seq writes (db_at db n).store }) n
+changed_by (change.Begin db seq writes commit) n = with_db db (record (db_at db n) { store = updated seq writes (db_at db n).store; commit = commit }) n
+changed_by (change.Wait db commit) n = with_db db (record (db_at db n) { commit = commit }) n
+changed_by (change.Beside other) n = record other { dbs = n.dbs }
+changed_by (change.Whole other) n = other
+
+-- a change is of a database that is there
+abbrev pub CanChange : Change → Node → Type 0
+CanChange change.Nothing n = Unit {0}
+CanChange (change.Record db key state next floor) n = db < length n.dbs
+CanChange (change.Update db seq writes) n = db < length n.dbs
+CanChange (change.Begin db seq writes commit) n = db < length n.dbs
+CanChange (change.Wait db commit) n = db < length n.dbs
+CanChange (change.Beside other) n = Unit {0}
+CanChange (change.Whole other) n = Unit {0}
+
+-- what was planned is what the rule makes of the node
+pub record IsPlanned (p : Planned) (t : Turn) (n : Node) : Type 0 where
+  pub whole : t.spent ≡ false
+  pub node : changed_by p.change n ≡ t.node
+  pub outs : p.outs ≡ t.outs
+  pub can : CanChange p.change n
+
+-- a plan is what the rule makes of the node. It is refused for a number exactly where one of the step reaches 2^62
+abbrev pub Plans : Result Planned CoreFault → Turn → Node → Type 0
+Plans (Ok p) t n = IsPlanned p t n
+Plans (Err Exhausted) t n = t.spent ≡ true
+Plans (Err NoMemory) t n = Unit {0}

@@ -1,0 +1,51 @@
+//! A step that is planned.
+use ct_bytes::items::Items;
+use ct_bytes::key::Key;
+use ct_database::database::Committing;
+use ct_frame::event::Out;
+use ct_msg::client::Pair;
+use ct_node_state::node::Node;
+use ct_rules::state::RecState;
+
+/// What a step changes of a node.
+#[derive(Drop)]
+pub enum Change {
+    Nothing,
+    /// One record has another state, and the node another next request number and floor of the database.
+    Record {
+        db: u32,
+        key: Key,
+        state: RecState,
+        next: u64,
+        floor: u64,
+    },
+    /// A persistent database takes an update.
+    Update {
+        db: u32,
+        seq: u64,
+        writes: Items<Pair>,
+    },
+    /// A persistent database takes an update, and this commit waits there.
+    Begin {
+        db: u32,
+        seq: u64,
+        writes: Items<Pair>,
+        commit: Option<Committing>,
+    },
+    /// This commit waits at a database.
+    Wait {
+        db: u32,
+        commit: Option<Committing>,
+    },
+    /// All but the databases becomes this.
+    Beside(Node),
+    /// The node becomes this.
+    Whole(Node),
+}
+
+/// What a step changes, and what it does, in order.
+#[derive(Drop)]
+pub struct Planned {
+    pub change: Change,
+    pub outs: Items<Out>,
+}
