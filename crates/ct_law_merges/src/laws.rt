@@ -1,5 +1,6 @@
 //! What holds of the last reply of every round, in every run.
 ghost use Rattle.ct_law_merges.specs.Merges.{MergesAsBorn, NothingSeenIsLost, NothingVacuumedReturns};
+ghost use Rattle.ct_law_merges.specs.Small.{LastReplyIsThere};
 
 /// What the leader pushes at the last reply of a round is a choice that the definition of a birth allows: the parent is the
 /// greatest base, each record's row stands for so many first versions of the parent, and no member had seen more of them.
@@ -15,4 +16,10 @@ pub fn loses_nothing_seen()
 /// Nothing that was vacuumed in the parent returns.
 pub fn returns_nothing_vacuumed()
     ensures { NothingVacuumedReturns }
+{}
+
+/// These laws speak of something: a small run comes to a last reply, and what is made of it has a row for what was written.
+#[tactic(auto, using(crate::proofs::Small::last_reply_is_there))]
+pub fn last_reply_is_there()
+    ensures { LastReplyIsThere }
 {}
