@@ -7,7 +7,8 @@ ghost use Rattle.ct_rules_node.specs.Node.{or_nothing, restarted_db, untouched};
 ghost use Rattle.ct_rules_node.specs.Records.{kept};
 ghost use Rattle.ct_rules_node.specs.Rounds.{changed};
 ghost use Rattle.ct_database.specs.Sweeps.{swept};
-ghost use Rattle.ct_database.specs.Noted.{is_deleted};
+ghost use Rattle.ct_database.specs.Noted.{is_deleted, IsTidy};
+ghost use Rattle.ct_vacuum.specs.Candidates as vacuum;
 
 use ct_bytes::copies::Duplicate;
 use ct_bytes::items::Items;
@@ -180,6 +181,14 @@ impl Database {
         ensures { result.now ≡ self.now.records }
     {
         &self.records
+    }
+
+    /// The keys that are noted, ascending: each key of a deleted record is among them.
+    pub fn noted(&self) -> Result<Vec<Key>, NoMemory>
+        ensures deleted { IfOk result (λ keys. IsTidy keys.items self.now.records) }
+        ensures ascending { IfOk result (λ keys. vacuum.Ascends keys.items) }
+    {
+        self.noted.sorted()
     }
 
     /// The least RSN of a record that is made anew.

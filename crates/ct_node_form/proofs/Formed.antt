@@ -55,7 +55,7 @@ itself : (k : List ℕ) → is_eq (key_cmp k k) ≡ true
 itself k = (eq_by_cmp_equiv nat_list_cmp_total).refl k
 
 -- or another key, or the same
-by_key : (P : List ℕ → Type 0) (k q : List ℕ) → P k → (q ≢ k → P q) → P q
+pub by_key : (P : List ℕ → Type 0) (k q : List ℕ) → P k → (q ≢ k → P q) → P q
 by_key P k q here there = cond_both (is_at (key_cmp q) k) true false (λ (_ : Bool). P q)
     (λ t. subst P (sym (one_key q k (equal _ t))) here) (λ f. there (λ e. absurd (let h = ap (λ (x : List ℕ). is_at (key_cmp x) k) e ∙ itself k in cc)))
 
