@@ -136,23 +136,25 @@ labels_aside config n calls (out.Note noted ∷ xs) h = (note_aside config n not
 
 -- ---- parts of a step
 
--- from one middle of a step to another the node holds and follows the same, and does nothing of addresses
+-- from one middle of a step to another the node holds, follows and leads the same, and does nothing of addresses
 pub record Aside (t u : Turn) : Type 0 where
   pub held : u.node.held ≡ t.node.held
   pub last_run : u.node.last_run ≡ t.node.last_run
+  pub lead : u.node.lead ≡ t.node.lead
   pub outs : (more : List Out) × (u.outs ≡ t.outs ++ more) × AllAside more
 
 pub aside_same : {t : Turn} → Aside t t
-aside_same {t} = record { held = refl; last_run = refl; outs = ([], sym (append-nil t.outs), tt) }
+aside_same {t} = record { held = refl; last_run = refl; lead = refl; outs = ([], sym (append-nil t.outs), tt) }
 
--- the node is another, which holds and follows the same
-pub aside_node : (t u : Turn) → u.node.held ≡ t.node.held → u.node.last_run ≡ t.node.last_run → u.outs ≡ t.outs → Aside t u
-aside_node t u held run outs = record { held = held; last_run = run; outs = ([], outs ∙ sym (append-nil t.outs), tt) }
+-- the node is another, which holds, follows and leads the same
+pub aside_node : (t u : Turn) → u.node.held ≡ t.node.held → u.node.last_run ≡ t.node.last_run → u.node.lead ≡ t.node.lead → u.outs ≡ t.outs → Aside t u
+aside_node t u held run lead outs = record { held = held; last_run = run; lead = lead; outs = ([], outs ∙ sym (append-nil t.outs), tt) }
 
 pub aside_after : {t u v : Turn} → Aside t u → Aside u v → Aside t v
 aside_after {t} {u} {v} a b = record {
   held = b.held ∙ a.held;
   last_run = b.last_run ∙ a.last_run;
+  lead = b.lead ∙ a.lead;
   outs = (a.outs.0 ++ b.outs.0, b.outs.1 ∙ ap (λ (l : List Out). l ++ b.outs.0) a.outs.1 ∙ append_assoc t.outs a.outs.0 b.outs.0, all_append IsAsideOut a.outs.0 b.outs.0 a.outs.2 b.outs.2);
 }
 
@@ -162,7 +164,7 @@ either_aside false a b = b
 
 pub does_aside : (o : Out) (t : Turn) → IsAsideOut o → Aside t (does o t)
 unfolding does
-does_aside o t h = record { held = refl; last_run = refl; outs = (o ∷ [], refl, (h, tt)) }
+does_aside o t h = record { held = refl; last_run = refl; lead = refl; outs = (o ∷ [], refl, (h, tt)) }
 
 pub posts_aside : (g me n : ℕ) (m : Msg) (t : Turn) → IsAsideMsg m → Aside t (posts g me n m t)
 unfolding posts IsAsideOut
@@ -191,4 +193,4 @@ records_aside g me (out.Note _ ∷ xs) h = absurd h.0
 
 -- what is plain is aside
 pub plain_aside : {me : ℕ} {t u : Turn} → SamePlain me t u → Aside t u
-plain_aside {me} {t} {u} p = record { held = p.held; last_run = p.last_run; outs = (p.outs.0, p.outs.1, records_aside t.node.generation me p.outs.0 p.outs.2) }
+plain_aside {me} {t} {u} p = record { held = p.held; last_run = p.last_run; lead = p.lead; outs = (p.outs.0, p.outs.1, records_aside t.node.generation me p.outs.0 p.outs.2) }

@@ -1,6 +1,6 @@
 -- Which rules leave what the node holds and follows, and do nothing of addresses.
 use Rattle.std.proofs.Common.{◌≡◌, ℕ, ◌+◌, List, [], ◌∷◌, Option, None, Some, refl}
-use Rattle.std.specs.Prelude.{nat_eq, nat_lt, nat_le}
+use Rattle.std.specs.Prelude.{nat_eq, nat_le}
 use Rattle.ct_msg.specs.declared.client.ClientOp.{ClientOp}
 use Rattle.ct_msg.specs.declared.client.ClientOp.TheVariants as op
 use Rattle.ct_msg.specs.declared.client.Pair.{Pair}
@@ -14,7 +14,7 @@ use Rattle.ct_rules_node.specs.Turn.{Turn, does, with_node, with_phase, makes, a
 use Rattle.ct_rules_node.specs.Records.{with_state}
 use Rattle.ct_rules_node.specs.Clients.{any_locked, is_commit, is_unlock, refusal, frozen_if_unlocked, unlocks, serves, serves_or, client}
 use Rattle.ct_rules_node.specs.Databases.{updates, with_commit, awaits_others, commits_at, commit, acknowledges, on_pupdate, on_pack_of, on_pack}
-use Rattle.ct_rules_node.specs.Rounds.{freezes, ends_lock, ends_commit, ends_commits, on_freeze, on_pull, thaws, pending_calls, on_thaw}
+use Rattle.ct_rules_node.specs.Rounds.{ends_lock, ends_commit, ends_commits, on_pull, thaws, pending_calls, on_thaw}
 use Rattle.ct_rules_node.specs.Retries.{update_again, update_in, retry_records}
 use Rattle.ct_rules_node.specs.Steps.{on_record_of, vacuums}
 use Rattle.ct_law_shown.proofs.Speaking.{arrive_told, release_told}
@@ -26,11 +26,11 @@ use Rattle.ct_law_places.proofs.Aside.{IsAsideMsg, IsAsideNote, IsAsideOut, Asid
 
 updates_aside : (db seq : ℕ) (writes : List Pair) (t : Turn) → Aside t (updates db seq writes t)
 unfolding updates with_node with_db
-updates_aside db seq writes t = aside_node t _ refl refl refl
+updates_aside db seq writes t = aside_node t _ refl refl refl refl
 
 with_commit_aside : (db : ℕ) (x : Option Committing) (t : Turn) → Aside t (with_commit db x t)
 unfolding with_commit with_node with_db
-with_commit_aside db x t = aside_node t _ refl refl refl
+with_commit_aside db x t = aside_node t _ refl refl refl refl
 
 awaits_aside : (me call db seq : ℕ) (writes : List Pair) (ns : List ℕ) (t : Turn) → Aside t (awaits_others me call db seq writes ns t)
 unfolding awaits_others answers IsAsideMsg IsAsideOut
@@ -41,7 +41,7 @@ commit_aside : (me call db : ℕ) (writes : List Pair) (t : Turn) → Aside t (c
 unfolding commit commits_at makes
 commit_aside me call db writes t =
     let seq = (db_at db t.node).store.seq + 1 in
-    aside_after (aside_node t (makes seq t) refl refl refl) (aside_after (updates_aside db seq writes (makes seq t)) (awaits_aside me call db seq writes _ (updates db seq writes (makes seq t))))
+    aside_after (aside_node t (makes seq t) refl refl refl refl) (aside_after (updates_aside db seq writes (makes seq t)) (awaits_aside me call db seq writes _ (updates db seq writes (makes seq t))))
 
 pub on_pupdate_aside : (me sender db seq : ℕ) (writes : List Pair) (t : Turn) → Aside t (on_pupdate me sender db seq writes t)
 unfolding on_pupdate acknowledges IsAsideMsg
@@ -60,11 +60,11 @@ on_pack_aside n db seq t = on_pack_of_aside n db seq t (db_at db t.node).commit
 
 frozen_aside : (me g leader : ℕ) (t : Turn) → Aside t (frozen_if_unlocked me g leader t)
 unfolding frozen_if_unlocked with_phase IsAsideMsg
-frozen_aside me g leader t = either_aside (any_locked t.node.dbs) aside_same (aside_after (aside_node t (with_phase (Frozen g) t) refl refl refl) (posts_aside g me leader msg.FreezeAck _ tt))
+frozen_aside me g leader t = either_aside (any_locked t.node.dbs) aside_same (aside_after (aside_node t (with_phase (Frozen g) t) refl refl refl refl) (posts_aside g me leader msg.FreezeAck _ tt))
 
 ends_lock_aside : (name : List ℕ) (t : Turn) → Aside t (ends_lock name t)
 unfolding ends_lock with_node notes does IsAsideOut IsAsideNote with_state with_db
-ends_lock_aside name t = record { held = refl; last_run = refl; outs = (_, refl, (tt, tt)) }
+ends_lock_aside name t = record { held = refl; last_run = refl; lead = refl; outs = (_, refl, (tt, tt)) }
 
 ends_commit_aside : (db : ℕ) (name : List ℕ) (t : Turn) (x : Option Committing) → Aside t (ends_commit db name t x)
 unfolding ends_commit answers IsAsideOut
@@ -76,11 +76,9 @@ unfolding ends_commits
 ends_commits_aside c i [] t = aside_same
 ends_commits_aside c i (d ∷ ds) t = aside_after (ends_commit_aside i _ t d.commit) (ends_commits_aside c (i + 1) ds _)
 
-pub on_freeze_aside : (c : Config) (me h g : ℕ) (t : Turn) → Aside t (on_freeze c me h g t)
-unfolding on_freeze freezes with_node IsAsideMsg
-on_freeze_aside c me h g t = either_aside (nat_lt t.node.promise g)
-    (aside_after (aside_node t (freezes g h t) refl refl refl) (aside_after (ends_commits_aside c 0 t.node.dbs (freezes g h t)) (frozen_aside me g h _)))
-    (either_aside (is_frozen_in g t.node.phase) (posts_aside g me h msg.FreezeAck t tt) aside_same)
+-- a freeze, once it is followed
+pub frozen_all_aside : (c : Config) (me h g : ℕ) (ds : List Database) (t : Turn) → Aside t (frozen_if_unlocked me g h (ends_commits c 0 ds t))
+frozen_all_aside c me h g ds t = aside_after (ends_commits_aside c 0 ds t) (frozen_aside me g h _)
 
 pub on_pull_aside : (c : Config) (me h g : ℕ) (t : Turn) → Aside t (on_pull c me h g t)
 unfolding on_pull IsAsideMsg
@@ -99,7 +97,7 @@ vacuums_aside c me db t = plain_aside (vacuums_plain c me db t)
 pub on_thaw_aside : (c : Config) (rules : Rules) (me g : ℕ) (t : Turn) (p : Phase) → Aside t (on_thaw c rules me g t p)
 unfolding on_thaw thaws with_phase notes IsAsideOut IsAsideNote
 on_thaw_aside c rules me g t Installed = either_aside (nat_eq t.node.generation g)
-    (aside_after (aside_after (aside_node t (with_phase Serving t) refl refl refl) (does_aside _ (with_phase Serving t) tt)) (plain_aside (want_all_plain c rules me (pending_calls t.node) _))) aside_same
+    (aside_after (aside_after (aside_node t (with_phase Serving t) refl refl refl refl) (does_aside _ (with_phase Serving t) tt)) (plain_aside (want_all_plain c rules me (pending_calls t.node) _))) aside_same
 on_thaw_aside c rules me g t _ = aside_same
 
 -- ---- clients
@@ -134,7 +132,7 @@ serves_or_aside c rules me call asked t None = serves_aside c rules me call t as
 
 pub client_aside : (c : Config) (rules : Rules) (me call : ℕ) (asked : ClientOp) (t : Turn) → Aside t (client c rules me call asked t)
 unfolding client makes
-client_aside c rules me call asked t = aside_after (aside_node t (makes call t) refl refl refl) (serves_or_aside c rules me call asked (makes call t) (refusal c rules t.node asked))
+client_aside c rules me call asked t = aside_after (aside_node t (makes call t) refl refl refl refl) (serves_or_aside c rules me call asked (makes call t) (refusal c rules t.node asked))
 
 -- ---- Retry of records and commits
 

@@ -6,7 +6,7 @@ use Rattle.ct_frame.specs.declared.frame.Frame.{Frame}
 use Rattle.ct_frame.specs.declared.frame.Msg.{Msg}
 use Rattle.ct_frame.specs.declared.frame.Msg.TheVariants as msg
 use Rattle.ct_merge.proofs.Among.{In}
-use Rattle.ct_rules_node.specs.Node.{Node, Lead, Nothing, Freezes, Pulls, Installs, Completed, Takeover, Run, NoRun, Releasing, Taking, is_present, is_present_in, is_frozen_in, is_among}
+use Rattle.ct_rules_node.specs.Node.{Node, Lead, Nothing, Freezes, Pulls, Installs, Completed, Takeover, Run, NoRun, Releasing, Taking, is_present, is_frozen_in, is_among}
 use Rattle.ct_rules_node.specs.Takeovers.{share, assigned_in, has_address}
 use Rattle.ct_register.specs.Placing.{Placing}
 use Rattle.ct_register.specs.Lines.{Lines}
@@ -40,14 +40,13 @@ pub record IsLeader (b : Spots) (n g : ℕ) (members : List ℕ) : Type 0 where
   pub named : b.members g ≡ members
   pub member : is_among n members ≡ true
 
--- What a node leads is a line from its last reply on. A completed round is of a line that all members have installed, and the
--- node is present there.
+-- What a node leads is a line from its last reply on. A completed round is of a line that all members have installed.
 unfoldable pub LeadSays : Spots → ℕ → Node → Lead → Type 0
 LeadSays b n x Nothing = Unit {0}
 LeadSays b n x (Freezes g members missing) = IsLeader b n g members × (b.born g ≡ false)
 LeadSays b n x (Pulls g members missing gathered) = IsLeader b n g members × (b.born g ≡ false)
 LeadSays b n x (Installs g members missing body) = IsLeader b n g members × (b.born g ≡ true)
-LeadSays b n x (Completed g members takeover) = IsLeader b n g members × (is_present_in g x ≡ true) × ((m : ℕ) → is_among m members ≡ true → b.installed g m ≡ true)
+LeadSays b n x (Completed g members takeover) = IsLeader b n g members × (g ≢ 0) × ((m : ℕ) → is_among m members ≡ true → b.installed g m ≡ true)
 
 -- a push is of the members of its line
 unfoldable pub PushSays : Spots → ℕ → Msg → Type 0
@@ -56,10 +55,11 @@ PushSays b g _ = Unit {0}
 
 -- what holds of lines, of the phases of nodes, and of what they lead
 pub record RoundsHold (nodes : ℕ → Node) (fs : List Frame) (b : Spots) : Type 0 where
-  -- a node's line is that of its persistent databases, but for a node that stopped; that is a line, and the node a member
+  -- a node's line is that of its persistent databases, but for a node that stopped; that is a line; and the node is a member of
+  -- its own
   pub stays : (n : ℕ) → b.line n ≢ 0 → b.line n ≡ b.pline n
   pub real : (n : ℕ) → b.pline n ≢ 0 → b.born (b.pline n) ≡ true
-  pub named : (n : ℕ) → b.pline n ≢ 0 → is_among n (b.members (b.pline n)) ≡ true
+  pub named : (n : ℕ) → b.line n ≢ 0 → is_among n (b.members (b.line n)) ≡ true
   -- what a node has installed is its persistent line, or an older one
   pub had : (g n : ℕ) → b.installed g n ≡ true → g ≤ b.pline n
   pub there : (n : ℕ) → is_present (nodes n).phase ≡ true → IsThere b n (nodes n)

@@ -178,11 +178,18 @@ module _ (config : Config) (x : Choice) (nodes : ℕ → Node) (fs : List Frame)
             (both_stand config.addresses (at n y nodes) (spots r) turns fs sent (mail_later config.addresses nodes (at n y nodes) (spots r) (spots r) turns turns fs (same_later (omega arith)) h.holds h.mail) stand);
       }
 
--- a node's step that is aside, with what it tells before
-pub aside_kept : (config : Config) (x : Choice) (nodes : ℕ → Node) (fs : List Frame) (r : Lines) (turns : Turns) → Ready config nodes fs r turns → (n : ℕ) (calls : List PendingCall) (first : List Label) (u : Turn) → AllByRecursion (IsAside config) first →
-    Aside (begins (nodes n)) u → LeadStands config.addresses (at n u.node nodes) (spots r) turns u.node.lead → Kept config x (at n u.node nodes) fs r (first ++ labels_of n calls u.outs) (frame_list u.outs)
-aside_kept config x nodes fs r turns h n calls first u before a lead =
-    let all : AllAside u.outs = subst AllAside (sym a.outs.1) a.outs.2 in
-    idle_kept config x nodes fs r turns h n u.node a.held a.last_run lead (first ++ labels_of n calls u.outs)
+-- a node's step that is aside but for what the node leads, with what it tells before
+pub aside_kept : (config : Config) (x : Choice) (nodes : ℕ → Node) (fs : List Frame) (r : Lines) (turns : Turns) → Ready config nodes fs r turns → (n : ℕ) (calls : List PendingCall) (first : List Label) (t u : Turn) → AllByRecursion (IsAside config) first →
+    t.node.held ≡ (nodes n).held → t.node.last_run ≡ (nodes n).last_run → t.outs ≡ [] → Aside t u → LeadStands config.addresses (at n u.node nodes) (spots r) turns t.node.lead → Kept config x (at n u.node nodes) fs r (first ++ labels_of n calls u.outs) (frame_list u.outs)
+aside_kept config x nodes fs r turns h n calls first t u before held run none a lead =
+    let all : AllAside u.outs = subst AllAside (sym (a.outs.1 ∙ ap (λ (l : List Out). l ++ a.outs.0) none)) a.outs.2 in
+    idle_kept config x nodes fs r turns h n u.node (a.held ∙ held) (a.last_run ∙ run) (subst (LeadStands config.addresses (at n u.node nodes) (spots r) turns) (sym a.lead) lead) (first ++ labels_of n calls u.outs)
     (all_append (IsIdle config (spots r)) first (labels_of n calls u.outs) (aside_idle config (spots r) first before) (aside_idle config (spots r) (labels_of n calls u.outs) (labels_aside config n calls u.outs all)))
     (frame_list u.outs) (frames_stand config.addresses (at n u.node nodes) (spots r) turns u.outs (outs_aside config.addresses (at n u.node nodes) (spots r) turns u.outs all))
+
+-- and one that is aside
+pub all_aside_kept : (config : Config) (x : Choice) (nodes : ℕ → Node) (fs : List Frame) (r : Lines) (turns : Turns) → Ready config nodes fs r turns → (n : ℕ) (calls : List PendingCall) (first : List Label) (u : Turn) → AllByRecursion (IsAside config) first →
+    Aside (begins (nodes n)) u → Kept config x (at n u.node nodes) fs r (first ++ labels_of n calls u.outs) (frame_list u.outs)
+all_aside_kept config x nodes fs r turns h n calls first u before a =
+    aside_kept config x nodes fs r turns h n calls first (begins (nodes n)) u before refl refl refl a
+    (subst (LeadStands config.addresses (at n u.node nodes) (spots r) turns) a.lead (same_lead config x nodes fs r turns h n u.node (let e = a.last_run in omega arith) (sym a.lead)))

@@ -1,12 +1,11 @@
 -- What a step keeps of messages and of what nodes lead: placements of runs that began stay, and so does whom a node follows.
 use Rattle.std.proofs.Common.{◌≡◌, ◌≢◌, ℕ, ◌≤◌, true, List, Some, refl, sym, ap, ◌∙◌, arith}
-use Rattle.std.proofs.lemmas.Bool.{and_parts, eqb-true}
 use Rattle.ct_bytes.specs.declared.address.Address.{Address}
 use Rattle.ct_frame.specs.declared.frame.Assigned.{Assigned}
 use Rattle.ct_frame.specs.declared.frame.Frame.{Frame}
 use Rattle.ct_frame.specs.declared.frame.Msg.{Msg}
 use Rattle.ct_frame.specs.declared.frame.Msg.TheVariants as msg
-use Rattle.ct_rules_node.specs.Node.{Node, Lead, Nothing, Freezes, Pulls, Installs, Completed, Takeover, Run, NoRun, Releasing, Taking, is_present_in, is_among}
+use Rattle.ct_rules_node.specs.Node.{Node, Lead, Nothing, Freezes, Pulls, Installs, Completed, Takeover, Run, NoRun, Releasing, Taking, is_among}
 use Rattle.ct_rules_node.specs.Takeovers.{share, assigned_in}
 use Rattle.ct_register.specs.Placing.{Placing}
 use Rattle.ct_law_stores.proofs.Places.{Turns, plan}
@@ -75,14 +74,10 @@ module _ (addresses : List Address) (nodes after : ℕ → Node) (b c : Spots) (
   }
 
   pub lead_later : (fs : List Frame) → RoundsHold nodes fs b → (k : ℕ) (x : Lead) → LeadSays b k (nodes k) x → ((g : ℕ) → b.leader g ≡ Some k → SameLine b c turns then g) → LeadStands addresses nodes b turns x → LeadStands addresses after c then x
-  unfolding LeadStands LeadSays is_present_in
+  unfolding LeadStands LeadSays
   lead_later fs rounds k Nothing says same h = tt
   lead_later fs rounds k (Freezes g members missing) says same h = ap (λ (p : Placing). p.begun) (same g says.0.given).placing ∙ h
   lead_later fs rounds k (Pulls g members missing x) says same h = ap (λ (p : Placing). p.begun) (same g says.0.given).placing ∙ h
   lead_later fs rounds k (Installs g members missing body) says same h =
       (ap (λ (p : Placing). p.begun) (same g says.0.given).placing ∙ h.0, ap (λ (p : Placing). p.pushed) (same g says.0.given).placing ∙ h.1)
-  lead_later fs rounds k (Completed g members x) says same h =
-      let parts = and_parts _ _ says.1 in
-      let there = rounds.there k parts.0 in
-      let here : (nodes k).generation ≡ g = eqb-true _ _ parts.1 in
-      takeover_later g members x (same g says.0.given) (λ z. there.line (sym there.generation ∙ here ∙ z)) (λ m member. rounds.had g m (says.2 m member)) h
+  lead_later fs rounds k (Completed g members x) says same h = takeover_later g members x (same g says.0.given) says.1 (λ m member. rounds.had g m (says.2 m member)) h

@@ -1,0 +1,4 @@
+pub mod Touched
+pub mod Handing
+pub mod Placed
+pub mod Leading
