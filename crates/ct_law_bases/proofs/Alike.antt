@@ -1,11 +1,11 @@
 -- Nothing changes of persistent databases but what nodes have seen of them.
-use Rattle.std.proofs.Common.{◌≡◌, ◌≢◌, ℕ, zero, suc, ◌+◌, ◌<◌, ◌≤◌, Bool, true, false, List, [], ◌∷◌, length, Option, None, Some, refl, sym, ap, ◌∙◌, subst, arith, inl, inr, ⊎_elim}
+use Rattle.std.proofs.Common.{◌≡◌, ℕ, ◌≤◌, true, List, length, Option, None, Some, refl, sym, ap, ◌∙◌, arith, inl, inr, ⊎_elim}
 use Rattle.std.specs.Prelude.{◌⊎◌, slice_get, take}
 use Rattle.ct_msg.specs.declared.client.Pair.{Pair}
 use Rattle.ct_msg.specs.declared.config.Config.{Config}
-use Rattle.ct_rules_node.specs.Node.{Node, Committing, is_among, is_persistent, kind_at, db_at, name_of}
+use Rattle.ct_rules_node.specs.Node.{Node, Committing, name_of}
 use Rattle.ct_register.specs.Database.{Database, newest}
-use Rattle.ct_law_stores.proofs.Facts.{Has, Gone, Bases, Counted, WaitsIn, Settles, Waits, MayWait, Holds, after}
+use Rattle.ct_law_stores.proofs.Facts.{Has, Gone, Bases, Counted, WaitsIn, Settles, MayWait, Holds, after}
 use Rattle.ct_law_stores.proofs.Stores.{Grown, Grow, after_same, lead_later}
 
 -- the second differs from the first in nothing but what nodes have seen

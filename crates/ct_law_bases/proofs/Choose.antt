@@ -1,5 +1,5 @@
 -- What a round keeps of each persistent database: of those of the parent the one with the most commits.
-use Rattle.std.proofs.Common.{◌≡◌, ◌≢◌, ℕ, zero, suc, ◌+◌, ◌<◌, ◌≤◌, Bool, true, false, cond, ◌&&◌, List, [], ◌∷◌, ◌++◌, length, Option, None, Some, refl, sym, ap, ◌∙◌, subst, arith, inl, inr, ⊎_elim}
+use Rattle.std.proofs.Common.{◌≡◌, ℕ, ◌+◌, ◌<◌, ◌≤◌, Bool, true, false, cond, List, [], ◌∷◌, ◌++◌, length, Option, Some, refl, sym, ap, ◌∙◌, subst, arith, inl, inr, ⊎_elim}
 use Rattle.std.specs.Prelude.{◌⊎◌}
 use Rattle.std.specs.List.{find, list_all}
 use Rattle.std.specs.Option.{option_map}
@@ -8,7 +8,6 @@ use Rattle.ct_bytes.specs.Words.{others}
 use Rattle.ct_msg.specs.declared.config.Config.{Config}
 use Rattle.ct_frame.specs.Fields.{ascends, ptable_before}
 use Rattle.ct_frame.specs.declared.frame.Frame.{Frame}
-use Rattle.ct_frame.specs.declared.frame.Msg.TheVariants as msg
 use Rattle.ct_frame.specs.declared.frame.PTable.{PTable}
 use Rattle.ct_frame.specs.declared.round.Pull.{Pull}
 use Rattle.ct_merge.proofs.Among.{In, in_left, in_right, in_either}
@@ -17,16 +16,15 @@ use Rattle.ct_merge.specs.Held.{ptable_rank}
 use Rattle.ct_merge.specs.Placing.{best}
 use Rattle.ct_merge.specs.Rule.{pparent, ptable_at, ptables_at, is_ptable_at}
 use Rattle.ct_merge.specs.declared.held.HeldPTable.{HeldPTable}
-use Rattle.ct_persist.specs.Persisted.{Persisted, replaced, listed}
+use Rattle.ct_persist.specs.Persisted.{Persisted}
 use Rattle.ct_rules_node.specs.Node.{Node, is_among, is_persistent, kind_at}
 use Rattle.ct_rules_node.specs.Rounds.{store_from}
 use Rattle.ct_register.specs.Database.{Database, contents_after}
-use Rattle.ct_register.specs.Births.{base_of}
 use Rattle.ct_register.specs.Lines.{Lines}
 use Rattle.ct_law_parts.proofs.Parts.{CanKeep}
 use Rattle.ct_law_stores.proofs.Births.{store_found, listed_back}
-use Rattle.ct_law_stores.proofs.Facts.{Has, Bases, bases, IsTold, table_after, Stands, MailStands, Holds}
-use Rattle.ct_law_stores.proofs.Merges.{IsHeld, IsKept, tables_merged, some_greatest, best_kept, some_best}
+use Rattle.ct_law_stores.proofs.Facts.{Has, bases, IsTold, table_after, Stands, MailStands, Holds}
+use Rattle.ct_law_stores.proofs.Merges.{IsKept, tables_merged, some_greatest, best_kept, some_best}
 use Rattle.ct_law_stores.proofs.Pulls.{cmp_flips}
 use Rattle.ct_law_kept.proofs.Law.{Replied, ReplySays, Gathers, reply_of}
 use Rattle.ct_law_kept.proofs.Lists.{only_one}

@@ -1,5 +1,5 @@
 -- A node installs a line: it has each database as the line began with it.
-use Rattle.std.proofs.Common.{◌≡◌, ◌≢◌, ℕ, zero, suc, ◌+◌, ◌<◌, ◌≤◌, Bool, true, false, cond, ◌||◌, not, List, [], ◌∷◌, ◌++◌, length, map, append-nil, append_assoc, Option, None, Some, refl, sym, ap, ◌∙◌, subst, arith, inl, inr, ⊎_elim}
+use Rattle.std.proofs.Common.{◌≡◌, ◌≢◌, ℕ, zero, suc, ◌+◌, ◌<◌, ◌≤◌, Bool, true, false, cond, ◌||◌, not, List, [], ◌∷◌, ◌++◌, length, append-nil, append_assoc, None, Some, refl, sym, ap, ◌∙◌, subst, arith, inl, inr, ⊎_elim}
 use Rattle.std.specs.Prelude.{◌⊎◌, slice_get, nat_eq}
 use Rattle.std.specs.List.{AllByRecursion, filter}
 use Rattle.std.proofs.lemmas.Bool.{cases_eq}
@@ -13,13 +13,12 @@ use Rattle.ct_frame.specs.declared.frame.Assigned.{Assigned}
 use Rattle.ct_frame.specs.declared.frame.Msg.TheVariants as msg
 use Rattle.ct_frame.specs.declared.frame.PTable.{PTable}
 use Rattle.ct_frame.specs.declared.frame.TableRow.{TableRow}
-use Rattle.ct_persist.specs.Persisted.{Persisted}
 use Rattle.ct_persist.specs.Updates.{contents}
-use Rattle.ct_rules_node.specs.Node.{Node, Committing, is_persistent, kind_at, name_of, db_at, or_untouched, untouched, master_of}
+use Rattle.ct_rules_node.specs.Node.{Node, is_persistent, kind_at, name_of, db_at, or_untouched, master_of}
 use Rattle.ct_rules_node.specs.Node as node
 use Rattle.ct_rules_node.specs.Turn.{Turn, does, with_node, makes, notes, posts}
 use Rattle.ct_rules_node.specs.Rounds.{store_from, row_master, installed_db, installed_dbs, installed_node, is_own, releases, makes_rows, installs}
-use Rattle.ct_cluster.specs.Labels.{Label, Noted}
+use Rattle.ct_cluster.specs.Labels.{Noted}
 use Rattle.ct_cluster.specs.Steps.{frames_of}
 use Rattle.ct_cluster.specs.declared.step.PendingCall.{PendingCall}
 use Rattle.ct_register.proofs.Places.{at_same, at_other}
@@ -32,7 +31,7 @@ use Rattle.ct_law_parts.proofs.Parts.{Choice, goes, goes_on, note_goes, Database
 use Rattle.ct_law_stores.proofs.Facts.{Has, Gone, Bases, bases, WaitsIn, Settles, MayWait, Stands, LeadStands, MailStands, Holds, after}
 use Rattle.ct_law_stores.proofs.Stores.{Grow, grown_same, lead_later}
 use Rattle.ct_law_kept.proofs.Changes.{by_node}
-use Rattle.ct_law_kept.proofs.Kept.{Kept, IsCalm, OutStands, frame_list, frames_stand, calm_labels, calm_stands}
+use Rattle.ct_law_kept.proofs.Kept.{Kept, IsCalm, frame_list, frames_stand, calm_labels, calm_stands}
 use Rattle.ct_law_kept.proofs.Outs.{is_below}
 use Rattle.ct_law_kept.proofs.Quiet.{IsQuietNote, all_quiet}
 use Rattle.ct_law_bases.proofs.Alike.{IsAlike, alike_same, alike_after, alike_holds, alike_grows, alike_settles}

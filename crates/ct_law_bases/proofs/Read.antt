@@ -1,5 +1,5 @@
 -- A read of a pair in a persistent database: its node has seen as many commits as it has.
-use Rattle.std.proofs.Common.{◌≡◌, ◌≢◌, ℕ, zero, suc, ◌+◌, ◌<◌, ◌≤◌, Bool, true, false, List, [], ◌∷◌, ◌++◌, length, Option, None, Some, refl, sym, ap, ◌∙◌, subst, arith, inl, inr, ⊎_elim}
+use Rattle.std.proofs.Common.{◌≡◌, ◌≢◌, ℕ, ◌+◌, ◌≤◌, Bool, true, List, [], ◌∷◌, ◌++◌, length, refl, sym, ap, ◌∙◌, subst, arith, inl, ⊎_elim}
 use Rattle.std.specs.Prelude.{◌⊎◌}
 use Rattle.std.proofs.lemmas.Bool.{cases_eq}
 use Rattle.ct_bytes.specs.Words.{or_empty}
@@ -9,7 +9,7 @@ use Rattle.ct_msg.specs.declared.client.ClientOp.TheVariants as op
 use Rattle.ct_msg.specs.declared.config.Config.{Config}
 use Rattle.ct_persist.specs.Persisted.{Persisted}
 use Rattle.ct_store.specs.Map.{look}
-use Rattle.ct_rules_node.specs.Node.{Node, is_among, is_persistent, kind_at, db_at}
+use Rattle.ct_rules_node.specs.Node.{Node, is_among, kind_at, db_at}
 use Rattle.ct_rules_node.specs.Turn.{Turn, does, answers}
 use Rattle.ct_rules_node.specs.Databases.{read_pair}
 use Rattle.ct_cluster.specs.Labels.{Label, Answered}
@@ -22,9 +22,9 @@ use Rattle.ct_register.specs.Words.{at}
 use Rattle.ct_law_shown.specs.Shown.{labels_of}
 use Rattle.ct_law_shown.specs.Waiting.{answered}
 use Rattle.ct_law_parts.proofs.Parts.{Choice, goes, goes_on, answer_goes, database_goes, DatabasesNeed, AllNeed}
-use Rattle.ct_law_stores.proofs.Facts.{Has, Gone, Bases, bases, owners, Settles, MailStands, Holds, after}
+use Rattle.ct_law_stores.proofs.Facts.{Has, Bases, bases, Settles, Holds, after}
 use Rattle.ct_law_stores.proofs.Stores.{Grow}
-use Rattle.ct_law_kept.proofs.Changes.{by_place, by_node}
+use Rattle.ct_law_kept.proofs.Changes.{by_place}
 use Rattle.ct_law_kept.proofs.Kept.{Kept, frame_list}
 use Rattle.ct_law_kept.proofs.One.{is_kind, with_one, one_here, one_there}
 use Rattle.ct_law_commit.proofs.Update.{IsIn, store_in}

@@ -1,5 +1,5 @@
 -- The last reply of a round comes to its leader: a line is born, and its databases are those that are pushed.
-use Rattle.std.proofs.Common.{◌≡◌, ◌≢◌, ℕ, zero, suc, ◌+◌, ◌<◌, ◌≤◌, Bool, true, false, List, [], ◌∷◌, ◌++◌, length, Option, None, Some, refl, sym, ap, ◌∙◌, subst, arith, inl, inr, ⊎_elim}
+use Rattle.std.proofs.Common.{◌≡◌, ◌≢◌, ℕ, ◌+◌, Bool, true, false, List, [], ◌∷◌, length, Option, None, Some, refl, sym, ap, ◌∙◌, subst, arith, inl, inr, ⊎_elim}
 use Rattle.std.specs.Prelude.{◌⊎◌}
 use Rattle.std.specs.List.{AllByRecursion}
 use Rattle.std.proofs.lemmas.Bool.{cases_eq}
@@ -9,15 +9,13 @@ use Rattle.ct_frame.specs.declared.event.Note.TheVariants as note
 use Rattle.ct_frame.specs.declared.event.Out.{Out}
 use Rattle.ct_frame.specs.declared.event.Out.TheVariants as out
 use Rattle.ct_frame.specs.declared.frame.Frame.{Frame}
-use Rattle.ct_frame.specs.declared.frame.Msg.TheVariants as msg
 use Rattle.ct_frame.specs.declared.round.Pull.{Pull}
 use Rattle.ct_frame.specs.declared.round.PushBody.{PushBody}
 use Rattle.ct_merge.proofs.Among.{In}
 use Rattle.ct_merge.specs.Gathered.{Gathered, gathered, finished}
-use Rattle.ct_persist.specs.Persisted.{Persisted}
 use Rattle.ct_rules_node.specs.Node.{Node, Installs, Committing, is_persistent, kind_at, name_of, db_at}
 use Rattle.ct_rules_node.specs.Turn.{Turn, does, with_lead, notes, posts_all}
-use Rattle.ct_rules_node.specs.Rounds.{store_from, body_of, push_of, pushes}
+use Rattle.ct_rules_node.specs.Rounds.{body_of, push_of, pushes}
 use Rattle.ct_cluster.specs.Labels.{Label, Noted}
 use Rattle.ct_cluster.specs.Steps.{frames_of}
 use Rattle.ct_cluster.specs.declared.step.PendingCall.{PendingCall}
@@ -36,7 +34,7 @@ use Rattle.ct_law_kept.proofs.Kept.{Commits, Kept, IsCalm, frame_list, frames_st
 use Rattle.ct_law_kept.proofs.Law.{ReplySays, Gathers, reply_of}
 use Rattle.ct_law_kept.proofs.Outs.{posted, posted_outs}
 use Rattle.ct_law_kept.proofs.Quiet.{all_quiet}
-use Rattle.ct_law_bases.proofs.Choose.{ps, q, parent_born, kept, pushed_store, can_keep, merged_parent, merged_at}
+use Rattle.ct_law_bases.proofs.Choose.{q, kept, pushed_store, can_keep, merged_parent, merged_at}
 
 module _ (config : Config) (who : Callers) (x : Choice) (nodes : ℕ → Node) (fs : List Frame) (r : Lines) (has : Has) (n g : ℕ) (members missing : List ℕ) (y : Gathered) (p : Pull) (h : Holds config nodes (bases r) has) (mail : MailStands config (bases r) has fs)
     (replies : (f : Frame) → In f fs → ReplySays nodes (bases r) f.generation f.sender f.msg) (gathers : Gathers fs n g members missing y) (came : In (reply_of n g p) fs) (last : others p.node missing ≡ [])

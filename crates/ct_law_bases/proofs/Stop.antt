@@ -1,12 +1,11 @@
 -- A node stops: its databases stay, and commits that wait there are lost with their locks.
-use Rattle.std.proofs.Common.{◌≡◌, ◌≢◌, ℕ, zero, suc, ◌+◌, ◌<◌, ◌≤◌, Bool, true, false, List, [], ◌∷◌, ◌++◌, length, map, Option, None, Some, refl, sym, ap, ◌∙◌, subst, arith, inl, inr, ⊎_elim}
+use Rattle.std.proofs.Common.{◌≡◌, ◌≢◌, ℕ, zero, suc, true, List, [], ◌∷◌, length, map, Option, None, Some, refl, sym, ap, ◌∙◌, subst, inl, inr, ⊎_elim}
 use Rattle.std.specs.Prelude.{◌⊎◌, slice_get}
 use Rattle.std.proofs.lemmas.Bool.{cases_eq}
 use Rattle.ct_msg.specs.declared.config.Config.{Config}
-use Rattle.ct_merge.proofs.Among.{In}
-use Rattle.ct_rules_node.specs.Node.{Node, Nothing, Committing, Database, is_persistent, kind_at, name_of, db_at, or_untouched, untouched, restarted, restarted_db}
-use Rattle.ct_cluster.specs.Labels.{Label, Stopped}
-use Rattle.ct_register.proofs.Places.{at_same, at_other}
+use Rattle.ct_rules_node.specs.Node.{Node, Committing, Database, is_persistent, kind_at, name_of, db_at, or_untouched, untouched, restarted, restarted_db}
+use Rattle.ct_cluster.specs.Labels.{Stopped}
+use Rattle.ct_register.proofs.Places.{at_other}
 use Rattle.ct_register.specs.Database as register
 use Rattle.ct_register.specs.Lines.{Lines}
 use Rattle.ct_register.specs.Words.{at}

@@ -1,18 +1,16 @@
 -- A ticket is given: its generation is no line yet, so that its members have nothing to have of it.
-use Rattle.std.proofs.Common.{◌≡◌, ◌≢◌, ℕ, zero, suc, ◌+◌, ◌<◌, ◌≤◌, Bool, true, false, List, [], ◌∷◌, ◌++◌, length, Option, None, Some, refl, sym, ap, ◌∙◌, subst, arith, inl, inr, ⊎_elim}
+use Rattle.std.proofs.Common.{◌≡◌, ◌≢◌, ℕ, false, List, [], ◌∷◌, length, Option, None, Some, sym, ap, ◌∙◌, subst, arith, inr, ⊎_elim}
 use Rattle.std.specs.Prelude.{◌⊎◌}
 use Rattle.std.proofs.lemmas.Bool.{cases_eq}
 use Rattle.ct_msg.specs.declared.config.Config.{Config}
 use Rattle.ct_frame.specs.declared.frame.Frame.{Frame}
-use Rattle.ct_merge.proofs.Among.{In}
-use Rattle.ct_rules_node.specs.Node.{Node, Committing, is_among, db_at}
+use Rattle.ct_rules_node.specs.Node.{Node, Committing, db_at}
 use Rattle.ct_cluster.specs.Labels.{Label, Ticket}
-use Rattle.ct_register.proofs.Places.{at_same, at_other}
-use Rattle.ct_register.specs.Database.{Database}
+use Rattle.ct_register.proofs.Places.{at_other}
 use Rattle.ct_register.specs.Lines.{Lines}
 use Rattle.ct_register.specs.Words.{at}
 use Rattle.ct_law_parts.proofs.Parts.{Choice, goes, goes_on, DatabasesNeed, AllNeed}
-use Rattle.ct_law_stores.proofs.Facts.{Has, Gone, Bases, bases, Counted, MayWait, Holds}
+use Rattle.ct_law_stores.proofs.Facts.{Has, Bases, bases, Counted, MayWait, Holds}
 use Rattle.ct_law_stores.proofs.Stores.{Grow, grow_same, lead_later}
 use Rattle.ct_law_kept.proofs.Kept.{Kept}
 

@@ -1,11 +1,8 @@
 -- The parts of steps that leave persistent databases as they are.
-use Rattle.std.proofs.Common.{◌≡◌, ◌≢◌, ℕ, zero, suc, ◌+◌, ◌<◌, ◌≤◌, Bool, true, false, cond, List, [], ◌∷◌, ◌++◌, length, map, append-nil, Option, None, Some, refl, sym, ap, ◌∙◌, subst, inl, inr}
-use Rattle.std.specs.Prelude.{◌⊎◌}
+use Rattle.std.proofs.Common.{◌≡◌, ℕ, ◌+◌, List, [], ◌∷◌, ◌++◌, append-nil, Some, refl, sym, ap, ◌∙◌, subst}
 use Rattle.std.specs.List.{AllByRecursion}
-use Rattle.ct_bytes.specs.declared.address.Address.{Address}
 use Rattle.ct_msg.specs.declared.client.Answer.{Answer}
 use Rattle.ct_msg.specs.declared.client.Answer.TheVariants as answer
-use Rattle.ct_msg.specs.Client.{db_of}
 use Rattle.ct_msg.specs.declared.client.ClientOp.{ClientOp}
 use Rattle.ct_msg.specs.declared.client.Why.{Why}
 use Rattle.ct_msg.specs.declared.config.Config.{Config}
@@ -18,7 +15,6 @@ use Rattle.ct_frame.specs.declared.frame.Msg.TheVariants as msg
 use Rattle.ct_rules_node.specs.Node.{Node, Database, Lead, has_records, kind_at, db_at}
 use Rattle.ct_rules_node.specs.Turn.{Turn, does, with_node, with_lead, with_phase, makes, answers, notes, posts, posts_all}
 use Rattle.ct_rules_node.specs.Node.{Phase}
-use Rattle.ct_rules_node.specs.Clients.{is_commit}
 use Rattle.ct_rules_node.specs.Admission.{record_in}
 use Rattle.ct_law_node.proofs.Pending.{Callers, Known}
 use Rattle.ct_law_plain.proofs.Plainly.{SamePlain, IsOfRecord, AllOfRecords}
@@ -26,7 +22,7 @@ use Rattle.ct_law_callers.proofs.Asked.{IsAsked, AllAsked}
 use Rattle.ct_law_callers.proofs.Known.{Waits}
 use Rattle.ct_law_stores.proofs.Facts.{Has, Bases, Stands, LeadStands}
 use Rattle.ct_law_kept.proofs.Changes.{SameStores}
-use Rattle.ct_law_kept.proofs.Kept.{Calm, IsCalm, calm_same}
+use Rattle.ct_law_kept.proofs.Kept.{Calm, IsCalm}
 use Rattle.ct_law_kept.proofs.Outs.{posted, posted_outs}
 use Rattle.ct_law_kept.proofs.Quiet.{OfRecord, IsQuietNote, IsQuietAnswer}
 

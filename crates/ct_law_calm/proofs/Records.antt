@@ -1,13 +1,11 @@
 -- Steps of records: messages of them, calls on them, what is sent again, a thaw and a vacuum.
-use Rattle.std.proofs.Common.{◌≡◌, ◌≢◌, ℕ, zero, suc, ◌+◌, ◌<◌, ◌≤◌, Bool, true, false, cond, List, [], ◌∷◌, ◌++◌, length, Option, None, Some, refl, sym, ap, ◌∙◌, subst, arith}
+use Rattle.std.proofs.Common.{◌≡◌, ℕ, suc, ◌+◌, Bool, true, false, cond, List, [], ◌∷◌, Option, None, Some, refl, sym, ap, ◌∙◌, subst, arith}
 use Rattle.std.specs.Prelude.{slice_get}
-use Rattle.std.specs.List.{AllByRecursion}
 use Rattle.ct_lcp2.proofs.Choices.{all_append}
 use Rattle.ct_msg.specs.Client.{db_of, key_of, is_read}
 use Rattle.ct_msg.specs.declared.client.ClientOp.{ClientOp}
 use Rattle.ct_msg.specs.declared.client.ClientOp.TheVariants as op
 use Rattle.ct_msg.specs.declared.client.Pair.{Pair}
-use Rattle.ct_msg.specs.declared.client.Why.{Why}
 use Rattle.ct_msg.specs.declared.config.Config.{Config}
 use Rattle.ct_frame.specs.declared.event.Note.TheVariants as note
 use Rattle.ct_frame.specs.declared.event.Out.TheVariants as out
@@ -15,20 +13,20 @@ use Rattle.ct_frame.specs.declared.frame.Frame.{Frame}
 use Rattle.ct_frame.specs.declared.frame.Msg.TheVariants as msg
 use Rattle.ct_call.specs.Rules.{Rules}
 use Rattle.ct_rules.specs.Parts.{want}
-use Rattle.ct_rules.specs.Moves.{store, release, unlock}
-use Rattle.ct_rules_node.specs.Node.{Node, Phase, Serving, Installed, Freezing, Frozen, Database, Committing, is_serving, is_present, is_persistent, kind_at, or_untouched, untouched, db_at}
-use Rattle.ct_rules_node.specs.Turn.{Turn, does, with_phase, makes, notes, posts, posts_all}
+use Rattle.ct_rules_node.specs.Node.{Node, Phase, Serving, Installed, Freezing, Frozen, Database, Committing, is_serving, is_present, is_persistent, kind_at, or_untouched, db_at}
+use Rattle.ct_rules_node.specs.Turn.{Turn, does, with_phase, notes}
 use Rattle.ct_rules_node.specs.Records.{at_record}
 use Rattle.ct_rules_node.specs.Clients.{is_commit, any_locked, frozen_if_unlocked, unlocks, reads, serves}
-use Rattle.ct_rules_node.specs.Rounds.{pending_calls, want_all, thaws, on_thaw}
+use Rattle.ct_rules_node.specs.Rounds.{pending_calls, thaws, on_thaw}
 use Rattle.ct_rules_node.specs.Databases.{read_pair}
 use Rattle.ct_rules_node.specs.Retries.{call_all, revoke_in, update_again, update_in, retry_records, retry}
 use Rattle.ct_rules_node.specs.Steps.{on_record_of, vacuum_all, vacuums}
-use Rattle.ct_law_shown.proofs.Speaking.{want_told, store_told, release_told, unlock_told}
+use Rattle.ct_law_shown.proofs.Speaking.{want_told, store_told, release_told, unlock_told, arrive_told}
 use Rattle.ct_law_node.proofs.Pending.{Callers}
 use Rattle.ct_law_plain.proofs.Plainly.{SamePlain, at_record_plain}
-use Rattle.ct_law_plain.proofs.Events.{want_all_plain, resends_plain, vacuums_plain, on_record_of_plain}
-use Rattle.ct_law_callers.proofs.Asked.{IsAsked, AllAsked, want_all_asked, call_all_asked, revoke_in_asked, vacuum_all_asked, on_record_of_asked, wants_asked, stores_asked, releases_asked, unlocks_asked}
+use Rattle.ct_law_plain.proofs.Events.{want_all_plain, resends_plain, vacuums_plain}
+use Rattle.ct_law_callers.proofs.Asked.{IsAsked, AllAsked, want_all_asked, call_all_asked, revoke_in_asked, vacuum_all_asked, at_record_asked, wants_asked, stores_asked, releases_asked, unlocks_asked}
+use Rattle.ct_law_callers.proofs.Telling.{arrive_tells}
 use Rattle.ct_law_callers.proofs.Known.{Waits, Commits, NodeCalls}
 use Rattle.ct_law_callers.proofs.Whole.{call_all_calls}
 use Rattle.ct_law_stores.proofs.Facts.{Has, Bases, Stands, LeadStands}
@@ -61,7 +59,11 @@ module _ (config : Config) (rules : Rules) (who : Callers) (calls : ℕ) (b : Ba
   -- ---- messages, vacuums and thaws
 
   pub record_calm : (f : Frame) (t : Turn) (r : Option (ℕ × List ℕ)) → Known_at t → Asked t → IsCalmTo t (on_record_of config rules n f t r)
-  record_calm f t r known asked = plain_calm config who b has n t _ (on_record_of_plain config rules n f t r) (on_record_of_asked P Q (IsCallOn config who) of_call config rules n f t r known asked)
+  unfolding on_record_of
+  record_calm f t None known asked = calm_same
+  record_calm f t (Some k) known asked = either_calm _
+      (plain_calm config who b has n t _ (at_record_plain config n k.0 k.1 _ t (λ at o h. arrive_told at rules f.sender f.msg o h))
+      (at_record_asked P Q (IsCallOn config who) of_call config n k.0 k.1 _ t (λ at o v l. arrive_tells (P k.0 k.1) at rules f.sender f.msg o v l) known asked)) calm_same
 
   pub vacuums_calm : (db : ℕ) (t : Turn) → Known_at t → Asked t → IsCalmTo t (vacuums config n db t)
   unfolding vacuums

@@ -1,8 +1,7 @@
 -- What leaders and members do in a round, but for a freeze that is followed, an installation and the birth of a line; and the
 -- steps of takeover runs.
-use Rattle.std.proofs.Common.{◌≡◌, ◌≢◌, ℕ, zero, suc, ◌+◌, ◌<◌, ◌≤◌, Bool, true, false, cond, ◌&&◌, not, List, [], ◌∷◌, ◌++◌, length, Option, None, Some, refl, sym, ap, ◌∙◌, subst, arith, inl, inr}
+use Rattle.std.proofs.Common.{◌≡◌, ◌≢◌, ℕ, ◌+◌, ◌<◌, Bool, true, false, cond, ◌&&◌, List, [], ◌∷◌, length, Some, refl, sym, subst, arith}
 use Rattle.std.specs.Prelude.{slice_get, nat_eq, nat_lt}
-use Rattle.std.specs.List.{filter}
 use Rattle.std.proofs.lemmas.Bool.{and_parts, eqb-true}
 use Rattle.ct_bytes.specs.Words.{others}
 use Rattle.ct_bytes.specs.declared.address.Address.{Address}
@@ -10,21 +9,19 @@ use Rattle.ct_msg.specs.declared.config.Config.{Config}
 use Rattle.ct_frame.specs.declared.event.Note.TheVariants as note
 use Rattle.ct_frame.specs.declared.frame.Assigned.{Assigned}
 use Rattle.ct_frame.specs.declared.frame.Msg.TheVariants as msg
-use Rattle.ct_frame.specs.declared.frame.PTable.{PTable}
 use Rattle.ct_frame.specs.declared.round.Pull.{Pull}
 use Rattle.ct_frame.specs.declared.round.PushBody.{PushBody}
 use Rattle.ct_frame.specs.Fields.{ascends, ptable_before}
 use Rattle.ct_merge.specs.Rule.{ptable_at, is_ptable_at}
-use Rattle.ct_merge.specs.Gathered.{Gathered, gathered, nothing}
+use Rattle.ct_merge.specs.Gathered.{nothing}
 use Rattle.ct_persist.specs.Persisted.{Persisted, listed}
-use Rattle.ct_rules_node.specs.Node.{Node, Lead, Nothing, Freezes, Pulls, Installs, Completed, Takeover, Run, NoRun, Releasing, Taking, is_among, is_frozen_in, is_present_in, is_persistent, kind_at, or_untouched, db_at, is_serving, assigned_all}
-use Rattle.ct_rules_node.specs.Turn.{Turn, with_node, with_lead, makes, notes, posts, posts_all}
-use Rattle.ct_rules_node.specs.Rounds.{begin_round, all_frozen, on_freezeack, ptables_of, table_of, on_pull, all_pulled, on_pullreply, all_installed, on_pushack, completed, releases, push_of}
-use Rattle.ct_rules_node.specs.Takeovers.{send_releases, runs, begin_takeover, has_address, on_release, all_released, released_by, on_releaseack, takes, held_with, on_take, share, assigned_in}
+use Rattle.ct_rules_node.specs.Node.{Node, Lead, Nothing, Freezes, Pulls, Installs, Completed, Takeover, Run, NoRun, Releasing, Taking, is_among, is_frozen_in, is_present_in, is_persistent, kind_at, or_untouched, db_at, assigned_all}
+use Rattle.ct_rules_node.specs.Turn.{Turn, posts}
+use Rattle.ct_rules_node.specs.Rounds.{begin_round, all_frozen, on_freezeack, ptables_of, table_of, on_pull, all_installed, on_pushack, completed, releases, push_of}
+use Rattle.ct_rules_node.specs.Takeovers.{send_releases, runs, begin_takeover, on_release, all_released, released_by, on_releaseack, takes, held_with, on_take, share, assigned_in}
 use Rattle.ct_rules_node.specs.Retries.{retry_run, retry_lead}
-use Rattle.ct_register.specs.Database.{Database}
 use Rattle.ct_law_node.proofs.Pending.{Callers}
-use Rattle.ct_law_stores.proofs.Facts.{Has, Bases, IsTold, Stands, LeadStands, Holds, table_after, after}
+use Rattle.ct_law_stores.proofs.Facts.{Has, Bases, IsTold, Stands, LeadStands, Holds, table_after}
 use Rattle.ct_law_stores.proofs.Pulls.{pulled, only_table, tables_ascend}
 use Rattle.ct_law_kept.proofs.Law.{IsFrozen}
 use Rattle.ct_law_kept.proofs.Kept.{Calm, calm_same, calm_after, either_calm}
@@ -78,25 +75,6 @@ module _ (config : Config) (who : Callers) (b : Bases) (has : Has) (me : ℕ) wh
       by : (c : Bool) → is_frozen_in g t.node.phase ≡ c → IsCalmTo t (cond c (posts g me h (msg.PullReply t.node.generation t.node.pbase (table_of me 0 t.node.dbs) (ptables_of config 0 t.node.dbs) t.node.held) t) t)
       by true e = send_calm config who b has me g h _ t (stands e)
       by false e = calm_same
-
-  all_pulled_calm : (g : ℕ) (members : List ℕ) (x : Gathered) (t : Turn) (missing : List ℕ) → missing ≢ [] → IsCalmTo t (all_pulled me g members x t missing)
-  unfolding all_pulled LeadStands
-  all_pulled_calm g members x t [] more = absurd (more refl)
-  all_pulled_calm g members x t (m ∷ ms) more = lead_calm config who b has me (Pulls g members (m ∷ ms) x) t (λ h. tt)
-
-  -- a reply that is not the last one
-  unfoldable pub NotLast : ℕ → Pull → Lead → Type 0
-  NotLast g pull (Pulls h members missing x) = (nat_eq h g && is_among pull.node missing) ≡ true → others pull.node missing ≢ []
-  NotLast g pull _ = Unit {0}
-
-  pub on_pullreply_calm : (g : ℕ) (pull : Pull) (t : Turn) (l : Lead) → NotLast g pull l → IsCalmTo t (on_pullreply me g pull t l)
-  unfolding on_pullreply NotLast
-  on_pullreply_calm g pull t (Pulls h members missing x) more = by (nat_eq h g && is_among pull.node missing) refl
-    where
-      by : (c : Bool) → (nat_eq h g && is_among pull.node missing) ≡ c → IsCalmTo t (cond c (all_pulled me g members (gathered pull x) t (others pull.node missing)) t)
-      by true e = all_pulled_calm g members (gathered pull x) t (others pull.node missing) (more e)
-      by false e = calm_same
-  on_pullreply_calm g pull t _ more = calm_same
 
   all_installed_calm : (g h : ℕ) (members ms : List ℕ) (body : PushBody) (t : Turn) (missing : List ℕ) → h ≡ g → t.node.lead ≡ Installs h members ms body → IsCalmTo t (all_installed config me g members body t missing)
   unfolding all_installed LeadStands Stands

@@ -1,5 +1,5 @@
 -- A message comes to a node.
-use Rattle.std.proofs.Common.{◌≡◌, ◌≢◌, ℕ, zero, suc, ◌+◌, ◌<◌, Bool, true, false, cond, List, [], ◌∷◌, ◌++◌, length, Option, None, Some, refl, sym, ap, ◌∙◌, subst, arith}
+use Rattle.std.proofs.Common.{◌≡◌, ℕ, Bool, true, false, cond, List, [], ◌∷◌, Some, refl, sym, ap, ◌∙◌, subst, arith}
 use Rattle.std.specs.Prelude.{◌&&◌, nat_eq, nat_lt}
 use Rattle.std.specs.List.{AllByRecursion}
 use Rattle.std.proofs.lemmas.Bool.{and_parts, eqb-true}
@@ -19,12 +19,11 @@ use Rattle.ct_frame.specs.declared.round.Pull.{Pull}
 use Rattle.ct_call.specs.Rules.{Rules}
 use Rattle.ct_merge.proofs.Among.{In}
 use Rattle.ct_merge.specs.Gathered.{Gathered, gathered, finished}
-use Rattle.ct_rules_node.specs.Node.{Node, Lead, Pulls, Committing, is_among, is_present, is_present_in, is_frozen_in, is_persistent, kind_at, db_at}
-use Rattle.ct_rules_node.specs.Turn.{Turn, begins, posts}
+use Rattle.ct_rules_node.specs.Node.{Node, Lead, Pulls, Committing, is_among, is_present_in, is_frozen_in, is_persistent, kind_at, db_at}
+use Rattle.ct_rules_node.specs.Turn.{Turn, begins}
 use Rattle.ct_rules_node.specs.Admission.{record_in, is_current, is_sound}
-use Rattle.ct_rules_node.specs.Clients.{frozen_if_unlocked}
 use Rattle.ct_rules_node.specs.Databases.{on_pupdate, on_pack}
-use Rattle.ct_rules_node.specs.Rounds.{freezes, ends_commits, on_freeze, on_pull, installs, on_push, body_of, pushes, all_pulled, on_pullreply}
+use Rattle.ct_rules_node.specs.Rounds.{on_freeze, on_pull, on_push, body_of, pushes, all_pulled, on_pullreply}
 use Rattle.ct_rules_node.specs.Steps.{if_persistent, if_sound, if_taken_over, arrives}
 use Rattle.ct_cluster.specs.Labels.{Answered}
 use Rattle.ct_cluster.specs.declared.step.PendingCall.{PendingCall}
@@ -34,9 +33,9 @@ use Rattle.ct_law_shown.specs.Shown.{labels_of}
 use Rattle.ct_law_shown.specs.Waiting.{answered}
 use Rattle.ct_law_node.proofs.Pending.{Callers, Fits}
 use Rattle.ct_law_callers.proofs.Known.{NodeCalls}
-use Rattle.ct_law_stores.proofs.Facts.{Has, Gone, Bases, bases, Stands, LeadStands}
+use Rattle.ct_law_stores.proofs.Facts.{Has, Gone, bases, Stands, LeadStands}
 use Rattle.ct_law_kept.proofs.Kept.{Calm, frame_list, calm_same, either_calm}
-use Rattle.ct_law_kept.proofs.Law.{LeadSays, Gathers, reply_of}
+use Rattle.ct_law_kept.proofs.Law.{LeadSays, reply_of}
 use Rattle.ct_law_commit.proofs.Update as update
 use Rattle.ct_law_commit.proofs.Update.{IsIn, pupdate_holds}
 use Rattle.ct_law_commit.proofs.Ack.{pack_holds}
@@ -46,7 +45,7 @@ use Rattle.ct_law_bases.proofs.Install.{push_holds}
 use Rattle.ct_law_bases.proofs.Round.{round_holds}
 use Rattle.ct_law_calm.proofs.Parts.{send_calm, lead_calm}
 use Rattle.ct_law_calm.proofs.Records.{record_calm, on_thaw_calm}
-use Rattle.ct_law_calm.proofs.Rounds.{NotLast, pull_stands, on_freezeack_calm, on_pull_calm, on_pullreply_calm, on_pushack_calm, on_release_calm, on_releaseack_calm, on_take_calm}
+use Rattle.ct_law_calm.proofs.Rounds.{pull_stands, on_freezeack_calm, on_pull_calm, on_pushack_calm, on_release_calm, on_releaseack_calm, on_take_calm}
 use Rattle.ct_law_stored.proofs.Before.{Before, Goes, calm_goes, is_in, waits_in_line, present_in, frozen_quiet}
 
 current_present : (f : Frame) (x : Node) → is_current f x ≡ true → is_present_in f.generation x ≡ true

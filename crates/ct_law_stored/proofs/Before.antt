@@ -1,6 +1,6 @@
 -- What the law of persistent databases needs before a step, and what a step is to keep.
-use Rattle.std.proofs.Common.{◌≡◌, ◌≢◌, ℕ, Bool, true, false, List, [], ◌∷◌, ◌++◌, length, Option, None, Some, refl, sym, ap, ◌∙◌, subst}
-use Rattle.std.specs.Prelude.{◌&&◌, is_some, nat_eq}
+use Rattle.std.proofs.Common.{◌≡◌, ℕ, true, false, List, [], ◌++◌, Option, None, Some, refl, ap, ◌∙◌}
+use Rattle.std.specs.Prelude.{is_some, nat_eq}
 use Rattle.std.specs.List.{AllByRecursion}
 use Rattle.std.proofs.lemmas.Bool.{and_parts, eqb-true}
 use Rattle.ct_msg.specs.declared.config.Config.{Config}
@@ -15,9 +15,8 @@ use Rattle.ct_register.specs.Words.{at}
 use Rattle.ct_law_shown.specs.Shown.{labels_of}
 use Rattle.ct_law_node.proofs.Pending.{Callers, Fits}
 use Rattle.ct_law_plain.proofs.Locked.{CommitLocked, waits_in, commit_locked, none_waits}
-use Rattle.ct_law_parts.proofs.Parts.{Choice}
-use Rattle.ct_law_stores.proofs.Facts.{Has, Gone, Bases, bases, owners, MailStands, Holds, Settled}
-use Rattle.ct_law_kept.proofs.Kept.{Calm, Kept, frame_list, calm_same, calm_kept}
+use Rattle.ct_law_stores.proofs.Facts.{Has, Gone, bases, owners, MailStands, Holds, Settled}
+use Rattle.ct_law_kept.proofs.Kept.{Calm, Kept, frame_list, calm_kept}
 use Rattle.ct_law_kept.proofs.Law.{RoundsHold, LockLaw}
 use Rattle.ct_law_kept.proofs.Quiet.{IsQuiet}
 use Rattle.ct_law_kept.proofs.Settling.{AllLocked}

@@ -1,8 +1,7 @@
 -- A client's call comes to a node.
-use Rattle.std.proofs.Common.{◌≡◌, ◌≢◌, ℕ, zero, suc, ◌+◌, ◌<◌, Bool, true, false, cond, ◌||◌, List, [], ◌∷◌, ◌++◌, length, Option, None, Some, refl, sym, ap, ◌∙◌, subst, arith, inl, inr, ⊎_elim}
-use Rattle.std.specs.Prelude.{◌⊎◌, ◌&&◌, is_some, nat_le, ◌^◌}
+use Rattle.std.proofs.Common.{◌≡◌, ℕ, ◌+◌, Bool, true, false, cond, List, [], ◌∷◌, ◌++◌, length, Option, None, Some, refl, sym, ap, ◌∙◌, subst, arith, ⊎_elim}
+use Rattle.std.specs.Prelude.{◌⊎◌, is_some}
 use Rattle.std.specs.List.{AllByRecursion}
-use Rattle.std.proofs.lemmas.Bool.{cases_Bool}
 use Rattle.ct_bytes.specs.Words.{others}
 use Rattle.ct_msg.specs.Client.{db_of, key_of, is_read}
 use Rattle.ct_msg.specs.declared.client.Answer.{Answer}
@@ -13,17 +12,15 @@ use Rattle.ct_msg.specs.declared.client.Pair.{Pair}
 use Rattle.ct_msg.specs.declared.client.Why.{Why}
 use Rattle.ct_msg.specs.declared.config.Config.{Config}
 use Rattle.ct_frame.specs.declared.event.Out.{Out}
-use Rattle.ct_frame.specs.declared.event.Out.TheVariants as out
 use Rattle.ct_frame.specs.declared.frame.Frame.{Frame}
-use Rattle.ct_frame.specs.declared.frame.Msg.{Msg}
 use Rattle.ct_frame.specs.declared.frame.Msg.TheVariants as msg
 use Rattle.ct_call.specs.Rules.{Rules}
 use Rattle.ct_persist.specs.Commits.{commit_begun}
 use Rattle.ct_persist.specs.Persisted.{fits}
 use Rattle.ct_rules.specs.Parts.{want}
 use Rattle.ct_rules_node.specs.Records.{at_record}
-use Rattle.ct_rules_node.proofs.Refusals.{first_none, not_refused, required}
-use Rattle.ct_rules_node.specs.Node.{Node, Phase, Serving, Committing, is_serving, is_present, is_among, is_persistent, kind_at, name_of, db_at}
+use Rattle.ct_rules_node.proofs.Refusals.{first_none, required}
+use Rattle.ct_rules_node.specs.Node.{Node, Phase, Serving, is_serving, is_present, is_among, is_persistent, kind_at, name_of, db_at}
 use Rattle.ct_rules_node.specs.Turn.{Turn, begins, does, makes, answers, posts, posts_all, with_node}
 use Rattle.ct_rules_node.specs.Refusals.{refused_if}
 use Rattle.ct_rules_node.specs.Databases.{updates, with_commit, awaits_others, commits_at, commit, read_pair}
@@ -41,7 +38,7 @@ use Rattle.ct_law_shown.specs.Waiting.{answered}
 use Rattle.ct_law_node.proofs.Pending.{Callers, Fits}
 use Rattle.ct_law_callers.proofs.Known.{Waits, Commits, NodeCalls}
 use Rattle.ct_law_callers.proofs.Whole.{IsNew}
-use Rattle.ct_law_stores.proofs.Facts.{Has, Gone, Bases, bases, owners, WaitsIn}
+use Rattle.ct_law_stores.proofs.Facts.{Has, Gone, bases, owners, WaitsIn}
 use Rattle.ct_law_kept.proofs.Kept.{Calm, frame_list, calm_after}
 use Rattle.ct_law_kept.proofs.Outs.{posted_outs}
 use Rattle.ct_law_kept.proofs.Settling.{waiting_owns}

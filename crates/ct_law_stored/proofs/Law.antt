@@ -1,10 +1,9 @@
 -- The law of persistent databases: whatever step is taken, its labels need no more of them than what holds, and that holds after it.
-use Rattle.std.proofs.Common.{◌≡◌, ℕ, List, ◌++◌, map, sym, subst}
+use Rattle.std.proofs.Common.{◌≡◌, ℕ, List, sym, subst}
 use Rattle.std.specs.Prelude.{Ok}
 use Rattle.ct_msg.specs.declared.config.Config.{Config}
-use Rattle.ct_frame.specs.declared.frame.Frame.{Frame}
 use Rattle.ct_call.specs.Rules.{Rules}
-use Rattle.ct_cluster.specs.Cluster.{Cluster, Sent}
+use Rattle.ct_cluster.specs.Cluster.{Cluster}
 use Rattle.ct_cluster.specs.Labels.{Label}
 use Rattle.ct_cluster.specs.Steps.{Stepped, applied}
 use Rattle.ct_cluster.specs.declared.step.Step.{Step}
@@ -16,7 +15,7 @@ use Rattle.ct_law_stores.proofs.Facts.{Has, Gone, bases, owners, MailStands, Sto
 use Rattle.ct_law_kept.proofs.Kept.{Kept}
 use Rattle.ct_law_kept.proofs.Law.{LockLaw, LockStep, LocksEnd}
 use Rattle.ct_law_kept.proofs.Settling.{settled_after, mail_after}
-use Rattle.ct_law_stored.proofs.Steps.{ClusterBefore, StepGoes, nodes_of, frames_in, step_goes}
+use Rattle.ct_law_stored.proofs.Steps.{ClusterBefore, nodes_of, frames_in, step_goes}
 
 -- What a step from w to v that tells these labels keeps, with this choice: what they need holds; and where the locks of the registers
 -- after it are as the law of records says, databases are as the law says, where nodes have so many commits.

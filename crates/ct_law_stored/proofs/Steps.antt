@@ -1,17 +1,14 @@
 -- Every step of the cluster: what it tells needs no more of persistent databases than what holds, and that holds after it.
-use Rattle.std.proofs.Common.{◌≡◌, ◌≢◌, ℕ, zero, suc, ◌+◌, ◌<◌, ◌≤◌, Bool, true, false, cond, List, [], ◌∷◌, ◌++◌, length, map, set, append-nil, Option, None, Some, refl, sym, ap, ◌∙◌, subst, arith, inl, inr, ⊎_elim}
-use Rattle.std.specs.Prelude.{◌⊎◌, Ok, Err, slice_get, nat_eq}
+use Rattle.std.proofs.Common.{◌≡◌, ◌≢◌, ℕ, zero, suc, ◌+◌, ◌<◌, Bool, true, false, cond, List, [], ◌∷◌, ◌++◌, length, map, set, append-nil, Option, None, Some, refl, sym, ap, ◌∙◌, subst, arith, inl, inr, ⊎_elim}
+use Rattle.std.specs.Prelude.{◌⊎◌, Ok, slice_get}
 use Rattle.std.specs.List.{AllByRecursion}
-use Rattle.std.proofs.lemmas.Bool.{cases_eq, cases_Bool, eq-eqb}
-use Rattle.std.proofs.lemmas.List.{length-set}
+use Rattle.std.proofs.lemmas.Bool.{cases_eq, eq-eqb}
 use Rattle.ct_msg.specs.declared.client.Answer.{Answer}
 use Rattle.ct_msg.specs.declared.client.ClientOp.{ClientOp}
 use Rattle.ct_msg.specs.declared.client.ClientOp.TheVariants as op
 use Rattle.ct_msg.specs.declared.config.Config.{Config}
 use Rattle.ct_frame.specs.declared.event.Event.{Event}
 use Rattle.ct_frame.specs.declared.event.Event.TheVariants as event
-use Rattle.ct_frame.specs.declared.event.Out.{Out}
-use Rattle.ct_frame.specs.declared.event.Out.TheVariants as out
 use Rattle.ct_frame.specs.declared.frame.Frame.{Frame}
 use Rattle.ct_call.specs.Rules.{Rules}
 use Rattle.ct_merge.proofs.Among.{In}
@@ -40,16 +37,15 @@ use Rattle.ct_law_node.proofs.Putting.{own_node, other_node}
 use Rattle.ct_law_cluster.proofs.Fed.{fed_is}
 use Rattle.ct_law_cluster.proofs.Faulting.{runs}
 use Rattle.ct_law_callers.proofs.Calling.{called, more_calls, new_known}
-use Rattle.ct_law_callers.proofs.Known.{NodeCalls, pending_known, commit_answered}
+use Rattle.ct_law_callers.proofs.Known.{pending_known, commit_answered}
 use Rattle.ct_law_callers.proofs.Reached.{AllKnown}
-use Rattle.ct_law_stores.proofs.Facts.{Has, Gone, Bases, bases, owners}
+use Rattle.ct_law_stores.proofs.Facts.{Has, Gone, bases, owners}
 use Rattle.ct_law_kept.proofs.Kept.{frame_list}
 use Rattle.ct_law_kept.proofs.Quiet.{IsQuiet, yielded_quiet, started_quiet}
 use Rattle.ct_law_kept.proofs.Kept.{calm_same}
 use Rattle.ct_law_kept.proofs.Settling.{waiting_owns}
 use Rattle.ct_law_bases.proofs.Read.{at_own}
 use Rattle.ct_law_bases.proofs.Stop.{stop_holds}
-use Rattle.ct_law_commit.proofs.Update.{IsIn}
 use Rattle.ct_law_stored.proofs.Before.{Before, Goes, calm_goes, waits_in_line}
 use Rattle.ct_law_stored.proofs.Arrivals.{arrives_goes}
 use Rattle.ct_law_stored.proofs.Clients.{client_goes}

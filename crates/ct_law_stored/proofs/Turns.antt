@@ -1,5 +1,5 @@
 -- What is sent again, a vacuum, and what begins a round or a takeover run.
-use Rattle.std.proofs.Common.{◌≡◌, ◌≢◌, ℕ, zero, suc, ◌+◌, ◌<◌, Bool, true, false, List, [], ◌∷◌, ◌++◌, length, Option, None, Some, refl, sym, ap, ◌∙◌, subst, arith}
+use Rattle.std.proofs.Common.{◌≡◌, ℕ, ◌+◌, true, false, List, [], ◌∷◌, ◌++◌, Option, None, Some, refl, sym, subst, arith}
 use Rattle.std.specs.Prelude.{slice_get}
 use Rattle.std.specs.List.{AllByRecursion}
 use Rattle.ct_msg.specs.declared.config.Config.{Config}
@@ -14,21 +14,20 @@ use Rattle.ct_rules_node.specs.Retries.{retry}
 use Rattle.ct_rules_node.specs.Steps.{vacuums}
 use Rattle.ct_cluster.specs.Labels.{Label, Ticket, Takeover}
 use Rattle.ct_cluster.specs.declared.step.PendingCall.{PendingCall}
-use Rattle.ct_register.specs.Database.{Database}
 use Rattle.ct_register.specs.Lines.{Lines}
 use Rattle.ct_register.specs.Words.{at}
 use Rattle.ct_law_shown.specs.Shown.{labels_of}
 use Rattle.ct_law_node.proofs.Pending.{Callers, Fits}
 use Rattle.ct_law_callers.proofs.Known.{NodeCalls}
 use Rattle.ct_law_parts.proofs.Parts.{Choice}
-use Rattle.ct_law_stores.proofs.Facts.{Has, Gone, Bases, bases, Stands, Waits, MayWait, Holds}
+use Rattle.ct_law_stores.proofs.Facts.{Has, Gone, bases, Stands, Waits, MayWait, Holds}
 use Rattle.ct_law_kept.proofs.Kept.{frame_list, calm_kept}
 use Rattle.ct_law_kept.proofs.Lists.{newest_at}
 use Rattle.ct_law_kept.proofs.Quiet.{takeover_quiet}
 use Rattle.ct_law_bases.proofs.Ticket.{told, ticket_holds, ticket_kept}
 use Rattle.ct_law_calm.proofs.Records.{UpdatesStand, retry_calm, vacuums_calm}
 use Rattle.ct_law_calm.proofs.Rounds.{begin_round_calm, begin_takeover_calm}
-use Rattle.ct_law_stored.proofs.Before.{Before, Goes, calm_goes, is_in, waits_in_line}
+use Rattle.ct_law_stored.proofs.Before.{Before, Goes, calm_goes, waits_in_line}
 
 module _ (config : Config) (rules : Rules) (who : Callers) (calls : ℕ) (nodes : ℕ → Node) (fs : List Frame) (r : Lines) (has : Has) (gone : Gone) (n : ℕ) (pend : List PendingCall) (b : Before config nodes fs r has gone)
     (known : NodeCalls config who calls n (nodes n)) (fits : AllByRecursion (Fits who) pend) where
