@@ -22,7 +22,7 @@ use Rattle.ct_rules_node.specs.Turn.{Turn}
 use Rattle.ct_rules_node.specs.Records.{out_of, place_of, view, acted, at_record}
 use Rattle.ct_rules_node.specs.Rounds.{Called, want_again, want_all}
 use Rattle.ct_rules_node.specs.Retries.{call_all, revoke_all, revoke_in}
-use Rattle.ct_rules_node.specs.Steps.{on_record_of, vacuum_all}
+use Rattle.ct_rules_node.specs.Steps.{vacuum_all}
 use Rattle.ct_law_wish.proofs.Wishing.{Wishful, vacuum_wish}
 use Rattle.ct_law_callers.proofs.Waiting.{calls_at, look_wish, at_record_calls}
 use Rattle.ct_law_callers.proofs.Telling.{IsOf, Ofs, want_tells, store_tells, release_tells, unlock_tells, vacuum_tells, call_again_tells, revoke_again_tells, arrive_tells, want_again_tells}
@@ -83,15 +83,6 @@ module _ (P : ℕ → List ℕ → ℕ → ClientOp → Type 0) (Q : ℕ → ℕ
   vacuum_all_asked c me db [] t calls h = h
   vacuum_all_asked c me db (e ∷ m) t calls h = vacuum_all_asked c me db m _ (at_record_calls P Q c me db e.0 _ t (λ at o k. vacuum_wish (P db e.0) at (others me t.node.members) o k) calls)
       (at_record_asked c me db e.0 _ t (λ at o v k. vacuum_tells (P db e.0) at (others me t.node.members) o k) calls h)
-
-  pub on_record_of_asked : (c : Config) (rules : Rules) (me : ℕ) (f : Frame) (t : Turn) (r : Option (ℕ × List ℕ)) → CallsAre P Q t.node → AllAsked R t.outs → AllAsked R (on_record_of c rules me f t r).outs
-  unfolding on_record_of
-  on_record_of_asked c rules me f t None calls h = h
-  on_record_of_asked c rules me f t (Some r) calls h = either_asked _ _ _ (at_record_asked c me r.0 r.1 _ t (λ at o v k. arrive_tells (P r.0 r.1) at rules f.sender f.msg o v k) calls h) h
-    where
-      either_asked : (b : Bool) (u v : Turn) → AllAsked R u.outs → AllAsked R v.outs → AllAsked R (cond b u v).outs
-      either_asked true u v k l = k
-      either_asked false u v k l = l
 
   -- the call of the event, where it has what calls that wait have
   pub wants_asked : (c : Config) (rules : Rules) (me call db : ℕ) (key : List ℕ) (asked : ClientOp) (t : Turn) → P db key call asked → CallsAre P Q t.node → AllAsked R t.outs → AllAsked R (at_record c me db key (λ at o. want at rules call asked o) t).outs

@@ -71,7 +71,7 @@ module _ (P : ℕ → List ℕ → ℕ → ClientOp → Type 0) (Q : ℕ → ℕ
   want_all_calls c rules me [] t h = h
   want_all_calls c rules me (x ∷ xs) t h = want_all_calls c rules me xs _ (at_record_calls P Q c me x.db x.key (want_again rules) t (want_again_calls x.db x.key rules) h)
 
-  call_all_calls : (c : Config) (me : ℕ) (xs : List Called) (t : Turn) → CallsAre t.node → CallsAre (call_all c me xs t).node
+  pub call_all_calls : (c : Config) (me : ℕ) (xs : List Called) (t : Turn) → CallsAre t.node → CallsAre (call_all c me xs t).node
   unfolding call_all
   call_all_calls c me [] t h = h
   call_all_calls c me (x ∷ xs) t h = call_all_calls c me xs _ (at_record_calls P Q c me x.db x.key call_again t (call_again_calls x.db x.key) h)

@@ -200,11 +200,11 @@ module _ (config : Config) (who : Callers) (x : Choice) (nodes : ℕ → Node) (
 
   pack_case : (o : Option Committing) → (db_at db (nodes n)).commit ≡ o → ((z : Committing) → o ≡ Some z → (a : Answer) → answered z.call a calls ≡ Answered n (op.Commit db z.writes) a ∷ []) → Kept_by (on_pack_of from db seq begins o)
   unfolding on_pack_of with_commit with_node labels_of frames_of
-  pack_case None is told = calm_kept config who x nodes r has n begins begins [] [] h refl refl tt tt calm_same
-  pack_case (Some z) is told = by (completes from seq z.pending) refl
+  pack_case None is label = calm_kept config who x nodes r has n begins begins [] [] h refl refl tt tt calm_same
+  pack_case (Some z) is label = by (completes from seq z.pending) refl
     where
       by : (c : Bool) → completes from seq z.pending ≡ c → Kept_by (cond c (answers z.call (answer.Committed seq) (record { node = with_this None; outs = []; spent = sp })) (record { node = with_this (Some (record z { pending = applied_by from seq z.pending })); outs = []; spent = sp }))
-      by true e = last_kept z is e (told z refl (answer.Committed seq))
+      by true e = last_kept z is e (label z refl (answer.Committed seq))
       by false e = applied_kept z is e
 
   -- an acknowledgement that comes, where an answer to a commit that waits is told as one to its call

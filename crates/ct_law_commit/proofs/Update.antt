@@ -41,7 +41,7 @@ pub record IsIn (config : Config) (nodes : ℕ → Node) (r : Lines) (n db : ℕ
 pub store_in : (config : Config) (nodes : ℕ → Node) (r : Lines) (has : Has) (n db : ℕ) → Holds config nodes (bases r) has → IsIn config nodes r n db → (db_at db (nodes n)).store ≡ after (has (r.line n) n db) (r.databases (r.line n) db)
 store_in config nodes r has n db h b = h.stores n db b.kind (λ z. b.there.line (b.installed ∙ z)) ∙ subst (λ (g : ℕ). after (has g n db) (r.databases g db) ≡ after (has (r.line n) n db) (r.databases (r.line n) db)) b.installed refl
 
-module _ (config : Config) (x : Choice) (nodes : ℕ → Node) (r : Lines) (has : Has) (n from db seq : ℕ) (ws : List Pair) (sp : Bool) (calls : List PendingCall) (h : Holds config nodes (bases r) has) (b : IsIn config nodes r n db)
+module _ (config : Config) (nodes : ℕ → Node) (r : Lines) (has : Has) (n from db seq : ℕ) (ws : List Pair) (sp : Bool) (calls : List PendingCall) (h : Holds config nodes (bases r) has) (b : IsIn config nodes r n db)
     (says : Stands config (bases r) has (r.line n) from (msg.PUpdate db seq ws)) where
   abbrev pub d : Database
   d = r.databases (r.line n) db
@@ -110,29 +110,30 @@ module _ (config : Config) (x : Choice) (nodes : ℕ → Node) (r : Lines) (has 
     still = λ m ne z w. still m z w;
   }
 
-  abbrev Kept_by : Turn → Type 0
-  Kept_by u = Kept config x nodes (at n u.node nodes) r has more (labels_of n calls u.outs) (frame_list u.outs)
+  module _ (x : Choice) where
+    abbrev Kept_by : Turn → Type 0
+    Kept_by u = Kept config x nodes (at n u.node nodes) r has more (labels_of n calls u.outs) (frame_list u.outs)
 
-  -- whatever it sends that stands and tells nothing
-  update_kept : (outs : List Out) → labels_of n calls outs ≡ [] → AllByRecursion (OutStands config (bases r) more) outs → (sq : Bool) → Kept_by (record { node = updated_node; outs = outs; spent = sq })
-  unfolding AllNeed goes_on
-  update_kept outs none stand sq = subst (λ (l : List Label). Kept config x nodes (at n updated_node nodes) r has more l (frame_list outs)) (sym none)
-      (changes_kept config x nodes r has more n db updated_node r.databases [] (frame_list outs) h update_changes refl tt (frames_stand config (bases r) more outs stand) b.present
-      (λ later ends. settles_same config nodes (at n updated_node nodes) (bases r) (bases r) later (r.line n) db refl (waits_same nodes r.line n updated_node (r.line n) db (ap (λ (y : node.Database). y.commit) updated_here)))
-      (inl refl))
+    -- whatever it sends that stands and tells nothing
+    update_kept : (outs : List Out) → labels_of n calls outs ≡ [] → AllByRecursion (OutStands config (bases r) more) outs → (sq : Bool) → Kept_by (record { node = updated_node; outs = outs; spent = sq })
+    unfolding AllNeed goes_on
+    update_kept outs none stand sq = subst (λ (l : List Label). Kept config x nodes (at n updated_node nodes) r has more l (frame_list outs)) (sym none)
+        (changes_kept config x nodes r has more n db updated_node r.databases [] (frame_list outs) h update_changes refl tt (frames_stand config (bases r) more outs stand) b.present
+        (λ later ends. settles_same config nodes (at n updated_node nodes) (bases r) (bases r) later (r.line n) db refl (waits_same nodes r.line n updated_node (r.line n) db (ap (λ (y : node.Database). y.commit) updated_here)))
+        (inl refl))
 
-  ack_stands : seq ≤ (db_at db updated_node).store.seq → Stands config (bases r) more updated_node.generation n (msg.PAck db seq)
-  unfolding Stands with_db
-  ack_stands low =
-      let e : (db_at db updated_node).store.seq ≡ d.seq + comes.0 = ap (λ (y : node.Database). y.store.seq) updated_here ∙ ap (λ (p : Persisted). p.seq) comes.3 in
-      subst (λ (g : ℕ). (r.born g ≡ true) × (seq ≤ (r.databases g db).seq + more g n db)) (sym b.there.generation) (b.born, (let k = more_here in omega arith))
+    ack_stands : seq ≤ (db_at db updated_node).store.seq → Stands config (bases r) more updated_node.generation n (msg.PAck db seq)
+    unfolding Stands with_db
+    ack_stands low =
+        let e : (db_at db updated_node).store.seq ≡ d.seq + comes.0 = ap (λ (y : node.Database). y.store.seq) updated_here ∙ ap (λ (p : Persisted). p.seq) comes.3 in
+        subst (λ (g : ℕ). (r.born g ≡ true) × (seq ≤ (r.databases g db).seq + more g n db)) (sym b.there.generation) (b.born, (let k = more_here in omega arith))
 
-  acks_kept : (sq c : Bool) → nat_le seq (db_at db updated_node).store.seq ≡ c → Kept_by (cond c (posts updated_node.generation n from (msg.PAck db seq) (record { node = updated_node; outs = []; spent = sq })) (record { node = updated_node; outs = []; spent = sq }))
-  unfolding posts does labels_of sent_label OutStands
-  acks_kept sq true e = update_kept _ refl (ack_stands (leb-true seq (db_at db updated_node).store.seq e), tt) sq
-  acks_kept sq false e = update_kept [] refl tt sq
+    acks_kept : (sq c : Bool) → nat_le seq (db_at db updated_node).store.seq ≡ c → Kept_by (cond c (posts updated_node.generation n from (msg.PAck db seq) (record { node = updated_node; outs = []; spent = sq })) (record { node = updated_node; outs = []; spent = sq }))
+    unfolding posts does labels_of sent_label OutStands
+    acks_kept sq true e = update_kept _ refl (ack_stands (leb-true seq (db_at db updated_node).store.seq e), tt) sq
+    acks_kept sq false e = update_kept [] refl tt sq
 
-  -- an update that comes
-  pub pupdate_holds : Kept_by (on_pupdate n from db seq ws begins)
-  unfolding on_pupdate acknowledges updates with_node
-  pupdate_holds = acks_kept sp (nat_le seq (db_at db updated_node).store.seq) refl
+    -- an update that comes
+    pub pupdate_holds : Kept_by (on_pupdate n from db seq ws begins)
+    unfolding on_pupdate acknowledges updates with_node
+    pupdate_holds = acks_kept sp (nat_le seq (db_at db updated_node).store.seq) refl

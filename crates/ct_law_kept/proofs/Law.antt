@@ -23,9 +23,10 @@ pub record IsThere (config : Config) (b : Bases) (n : ℕ) (x : Node) : Type 0 w
   pub members : x.members ≡ b.members (b.line n)
   pub size : length x.dbs ≡ length config.dbs
 
--- a node that is frozen for generation g has installed older ones alone
+-- a node that is frozen for generation g has installed older ones alone, and at least one
 pub record IsFrozen (config : Config) (b : Bases) (g n : ℕ) (x : Node) : Type 0 where
   pub older : b.pline n < g
+  pub based : b.pline n ≢ 0
   pub base : x.pbase ≡ b.pline n
   pub size : length x.dbs ≡ length config.dbs
 
@@ -70,11 +71,13 @@ pub record RoundsHold (config : Config) (nodes : ℕ → Node) (fs : List Frame)
 
 -- ---- locks
 
--- who owns the lock of a database is a member, in the line; where it is locked its node owns it; and nobody owns it who is gone
+-- who owns the lock of a database is a member, in the line; where it is locked its node owns it; and nobody owns one that is gone. No
+-- record of a persistent database is locked.
 pub record LockLaw (config : Config) (nodes : ℕ → Node) (b : Bases) (gone : Gone) (owner : Owners) : Type 0 where
   pub ended : (g db : ℕ) → gone g (name_of config db) ≡ true → owner g db ≡ None
   pub locks : (n db : ℕ) → is_persistent (kind_at config db) ≡ true → is_locked 0 (name_of config db) (nodes n) ≡ true → owner (b.line n) db ≡ Some n
   pub owns : (g db n : ℕ) → owner g db ≡ Some n → (b.line n ≡ g) × (is_among n (b.members g) ≡ true)
+  pub unlocked : (n db : ℕ) (key : List ℕ) → is_persistent (kind_at config db) ≡ true → is_locked db key (nodes n) ≡ false
 
 -- what is gone stays so, and in one step a lock goes from no node to another
 pub record LockStep (gone later : Gone) (owner then : Owners) : Type 0 where

@@ -8,3 +8,4 @@ pub mod Taking
 pub mod Births
 pub mod Pulls
 pub mod Merged
+pub mod Merges

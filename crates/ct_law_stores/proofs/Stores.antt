@@ -12,7 +12,7 @@ use Rattle.ct_persist.specs.Updates.{contents}
 use Rattle.ct_register.specs.Database.{Database, contents_after}
 use Rattle.ct_rules_node.specs.Node.{Lead, Installs}
 use Rattle.ct_rules_node.specs.Rounds.{push_of}
-use Rattle.ct_law_stores.proofs.Facts.{Has, Bases, after, Stands, LeadStands}
+use Rattle.ct_law_stores.proofs.Facts.{Has, Bases, after, Stands, IsTold, LeadStands}
 
 -- ---- one commit more
 
@@ -74,9 +74,10 @@ stands_later config r s has more g n (msg.PAck db seq) grow within still h =
     (grow.born g h.0, (let same = (grow.databases g db h.0).seq in let le = h.1 in let up = grow.rises g n db in omega arith))
 stands_later config r s has more g n (msg.PullReply vbase pbase table ptables addresses) grow within still h = (
   grow.born pbase h.0,
-  λ db p. h.1 db p ∙ sym (ap (λ (q : Persisted). Some (record { db = db; seq = q.seq; pairs = listed q.pairs }))
-      (ap (λ (j : ℕ). after j (s.databases pbase db)) (still db) ∙
-      after_same (has pbase n db) (r.databases pbase db) (s.databases pbase db) ((grow.databases pbase db h.0).seq) ((grow.databases pbase db h.0).base) ((grow.databases pbase db h.0).first (has pbase n db) (within pbase db n)))),
+  h.1,
+  λ db p. subst (λ (q : Persisted). IsTold (record { db = db; seq = q.seq; pairs = listed q.pairs }) ptables)
+      (sym (ap (λ (j : ℕ). after j (s.databases pbase db)) (still db) ∙
+      after_same (has pbase n db) (r.databases pbase db) (s.databases pbase db) (grow.databases pbase db h.0).seq (grow.databases pbase db h.0).base ((grow.databases pbase db h.0).first (has pbase n db) (within pbase db n)))) (h.2 db p),
 )
 stands_later config r s has more g n (msg.Push members table ptables assigned) grow within still h =
     (grow.born g h.0, λ db p is. h.1 db p is ∙ (λ i. record { seq = sym ((grow.databases g db h.0).seq) i; pairs = sym ((grow.databases g db h.0).base) i }))
