@@ -1,6 +1,6 @@
 pub mod Fields
 pub mod Headers
-mod InPieces
+pub mod InPieces
 pub mod Lists
 pub mod Messages
 pub mod Tables
