@@ -1,5 +1,5 @@
 -- Where fields that keep their rules lead a reader of bytes.
-use Rattle.std.proofs.Common.{◌≡◌, ℕ, ◌<◌, true, false, leb, eqb, List, [], ◌++◌, length, refl, sym, ap, ◌∙◌, arith}
+use Rattle.std.proofs.Common.{◌≡◌, ℕ, ◌<◌, true, false, leb, eqb, List, [], ◌++◌, refl, sym, ap, ◌∙◌, arith}
 use Rattle.std.proofs.lemmas.Bool.{eq-eqb, le-leb, lt-leb, ne_eqb}
 use Rattle.ct_frame.specs.declared.frame.Frame.{Frame}
 use Rattle.ct_wire.specs.Cursor.{start}

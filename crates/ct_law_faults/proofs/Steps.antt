@@ -1,7 +1,6 @@
 -- What a whole field shows is what reading its bytes one after the other leads to.
 use Rattle.std.proofs.Common.{◌≡◌, ℕ, ◌+◌, ◌<◌, Bool, true, false, cond, eqb, not, ◌&&◌, List, [], ◌++◌, length, refl, sym, ap, subst, ◌∙◌, arith, if◌then◌else◌, ◌==◌}
 use Rattle.std.proofs.lemmas.Bool.{eqb-false}
-use Rattle.ct_bytes.specs.declared.address.Address.{Address}
 use Rattle.ct_bytes.specs.declared.address.Address.TheVariants.{V6}
 use Rattle.ct_wire_fields.specs.declared.place.NumberPlace.{NumberPlace}
 use Rattle.ct_wire_fields.specs.declared.place.NumberPlace.TheVariants as number
