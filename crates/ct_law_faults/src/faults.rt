@@ -18,7 +18,7 @@ pub fn one_of_three()
     ensures spelled { SpelledWhereAllKeep }
 {}
 
-/// Behind its frames a stream is short as long as more is taken, and fails where its rest is malformed.
+/// Behind its frames a stream waits exactly where its rest is short, and fails exactly where that is malformed.
 pub fn streams_by_fields()
     ensures waits { StreamWaitsByFields }
     ensures breaks { StreamBreaksByFields }
