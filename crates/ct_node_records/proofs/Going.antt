@@ -115,7 +115,7 @@ lmaster_is : (c : Config) (me db : ℕ) (key : List ℕ) (t : Turn) → TurnInFo
 unfolding place_of
 lmaster_is c me db key t h = master_configured c me t.node.members key h.node.own h.node.members_are
 
-call_in_form : (c : Config) (me db : ℕ) (key : List ℕ) (t : Turn) → TurnInForm c me t → db < length t.node.dbs → is_present t.node.phase ≡ true → (call_again (place_of c me db key t.node) (view db key t.node)).spent ≡ false → TurnInForm c me (at_record c me db key call_again t)
+pub call_in_form : (c : Config) (me db : ℕ) (key : List ℕ) (t : Turn) → TurnInForm c me t → db < length t.node.dbs → is_present t.node.phase ≡ true → (call_again (place_of c me db key t.node) (view db key t.node)).spent ≡ false → TurnInForm c me (at_record c me db key call_again t)
 unfolding at_record view call_again place_of
 call_in_form c me db key t h l present unspent =
     let at = place_of c me db key t.node in
@@ -126,7 +126,7 @@ call_in_form c me db key t h l present unspent =
     resent_in_form c me db key _ t h l present (call_leaves at (begins s t.node.next (db_at db t.node).floor) s.wish) sent.0
     (resends_named (is_node_of c) at s t.node.next (db_at db t.node).floor (lmaster_is c me db key t h) (h.node.named db key)).0
 
-revoke_in_form : (c : Config) (me db : ℕ) (key : List ℕ) (t : Turn) → TurnInForm c me t → db < length t.node.dbs → is_present t.node.phase ≡ true → (revoke_again (place_of c me db key t.node) (view db key t.node)).spent ≡ false → TurnInForm c me (at_record c me db key revoke_again t)
+pub revoke_in_form : (c : Config) (me db : ℕ) (key : List ℕ) (t : Turn) → TurnInForm c me t → db < length t.node.dbs → is_present t.node.phase ≡ true → (revoke_again (place_of c me db key t.node) (view db key t.node)).spent ≡ false → TurnInForm c me (at_record c me db key revoke_again t)
 unfolding at_record view revoke_again place_of
 revoke_in_form c me db key t h l present unspent =
     let at = place_of c me db key t.node in
@@ -191,7 +191,7 @@ again_in_form c rules me db key t (Some w) is h l present unspent =
     wants : (w : Wish) → wishes_record (state_at db key t.node).wish ≡ true → (state_at db key t.node).wish ≡ Some w → wants_record w.op ≡ true
     wants w e is = subst (λ (x : Option Wish). wishes_record x ≡ true) is e
 
-want_in_form : (c : Config) (rules : Rules) (me db : ℕ) (key : List ℕ) (t : Turn) → TurnInForm c me t → db < length t.node.dbs → is_present t.node.phase ≡ true → (want_again rules (place_of c me db key t.node) (view db key t.node)).spent ≡ false → TurnInForm c me (at_record c me db key (want_again rules) t)
+pub want_in_form : (c : Config) (rules : Rules) (me db : ℕ) (key : List ℕ) (t : Turn) → TurnInForm c me t → db < length t.node.dbs → is_present t.node.phase ≡ true → (want_again rules (place_of c me db key t.node) (view db key t.node)).spent ≡ false → TurnInForm c me (at_record c me db key (want_again rules) t)
 unfolding at_record want_again view
 want_in_form c rules me db key t h l present unspent = again_in_form c rules me db key t (state_at db key t.node).wish refl h l present unspent
 
@@ -218,7 +218,7 @@ sorted_so (n ∷ ns) e = sorted_on n ns e
 pub ascending : (ns : List ℕ) → ascends nat_lt ns ≡ true → IsStrictlyIncreasing ns
 ascending ns e = IsStrictlyIncreasing-from_sorted ns (sorted_so ns e)
 
-vacuum_in_form : (c : Config) (rules : Rules) (me db : ℕ) (key : List ℕ) (t : Turn) → TurnInForm c me t → db < length t.node.dbs → is_present t.node.phase ≡ true → (vacuum (place_of c me db key t.node) (others me t.node.members) (view db key t.node)).spent ≡ false →
+pub vacuum_in_form : (c : Config) (rules : Rules) (me db : ℕ) (key : List ℕ) (t : Turn) → TurnInForm c me t → db < length t.node.dbs → is_present t.node.phase ≡ true → (vacuum (place_of c me db key t.node) (others me t.node.members) (view db key t.node)).spent ≡ false →
     TurnInForm c me (at_record c me db key (λ at o. vacuum at (others me t.node.members) o) t)
 unfolding at_record view comes_among
 vacuum_in_form c rules me db key t h l present unspent =

@@ -39,7 +39,7 @@ use Rattle.ct_node_rounds.proofs.Pushing.{releases_in_form}
 -- ---- placements
 
 -- a placement of the configuration's addresses ascends
-placement_ascends : (c : Config) (xs : List Assigned) → are_addresses c.addresses ≡ true → PlacementInForm c xs → Ascend xs
+pub placement_ascends : (c : Config) (xs : List Assigned) → are_addresses c.addresses ≡ true → PlacementInForm c xs → Ascend xs
 placement_ascends c xs up h = subst (λ (l : List Address). IsStrictlySortedBy address_cmp l) (sym h.addresses_are) (sorted_so c.addresses up)
 
 share_held : (n : ℕ) (xs : List Assigned) → share n xs ≡ lcp2.held n xs
@@ -48,7 +48,7 @@ share_held n [] = refl
 share_held n (x ∷ xs) = ap (λ (l : List Address). cond (is_this_node n x.node) (x.address ∷ l) l) (share_held n xs)
 
 -- what a placement gives to a node ascends
-share_ascends : (n : ℕ) (xs : List Assigned) → Ascend xs → are_addresses (share n xs) ≡ true
+pub share_ascends : (n : ℕ) (xs : List Assigned) → Ascend xs → are_addresses (share n xs) ≡ true
 share_ascends n xs up = subst (λ (l : List Address). are_addresses l ≡ true) (sym (share_held n xs)) (sorted_addresses (lcp2.held n xs) (held_ascends n xs up))
 
 some_is : (o : Option ℕ) → list_all is_node (some_of o) ≡ true → is_some o ≡ true → is_some_node o ≡ true
