@@ -1,19 +1,13 @@
 -- A record that stays as it is leaves its node as it is.
-use Rattle.std.proofs.Common.{◌≡◌, ◌≢◌, ℕ, zero, suc, ◌<◌, Bool, true, false, cond, List, [], ◌∷◌, length, set, Option, Some, None, refl, sym, ◌∙◌, ap, subst, arith}
+use Rattle.std.proofs.Common.{◌≡◌, ℕ, zero, suc, Bool, cond, List, [], ◌∷◌, set, Option, Some, None, refl, ◌∙◌, ap}
 use Rattle.std.specs.Prelude.{slice_get}
-use Rattle.std.specs.BTreeMap.{is_at}
-use Rattle.ct_bytes.specs.Key.{key_cmp}
-use Rattle.ct_msg.specs.declared.config.Config.{Config}
 use Rattle.ct_store.specs.Map.{Pairs, Ascends, look}
 use Rattle.ct_store.proofs.Maps.{same_map}
 use Rattle.ct_rules.specs.Parts.{Moving}
-use Rattle.ct_rules.specs.State.{is_blank}
-use Rattle.ct_rules.specs.declared.event.Place.{Place}
 use Rattle.ct_rules.specs.declared.state.RecState.{RecState}
 use Rattle.ct_rules_node.specs.Laws.{unless_blank}
 use Rattle.ct_rules_node.specs.Node.{Node, Database, db_at, or_nothing, or_untouched, state_at, with_db}
 use Rattle.ct_rules_node.specs.Records.{acted, at_record, kept, place_of, put_back, view}
-use Rattle.ct_rules_node.specs.Turn.{Turn}
 use Rattle.ct_rules_node.proofs.AtRecord.{at_ascends}
 use Rattle.ct_rules_node.proofs.Keys.{kept_ascends, kept_others, kept_seen}
 use Rattle.ct_node_form.proofs.Formed.{by_key}

@@ -1,0 +1,5 @@
+pub mod Admitting
+pub mod Going
+pub mod Clients
+pub mod Commits
+pub mod Whole

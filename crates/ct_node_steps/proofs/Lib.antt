@@ -1,0 +1,3 @@
+pub mod Takeovers
+pub mod Whole
+pub mod Opening
