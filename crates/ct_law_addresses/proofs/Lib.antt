@@ -1,0 +1,4 @@
+pub mod Given
+pub mod Together
+pub mod Stood
+pub mod Law
