@@ -137,3 +137,24 @@ after_other keys more m n k s (Err f) e ok err none b d h = subst (λ (x : List 
 -- a state was taken out
 pub after_erase : (keys more : List (List ℕ)) (m n : Pairs RecState) (k : List ℕ) → more ≡ forgotten k keys → n ≡ erase k m → Ascends m → IsTidy keys m → IsTidy more n
 after_erase keys more m n k e i a h = subst (λ (x : List (List ℕ)). IsTidy x n) (sym e) (subst (λ (x : Pairs RecState). IsTidy (forgotten k keys) x) (sym i) (tidy_erased keys m k a h))
+
+-- ---- a deleted record gets another state
+
+-- it has one
+pub deleted_is_there : (m : Pairs RecState) (k : List ℕ) → is_deleted (or_nothing (look k m)).copy ≡ true → look k m ≢ None
+unfolding or_nothing is_deleted
+deleted_is_there m k d e = absurd (let h = ap (λ (x : Option RecState). is_deleted (or_nothing x).copy) (sym e) ∙ d in cc)
+
+-- its key stays noted
+tidy_still : (keys : List (List ℕ)) (m : Pairs RecState) (k : List ℕ) (s : RecState) → is_blank s ≡ false → is_noted k keys ≡ true → IsTidy keys m → IsTidy keys (write k s m)
+tidy_still keys m k s b i h = record {
+  noted = everywhere (λ (q : List ℕ). is_deleted (or_nothing (look q (write k s m))).copy ≡ true → is_noted q keys ≡ true) k (λ _. i)
+      (λ q n e. h.noted q (ap (λ (x : Option RecState). is_deleted (or_nothing x).copy) (sym (not_written m k q s n)) ∙ e));
+  worth = written_worth m k s b h.worth;
+}
+
+pub after_still : (keys : List (List ℕ)) (m n : Pairs RecState) (k : List ℕ) (s : RecState) → n ≡ write k s m → is_blank s ≡ false → is_deleted (or_nothing (look k m)).copy ≡ true → IsTidy keys m → IsTidy keys n
+after_still keys m n k s e b d h = subst (λ (x : Pairs RecState). IsTidy keys x) (sym e) (tidy_still keys m k s b (h.noted k d) h)
+
+pub after_forgotten : (keys more : List (List ℕ)) (m n : Pairs RecState) (k : List ℕ) (s : RecState) → more ≡ forgotten k keys → n ≡ write k s m → is_blank s ≡ false → is_deleted s.copy ≡ false → IsTidy keys m → IsTidy more n
+after_forgotten keys more m n k s e i b d h = subst (λ (x : List (List ℕ)). IsTidy x n) (sym e) (subst (λ (x : Pairs RecState). IsTidy (forgotten k keys) x) (sym i) (tidy_forgotten keys m k s b d h))

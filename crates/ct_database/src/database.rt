@@ -1,5 +1,5 @@
 //! A database at one node.
-ghost use Rattle.std.specs.Prelude.{◌≡◌, false, true, [], None, IfOk, OnOk, OnErr, option_copied};
+ghost use Rattle.std.specs.Prelude.{◌≡◌, ◌≢◌, ℕ, List, false, true, [], None, IfOk, OnOk, OnErr, option_copied};
 ghost use Rattle.ct_store.specs.Map.{Ascends, look, write, erase};
 ghost use Rattle.ct_persist.specs.Persisted.{updated};
 ghost use Rattle.ct_rules.specs.State.{is_blank};
@@ -7,7 +7,7 @@ ghost use Rattle.ct_rules_node.specs.Node.{or_nothing, restarted_db, untouched};
 ghost use Rattle.ct_rules_node.specs.Records.{kept};
 ghost use Rattle.ct_rules_node.specs.Rounds.{changed};
 ghost use Rattle.ct_database.specs.Sweeps.{swept};
-ghost use Rattle.ct_database.specs.Noted.{is_deleted, IsTidy};
+ghost use Rattle.ct_database.specs.Noted.{is_deleted, is_worth, IsTidy};
 ghost use Rattle.ct_vacuum.specs.Candidates as vacuum;
 
 use ct_bytes::copies::Duplicate;
@@ -121,6 +121,17 @@ fn put(records: &mut Store<RecState>, key: Key, state: RecState) -> Result<(), N
     Ok(())
 }
 
+/// Puts another state at a key that has one. It takes no memory.
+fn overwrite(records: &mut Store<RecState>, key: Key, state: RecState)
+    requires { look key records.old ≢ None }
+    ensures { records.new ≡ write key state records.old }
+{
+    match put(records, key, state) {
+        Ok(()) => {}
+        Err(_) => unreachable!(),
+    }
+}
+
 /// Takes the state of a key out.
 fn take_out(records: &mut Store<RecState>, key: &Key)
     ensures after { records.new ≡ erase key.now records.old }
@@ -176,9 +187,10 @@ impl Database {
         }
     }
 
-    /// The states by key.
+    /// The states by key. None is blank.
     pub fn records(&self) -> &Store<RecState>
-        ensures { result.now ≡ self.now.records }
+        ensures states { result.now ≡ self.now.records }
+        ensures worth { (key : List ℕ) → is_worth (look key self.now.records) ≡ true }
     {
         &self.records
     }
@@ -266,6 +278,45 @@ impl Database {
             self.write_deleted(key, state)
         } else {
             self.write_other(key, state)
+        }
+    }
+
+    /// A key has the state of a deleted record, as it had before. It takes no memory.
+    #[tactic(auto, using(crate::proofs::Noting::deleted_is_there))]
+    fn overwrite_deleted(&mut self, key: Key, state: RecState)
+        requires worth { is_blank state ≡ false }
+        requires deleted { is_deleted (or_nothing (look key self.old.records)).copy ≡ true }
+        ensures { self.new ≡ record self.old { records = write key state self.old.records } }
+    {
+        overwrite(&mut self.records, key, state);
+    }
+
+    /// A key has the state of a record that is not deleted, as it was before. It takes no memory.
+    #[tactic(auto, using(crate::proofs::Noting::deleted_is_there))]
+    fn overwrite_other(&mut self, key: Key, state: RecState)
+        requires worth { is_blank state ≡ false }
+        requires other { is_deleted state.copy ≡ false }
+        requires deleted { is_deleted (or_nothing (look key self.old.records)).copy ≡ true }
+        ensures { self.new ≡ record self.old { records = write key state self.old.records } }
+    {
+        self.noted.forget(&key);
+        overwrite(&mut self.records, key, state);
+    }
+
+    /// A key that has the state of a deleted record has another state; a blank one is removed. It takes no memory.
+    #[tactic(auto, unfolding(ct_rules_node::specs::Records::kept))]
+    pub fn keep_deleted(&mut self, key: Key, state: RecState)
+        requires { is_deleted (or_nothing (look key self.old.records)).copy ≡ true }
+        ensures { self.new ≡ record self.old { records = kept key state self.old.records } }
+    {
+        if state.blank() {
+            self.erase(&key);
+            return;
+        }
+        if is_deleted(&state.copy) {
+            self.overwrite_deleted(key, state)
+        } else {
+            self.overwrite_other(key, state)
         }
     }
 

@@ -16,7 +16,7 @@ use std::marker::Model;
 
 /// What is led, and how far it is.
 #[derive(Drop)]
-enum Led {
+pub(crate) enum Led {
     Nothing,
     /// A round waits for members to freeze, or for what they hold.
     Gathering(Leader),
@@ -37,8 +37,8 @@ enum Led {
 /// What a node leads: nothing, or a round by what it waits for, or a completed one.
 #[derive(Drop)]
 pub struct Lead {
-    alloc: Global,
-    led: Led,
+    pub(crate) alloc: Global,
+    pub(crate) led: Led,
 }
 
 impl Model for Lead {

@@ -2,3 +2,4 @@
 #![tactic(auto)]
 
 pub mod lead;
+pub mod runs;

@@ -135,7 +135,7 @@ fn vacuum_at_home(draft: &mut Draft, at: &Place, others: &[u32]) -> Result<(), N
 
 /// A vacuum of one key: at the location master its phases, and elsewhere the record is given.
 #[tactic(auto, unfolding(ct_rules::specs::Moves::vacuum))]
-fn vacuum(draft: &mut Draft, at: &Place, others: &[u32]) -> Result<(), NoMemory>
+pub fn vacuum(draft: &mut Draft, at: &Place, others: &[u32]) -> Result<(), NoMemory>
     requires ascending { IsStrictlyIncreasing others.now }
     requires in_limit { rsn_of draft.old.state.copy < 2 ^ 62 }
     ensures { OnOk result (draft.new ≡ vacuum at.now others.now draft.old) }

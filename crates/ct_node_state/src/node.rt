@@ -1,7 +1,9 @@
 //! The state of a node.
-ghost use Rattle.std.specs.Prelude.{◌≡◌, ◌≢◌, ◌<◌, [], IfOk, OnOk, OnErr, length, slice_get, slice_set, option_copied};
+ghost use Rattle.std.specs.Prelude.{◌≡◌, ◌≢◌, ◌<◌, true, [], IfOk, OnOk, OnErr, length, slice_get, slice_set, option_copied};
 ghost use Rattle.std.specs.List.Sorted.{IsStrictlyIncreasing};
+ghost use Rattle.ct_database.specs.Noted.{is_deleted};
 ghost use Rattle.ct_persist.specs.Persisted.{updated};
+ghost use Rattle.ct_store.specs.Map.{look};
 ghost use Rattle.ct_rules_node.specs.Node.{db_at, opening, or_nothing, or_untouched, state_at, untouched_all, with_db};
 ghost use Rattle.ct_rules_node.specs.Records.{kept, place_of, put_back, view};
 ghost use Rattle.ct_node_state.specs.Whole.{left_as};
@@ -86,6 +88,18 @@ fn put_at(
     database.keep(key, state)?;
     database.set_floor(floor);
     Ok(())
+}
+
+/// One database has another state of a key, which had the state of a deleted record, and another floor. It takes no memory.
+#[tactic(auto, unfolding(ct_rules_node::specs::Node::or_untouched))]
+fn put_deleted_at(dbs: &mut Items<Database>, db: usize, key: Key, state: RecState, floor: u64)
+    requires there { db < length dbs.old }
+    requires deleted { is_deleted (or_nothing (look key (or_untouched (slice_get dbs.old db)).records)).copy ≡ true }
+    ensures { dbs.new ≡ slice_set dbs.old db (record (or_untouched (slice_get dbs.old db)) { records = kept key state (or_untouched (slice_get dbs.old db)).records; floor = floor }) }
+{
+    let database = dbs.get_mut(db);
+    database.keep_deleted(key, state);
+    database.set_floor(floor);
 }
 
 /// One database takes an update, and this commit waits there. Without memory nothing changes.
@@ -260,6 +274,17 @@ impl Node {
         put_at(&mut self.dbs, db as usize, key, state, floor)?;
         self.next = next;
         Ok(())
+    }
+
+    /// What the rule of a record makes of the node where the record is a deleted one. It takes no memory.
+    #[tactic(auto, unfolding(ct_rules_node::specs::Records::put_back, ct_rules_node::specs::Node::with_db, ct_rules_node::specs::Node::db_at, ct_rules_node::specs::Node::state_at))]
+    pub fn put_deleted(&mut self, db: u32, key: Key, state: RecState, next: u64, floor: u64)
+        requires there { db < length self.old.dbs }
+        requires deleted { is_deleted (state_at db key self.old).copy ≡ true }
+        ensures { self.new ≡ put_back db key (left_as state next floor) self.old }
+    {
+        put_deleted_at(&mut self.dbs, db as usize, key, state, floor);
+        self.next = next;
     }
 
     /// A persistent database takes an update. Without memory nothing changes.
