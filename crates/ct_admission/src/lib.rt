@@ -3,3 +3,4 @@
 
 pub mod admission;
 pub mod named;
+pub mod sound;

@@ -1,7 +1,9 @@
 //! A database at one node.
-ghost use Rattle.std.specs.Prelude.{◌≡◌, ◌≢◌, ℕ, List, false, true, [], None, IfOk, OnOk, OnErr, option_copied};
+ghost use Rattle.std.specs.Prelude.{◌≡◌, ◌≢◌, ℕ, List, false, true, [], None, IfOk, IsTrue, OnOk, OnErr, option_copied};
+ghost use Rattle.std.specs.List.{list_all};
+ghost use Rattle.ct_frame.specs.Fields.{ascends, is_kept, pair_before};
 ghost use Rattle.ct_store.specs.Map.{Ascends, look, write, erase};
-ghost use Rattle.ct_persist.specs.Persisted.{updated};
+ghost use Rattle.ct_persist.specs.Persisted.{replaced, updated};
 ghost use Rattle.ct_rules.specs.State.{is_blank};
 ghost use Rattle.ct_rules_node.specs.Node.{or_nothing, restarted_db, untouched};
 ghost use Rattle.ct_rules_node.specs.Records.{kept};
@@ -15,6 +17,7 @@ use ct_bytes::items::Items;
 use ct_bytes::key::Key;
 use ct_bytes::memory::NoMemory;
 use ct_deleg::tracking::Tracking;
+use ct_frame::frame::PTable;
 use ct_frame::header::{NONE, RecCopy};
 use ct_msg::client::Pair;
 use ct_persist::commit::Commit;
@@ -341,6 +344,16 @@ impl Database {
     {
         self.store.update(seq, writes)?;
         Ok(())
+    }
+
+    /// A persistent database becomes its table. Without memory nothing changes.
+    pub fn replace(&mut self, table: &PTable) -> Result<(), NoMemory>
+        requires ascending { IsTrue (ascends pair_before table.now.pairs) }
+        requires kept { IsTrue (list_all is_kept table.now.pairs) }
+        ensures ok { OnOk result (self.new ≡ record self.old { store = replaced table.now }) }
+        ensures err { OnErr result (self.new ≡ self.old) }
+    {
+        self.store.replace(table)
     }
 
     /// What a stop leaves: the contents of a persistent one. It takes no memory.

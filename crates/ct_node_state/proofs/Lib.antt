@@ -1,3 +1,5 @@
+pub mod Ascending
 pub mod Differing
 pub mod Lists
+pub mod Placed
 pub mod Telling

@@ -7,3 +7,4 @@ pub mod members;
 pub mod node;
 pub mod phases;
 pub mod placing;
+pub mod restart;

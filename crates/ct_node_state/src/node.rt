@@ -5,7 +5,7 @@ ghost use Rattle.ct_database.specs.Noted.{is_deleted};
 ghost use Rattle.ct_persist.specs.Persisted.{updated};
 ghost use Rattle.ct_store.specs.Map.{look};
 ghost use Rattle.ct_rules_node.specs.Node.{db_at, opening, or_nothing, or_untouched, state_at, untouched_all, with_db};
-ghost use Rattle.ct_rules_node.specs.Records.{kept, place_of, put_back, view};
+ghost use Rattle.ct_rules_node.specs.Records.{kept, place_of, put_back, view, with_state};
 ghost use Rattle.ct_node_state.specs.Whole.{left_as};
 
 use crate::kinds::{is_readonly, kind_at};
@@ -102,6 +102,16 @@ fn put_deleted_at(dbs: &mut Items<Database>, db: usize, key: Key, state: RecStat
     database.set_floor(floor);
 }
 
+/// One database has another state of a key. Without memory nothing changes.
+#[tactic(auto, using(crate::proofs::Lists::same_item), unfolding(ct_rules_node::specs::Node::or_untouched))]
+fn keep_at(dbs: &mut Items<Database>, db: usize, key: Key, state: RecState) -> Result<(), NoMemory>
+    requires { db < length dbs.old }
+    ensures ok { OnOk result (dbs.new ≡ slice_set dbs.old db (record (or_untouched (slice_get dbs.old db)) { records = kept key state (or_untouched (slice_get dbs.old db)).records })) }
+    ensures err { OnErr result (dbs.new ≡ dbs.old) }
+{
+    dbs.get_mut(db).keep(key, state)
+}
+
 /// One database takes an update, and this commit waits there. Without memory nothing changes.
 #[tactic(auto, using(crate::proofs::Lists::same_item), unfolding(ct_rules_node::specs::Node::or_untouched))]
 fn begin_at(
@@ -183,6 +193,24 @@ impl Node {
             holder: self.holder.copy()?,
             next: self.next,
             lead: self.lead.copy()?,
+        })
+    }
+
+    /// All but the databases, where this is led.
+    pub fn leading(&self, lead: Lead) -> Result<Node, NoMemory>
+        ensures { IfOk result (λ n. n ≡ record self.now { dbs = []; lead = lead }) }
+    {
+        Ok(Node {
+            alloc: self.alloc,
+            member: self.member,
+            pbase: self.pbase,
+            members: self.members.copy()?,
+            leader: self.leader,
+            dbs: Items::empty(self.alloc),
+            placement: self.placement.duplicate()?,
+            holder: self.holder.copy()?,
+            next: self.next,
+            lead,
         })
     }
 
@@ -285,6 +313,16 @@ impl Node {
     {
         put_deleted_at(&mut self.dbs, db as usize, key, state, floor);
         self.next = next;
+    }
+
+    /// A record has another state; a blank one is removed. Without memory nothing changes.
+    #[tactic(auto, unfolding(ct_rules_node::specs::Records::with_state, ct_rules_node::specs::Node::with_db, ct_rules_node::specs::Node::db_at))]
+    pub fn keep(&mut self, db: u32, key: Key, state: RecState) -> Result<(), NoMemory>
+        requires { db < length self.old.dbs }
+        ensures ok { OnOk result (self.new ≡ with_state db key state self.old) }
+        ensures err { OnErr result (self.new ≡ self.old) }
+    {
+        keep_at(&mut self.dbs, db as usize, key, state)
     }
 
     /// A persistent database takes an update. Without memory nothing changes.

@@ -41,6 +41,10 @@ is_stage Completed Freezing = false
 is_stage Completed Pulling = false
 is_stage Completed Installing = false
 
+-- does the leader wait for this of the node, in the round of this generation?
+abbrev pub awaits : Stage → ℕ → ℕ → Leading → Bool
+awaits stage g n l = is_stage stage l.stage && nat_eq l.generation g && list_any (nat_eq n) l.missing
+
 -- does the node's answer complete this stage?
 abbrev pub ends_stage : Stage → ℕ → Leading → Bool
 ends_stage stage n l = is_stage stage l.stage && is_last n l.missing
@@ -64,9 +68,13 @@ after_pullreply pull l =
     then (if is_last pull.node l.missing then installs l else record l { missing = others pull.node l.missing; gathered = gathered pull l.gathered })
     else l
 
+-- PullReply: the last one is followed by what is pushed, where this node leads
+abbrev pub pushed_at : ℕ → Pull → Leading → Option PushBody
+pushed_at me pull l = if ends_stage Pulling pull.node l then Some (body_of me l.members (finished (gathered pull l.gathered))) else None
+
 -- PullReply: the last one is followed by what is pushed
 abbrev pub pushed : Pull → Leading → Option PushBody
-pushed pull l = if ends_stage Pulling pull.node l then Some (body_of l.me l.members (finished (gathered pull l.gathered))) else None
+pushed pull l = pushed_at l.me pull l
 
 -- PushAck: once all have installed, the round is completed
 abbrev pub after_pushack : ℕ → Leading → Leading

@@ -5,7 +5,7 @@ ghost use Rattle.ct_deleg.specs.Awaited.{AreAsked};
 ghost use Rattle.ct_frame.specs.declared.round.Stage.TheVariants.{Freezing, Installing};
 ghost use Rattle.ct_merge.specs.Held.{is_in_order};
 ghost use Rattle.ct_rules_node.specs.Rounds.{body_of, mastered};
-ghost use Rattle.ct_round.specs.Leader.{after_freezeack, after_pullreply, after_pushack, ends_stage, is_stage, pushed, round_begun};
+ghost use Rattle.ct_round.specs.Leader.{after_freezeack, after_pullreply, after_pushack, awaits, ends_stage, is_stage, pushed, pushed_at, round_begun};
 
 use ct_bytes::copies::Duplicate;
 use ct_bytes::items::Items;
@@ -126,6 +126,13 @@ impl Leader {
         self.stage == stage
     }
 
+    /// Does it wait for this of the member, in the round of this generation? It takes no memory.
+    pub fn awaits(&self, stage: Stage, generation: u64, node: u32) -> bool
+        ensures { result ≡ awaits stage generation node self.now }
+    {
+        self.is_stage(stage) && self.generation == generation && self.members.is_missing(node)
+    }
+
     /// A member is frozen. True exactly where it was the last one missing; then all are asked for what they hold. It
     /// takes no memory.
     pub fn frozen(&mut self, node: u32) -> bool
@@ -149,6 +156,16 @@ impl Leader {
         ensures ok { OnOk result (self.new ≡ after_pullreply pull self.old) }
         ensures err { OnErr result (self.new ≡ self.old) }
     {
+        self.pulled_at(self.me, pull)
+    }
+
+    /// The same, where this node leads the round.
+    pub fn pulled_at(&mut self, me: u32, pull: Pull) -> Result<Option<PushBody>, NoMemory>
+        requires { is_in_order pull ≡ true }
+        ensures body { IfOk result (λ body. body ≡ pushed_at me pull self.old) }
+        ensures ok { OnOk result (self.new ≡ after_pullreply pull self.old) }
+        ensures err { OnErr result (self.new ≡ self.old) }
+    {
         let node = pull.node;
         if !self.is_stage(Stage::Pulling) || !self.members.is_missing(node) {
             return Ok(None);
@@ -161,7 +178,7 @@ impl Leader {
         }
         let mut merging = self.merging.copy()?;
         merging.add(pull)?;
-        let body = body_of(self.alloc, self.me, self.members.asked(), merging.finish()?)?;
+        let body = body_of(self.alloc, me, self.members.asked(), merging.finish()?)?;
         self.members.ask_again();
         self.merging = Merging::new(self.alloc);
         self.stage = Stage::Installing;
