@@ -2,3 +2,4 @@ pub mod Given
 pub mod Together
 pub mod Stood
 pub mod Law
+pub mod Holders

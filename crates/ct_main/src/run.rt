@@ -4,11 +4,12 @@ ghost use Rattle.ct_main.specs.Claims.{HasEndCause, IsPlay, Plays, Reports, mess
 ghost use Rattle.ct_main.specs.declared.player.End.{End as Ended};
 
 use crate::player::{End, play};
-use crate::text::{push, push_number, push_what};
+use crate::text::push_what;
 use ct_bytes::memory::NoMemory;
 use ct_outside::fault::SinkFault;
 use ct_outside::sink::{Sink, write_all};
 use ct_outside::source::Source;
+use ct_tool::words::{push, push_number};
 use std::alloc::Global;
 
 /// The line that err gets.

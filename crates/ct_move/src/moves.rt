@@ -25,7 +25,7 @@ use ct_vacuum::vacuum::{Vacuum, VacuumPhase};
 // under the lock
 /// The value is set.
 #[tactic(auto, unfolding(ct_rules::specs::Moves::store, ct_rules::specs::Parts::keeps))]
-fn store(draft: &mut Draft, call: u64, value: &Value) -> Result<(), NoMemory>
+pub fn store(draft: &mut Draft, call: u64, value: &Value) -> Result<(), NoMemory>
     ensures { OnOk result (draft.new ≡ store call value.now draft.old) }
 {
     draft.set_value(value.copy()?);
@@ -34,7 +34,7 @@ fn store(draft: &mut Draft, call: u64, value: &Value) -> Result<(), NoMemory>
 
 /// The lock ends.
 #[tactic(auto, unfolding(ct_rules::specs::Moves::release, ct_rules::specs::Parts::keeps))]
-fn release(draft: &mut Draft, call: u64) -> Result<(), NoMemory>
+pub fn release(draft: &mut Draft, call: u64) -> Result<(), NoMemory>
     ensures { OnOk result (draft.new ≡ release call draft.old) }
 {
     draft.state.locked = None;
@@ -43,7 +43,7 @@ fn release(draft: &mut Draft, call: u64) -> Result<(), NoMemory>
 
 /// The lock ends, and then what waits is handled.
 #[tactic(auto, unfolding(ct_rules::specs::Moves::unlock))]
-fn unlock(draft: &mut Draft, at: &Place, call: u64) -> Result<(), NoMemory>
+pub fn unlock(draft: &mut Draft, at: &Place, call: u64) -> Result<(), NoMemory>
     ensures { OnOk result (draft.new ≡ unlock at.now call draft.old) }
 {
     release(draft, call)?;
@@ -190,7 +190,7 @@ fn revoke_again(draft: &mut Draft, at: &Place) -> Result<(), NoMemory>
 // every message and every event
 /// A message of the record comes: it is dropped, or its rule is followed.
 #[tactic(auto, using(crate::proofs::Limits::limit_last), unfolding(ct_rules::specs::Moves::arrive, ct_rules::specs::Moves::at_home, ct_rules::specs::Moves::from_home))]
-fn arrive(
+pub fn arrive(
     draft: &mut Draft,
     at: &Place,
     table: &CallTable,

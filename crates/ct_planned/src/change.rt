@@ -3,9 +3,21 @@ use ct_bytes::items::Items;
 use ct_bytes::key::Key;
 use ct_database::database::Committing;
 use ct_frame::event::Out;
+use ct_frame::frame::Assigned;
+use ct_lead::lead::Lead;
 use ct_msg::client::Pair;
 use ct_node_state::node::Node;
 use ct_rules::state::RecState;
+use ct_takeover::holder::Holder;
+
+/// What a step leaves of one record: its state, and the node's next request number and floor of the database.
+#[derive(Drop)]
+pub struct Left {
+    pub key: Key,
+    pub state: RecState,
+    pub next: u64,
+    pub floor: u64,
+}
 
 /// What a step changes of a node.
 #[derive(Drop)]
@@ -36,6 +48,20 @@ pub enum Change {
     Wait {
         db: u32,
         commit: Option<Committing>,
+    },
+    /// Records of a database that are deleted ones are left so, one after the other.
+    Records {
+        db: u32,
+        left: Items<Left>,
+    },
+    /// The node leads this.
+    Lead(Lead),
+    /// It holds these addresses, and this was the last takeover run that it followed.
+    Hold(Holder),
+    /// So it is, and it knows the addresses to be there.
+    Take {
+        placement: Items<Assigned>,
+        holder: Holder,
     },
     /// All but the databases becomes this.
     Beside(Node),

@@ -3,3 +3,5 @@
 
 pub mod change;
 pub mod commit;
+pub mod record;
+pub mod still;

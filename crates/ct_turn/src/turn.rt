@@ -3,11 +3,13 @@ ghost use Rattle.std.specs.Prelude.{◌≡◌, ◌<◌, OnOk, IfOk, length};
 ghost use Rattle.ct_rules_node.specs.Clients.{frozen_if_unlocked};
 ghost use Rattle.ct_rules_node.specs.Node as state;
 ghost use Rattle.ct_rules_node.specs.Records.{acted};
+ghost use Rattle.ct_rules_node.specs.Rounds.{releases};
 ghost use Rattle.ct_rules_node.specs.Turn.{answers, begins, does, notes, posts, posts_all};
 ghost use Rattle.ct_turn.specs.Goes.{Goes};
 
 use crate::locks::any_locked;
 use crate::outs::outs_of;
+use ct_bytes::address::Address;
 use ct_bytes::items::Items;
 use ct_bytes::key::Key;
 use ct_bytes::memory::NoMemory;
@@ -88,6 +90,17 @@ impl Turn {
         ensures { OnOk result (self.new ≡ notes note self.old) }
     {
         self.does(Out::Note(note))
+    }
+
+    /// Released is noted for each of these addresses.
+    #[tactic(auto, unfolding(ct_rules_node::specs::Rounds::releases))]
+    pub fn releases(&mut self, addresses: &[Address]) -> Result<(), NoMemory>
+        ensures { OnOk result (self.new ≡ releases addresses.now self.old) }
+    {
+        for address in addresses {
+            self.notes(Note::Released(*address))?;
+        }
+        Ok(())
     }
 
     /// A message of a generation is sent by this node.

@@ -1,0 +1,10 @@
+//! The text of what a cluster prints.
+#![tactic(auto)]
+
+pub mod answer;
+pub mod line;
+pub mod message;
+pub mod note;
+#[cfg(test)]
+mod tests;
+pub mod words;
