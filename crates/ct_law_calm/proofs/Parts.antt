@@ -1,10 +1,11 @@
 -- The parts of steps that leave persistent databases as they are.
-use Rattle.std.proofs.Common.{◌≡◌, ℕ, ◌+◌, List, [], ◌∷◌, ◌++◌, append-nil, Some, refl, sym, ap, ◌∙◌, subst}
+use Rattle.std.proofs.Common.{false, ◌≡◌, ℕ, ◌+◌, List, [], ◌∷◌, ◌++◌, append-nil, Some, refl, sym, ap, ◌∙◌, subst}
 use Rattle.std.specs.List.{AllByRecursion}
 use Rattle.ct_msg.specs.declared.client.Answer.{Answer}
 use Rattle.ct_msg.specs.declared.client.Answer.TheVariants as answer
 use Rattle.ct_msg.specs.declared.client.ClientOp.{ClientOp}
 use Rattle.ct_msg.specs.declared.client.Why.{Why}
+use Rattle.ct_msg.specs.declared.client.Why.TheVariants as why
 use Rattle.ct_msg.specs.declared.config.Config.{Config}
 use Rattle.ct_frame.specs.declared.event.Note.{Note}
 use Rattle.ct_frame.specs.declared.event.Note.TheVariants as note
@@ -17,6 +18,7 @@ use Rattle.ct_rules_node.specs.Turn.{Turn, does, with_node, with_lead, with_phas
 use Rattle.ct_rules_node.specs.Node.{Phase}
 use Rattle.ct_rules_node.specs.Admission.{record_in}
 use Rattle.ct_law_node.proofs.Pending.{Callers, Known}
+use Rattle.ct_law_shown.specs.Shown.{is_telling}
 use Rattle.ct_law_plain.proofs.Plainly.{SamePlain, IsOfRecord, AllOfRecords}
 use Rattle.ct_law_callers.proofs.Asked.{IsAsked, AllAsked}
 use Rattle.ct_law_callers.proofs.Known.{Waits}
@@ -24,7 +26,7 @@ use Rattle.ct_law_stores.proofs.Facts.{Has, Bases, Stands, LeadStands}
 use Rattle.ct_law_kept.proofs.Changes.{SameStores}
 use Rattle.ct_law_kept.proofs.Kept.{Calm, IsCalm}
 use Rattle.ct_law_kept.proofs.Outs.{posted, posted_outs}
-use Rattle.ct_law_kept.proofs.Quiet.{OfRecord, IsQuietNote, IsQuietAnswer}
+use Rattle.ct_law_kept.proofs.Quiet.{OfRecord, IsQuietNote, IsQuietAnswer, plain_refusal}
 
 -- ---- records
 
@@ -46,6 +48,7 @@ record_stands config b has g n _ r e = tt
 
 quiet_answer : (config : Config) (who : Callers) (call : ℕ) (a : Answer) (asked : ClientOp) → IsCallOn config who call asked → IsQuietAnswer config who call a
 unfolding IsCallOn IsQuietAnswer
+quiet_answer config who call (answer.Refused (why.TooLong m)) asked k = subst (OfRecord config) (sym k.0) k.1
 quiet_answer config who call (answer.Refused w) asked k = tt
 quiet_answer config who call a asked k = subst (OfRecord config) (sym k.0) k.1
 
@@ -98,9 +101,9 @@ module _ (config : Config) (who : Callers) (b : Bases) (has : Has) (me : ℕ) wh
   unfolding notes does IsCalm
   note_calm noted t quiet = record { same = record { stores = λ db. refl; commits = λ db. refl }; lead = λ h. h; outs = (_, refl, (quiet, tt)) }
 
-  pub refuse_calm : (call : ℕ) (w : Why) (t : Turn) → Calm config who b has me t (answers call (answer.Refused w) t)
-  unfolding answers does IsCalm IsQuietAnswer
-  refuse_calm call w t = record { same = record { stores = λ db. refl; commits = λ db. refl }; lead = λ h. h; outs = (_, refl, (tt, tt)) }
+  pub refuse_calm : (call : ℕ) (w : Why) (t : Turn) → is_telling (answer.Refused w) ≡ false → Calm config who b has me t (answers call (answer.Refused w) t)
+  unfolding answers does IsCalm
+  refuse_calm call w t plain = record { same = record { stores = λ db. refl; commits = λ db. refl }; lead = λ h. h; outs = (_, refl, (plain_refusal config who call w plain, tt)) }
 
   pub makes_calm : (number : ℕ) (t : Turn) → Calm config who b has me t (makes number t)
   unfolding makes

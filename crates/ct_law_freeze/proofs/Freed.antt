@@ -1,5 +1,5 @@
 -- The worlds in which locks of a node end: each has the event that the lock ends, and all lines live on.
-use Rattle.std.proofs.Common.{◌≡◌, ◌≢◌, ℕ, ◌<◌, ◌^◌, Bool, true, false, cond, ◌&&◌, ◌||◌, List, [], ◌∷◌, ◌++◌, append-nil, ⊎_elim, refl, sym, ap, ◌∙◌, subst}
+use Rattle.std.proofs.Common.{◌≡◌, ◌≢◌, ℕ, ◌<◌, ◌^◌, Bool, true, false, cond, ◌&&◌, ◌||◌, List, [], ◌∷◌, ◌++◌, None, append-nil, ⊎_elim, refl, sym, ap, ◌∙◌, subst}
 use Rattle.std.specs.Prelude.{nat_eq, is_some}
 use Rattle.std.specs.List.{list_all}
 use Rattle.std.proofs.lemmas.Bool.{cases_eq, ne_eqb, eq-eqb}
@@ -16,7 +16,7 @@ use Rattle.ct_register.proofs.Places.{at_same, at_other}
 use Rattle.ct_law_world.specs.Labels.{AcceptsAll}
 use Rattle.ct_law_world.specs.Labels as label
 use Rattle.ct_law_world.specs.Marked.{is_removal, is_removed}
-use Rattle.ct_law_world.specs.World.{Scene, World, Stepped, Ends, happens, unlocked}
+use Rattle.ct_law_world.specs.World.{Scene, View, World, Stepped, Ends, happens, unlocked}
 use Rattle.ct_law_fact.proofs.Invariant.{Ghost, span_of}
 use Rattle.ct_law_change.proofs.Markings.{goes_stays}
 use Rattle.ct_law_record.proofs.MarkLists.{marks_go}
@@ -24,6 +24,7 @@ use Rattle.ct_law_record.proofs.Worlds.{WorldInv}
 use Rattle.ct_law_record.proofs.MarkedRun.{marks_of, step_marks}
 use Rattle.ct_law_shown.specs.Shown.{scene, mails}
 use Rattle.ct_law_line.proofs.Ages.{Ages, era_of, LinesLive}
+use Rattle.ct_law_line.proofs.Later.{Keeps}
 use Rattle.ct_law_line.proofs.Moving.{Moved, ages_moved, moved_live}
 use Rattle.ct_law_line.proofs.Stopping.{with_left}
 
@@ -150,6 +151,20 @@ module _ (c : Config) (rules : Rules) (w v : Cluster) (r : Lines) (a : Ages) (n 
       (λ (is : m ≡ g). ap (λ (ws : ℕ → List ℕ → World). ((ws db key).nodes k).state.copy) (at_same g m worlds a.worlds is) ∙ copy_same (hit db key) (a.worlds g db key) k ∙ sym (ap (λ (j : ℕ). ((a.worlds j db key).nodes k).state.copy) is))
       (λ (no : m ≢ g). ap (λ (x : World). (x.nodes k).state.copy) (other_line m db key no))
       (cases_eq m g)
+
+  -- the node keeps its copies, and what it has not locked
+  pub keeps : (m db : ℕ) (key : List ℕ) → Keeps ((a.worlds m db key).nodes n) ((ages.worlds m db key).nodes n)
+  keeps m db key = record {
+    copy = copies m db key n;
+    free = λ f. ⊎_elim
+        (λ (is : m ≡ g). ap (λ (j : ℕ). ((ages.worlds j db key).nodes n).state.locked) is ∙ ap (λ (x : View). x.state.locked) (here db key) ∙ still (hit db key) ((a.worlds g db key).nodes n) (ap (λ (j : ℕ). ((a.worlds j db key).nodes n).state.locked) (sym is) ∙ f))
+        (λ (no : m ≢ g). ap (λ (x : World). (x.nodes n).state.locked) (other_line m db key no) ∙ f)
+        (cases_eq m g);
+  }
+    where
+      still : (b : Bool) (x : View) → x.state.locked ≡ None → (cond b (unlocked x) x).state.locked ≡ None
+      still true x f = refl
+      still false x f = f
 
   -- and their marks go on
   pub marks : (m db : ℕ) (key : List ℕ) → r.born m ≡ true → MarksStep false (marks_of (a.ghosts m db key)) (marks_of (ages.ghosts m db key))

@@ -28,6 +28,7 @@ use Rattle.ct_law_node.proofs.Pending.{Callers}
 use Rattle.ct_law_line.proofs.Ages.{Ages, era_of, LinesLive}
 use Rattle.ct_law_line.proofs.Lives.{NodeLives, WasSent}
 use Rattle.ct_law_line.proofs.Begetting.{same_lives}
+use Rattle.ct_law_line.proofs.Later.{Keeps, keeps_view}
 use Rattle.ct_law_freeze.proofs.Ends.{is_ended, ends_out, ends_outs, ended_is}
 use Rattle.ct_law_freeze.proofs.Freed
 use Rattle.ct_law_freeze.proofs.Freed.{Freeing}
@@ -60,6 +61,7 @@ pub record Freed_lines (c : Config) (rules : Rules) (v : Cluster) (r : Lines) (a
   pub lives : LinesLive c rules v (record r { records = records }) ages
   pub others : (k : ℕ) → k ≢ n → (m db : ℕ) (key : List ℕ) → (ages.worlds m db key).nodes k ≡ (a.worlds m db key).nodes k
   pub copies : (m db : ℕ) (key : List ℕ) → ((ages.worlds m db key).nodes n).state.copy ≡ ((a.worlds m db key).nodes n).state.copy
+  pub keeps : (m db : ℕ) (key : List ℕ) → Keeps ((a.worlds m db key).nodes n) ((ages.worlds m db key).nodes n)
   pub here : r.line n ≢ 0 → (db : ℕ) (key : List ℕ) → (ages.worlds (r.line n) db key).nodes n ≡ cond (is_ended c 0 x.dbs db key) (unlocked ((a.worlds (r.line n) db key).nodes n)) ((a.worlds (r.line n) db key).nodes n)
   pub marks : (m db : ℕ) (key : List ℕ) → r.born m ≡ true → MarksStep false (marks_of (a.ghosts m db key)) (marks_of (ages.ghosts m db key))
 
@@ -96,6 +98,7 @@ freed_nowhere c rules w v r a n pend x live same line s = record {
   lives = resent c rules w v r a same live;
   others = λ k ne m db key. refl;
   copies = λ m db key. refl;
+  keeps = λ m db key. keeps_view _ _ refl;
   here = λ ne. absurd (ne line);
   marks = λ m db key born. marks_go false (span_of (a.ghosts m db key)) (span_of (a.ghosts m db key)) ((live.line m born).world db key).all.marks.under (goes_stays (span_of (a.ghosts m db key)));
 }
@@ -112,6 +115,7 @@ freed_there c rules who w v r a n pend x config live same ne s own untold = reco
   lives = Freed.freed_live c rules w v r a n (r.line n) (is_ended c 0 x.dbs) (all_ended c (r.line n) 0 x.dbs r.records) live freeing;
   others = λ k apart m db key. Freed.other_node c rules w v r a n (r.line n) (is_ended c 0 x.dbs) (all_ended c (r.line n) 0 x.dbs r.records) live freeing k apart m db key;
   copies = λ m db key. Freed.copies c rules w v r a n (r.line n) (is_ended c 0 x.dbs) (all_ended c (r.line n) 0 x.dbs r.records) live freeing m db key n;
+  keeps = λ m db key. Freed.keeps c rules w v r a n (r.line n) (is_ended c 0 x.dbs) (all_ended c (r.line n) 0 x.dbs r.records) live freeing m db key;
   here = λ _ db key. Freed.here c rules w v r a n (r.line n) (is_ended c 0 x.dbs) (all_ended c (r.line n) 0 x.dbs r.records) live freeing db key;
   marks = λ m db key born. Freed.marks c rules w v r a n (r.line n) (is_ended c 0 x.dbs) (all_ended c (r.line n) 0 x.dbs r.records) live freeing m db key born;
 }

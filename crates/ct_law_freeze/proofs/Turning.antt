@@ -317,6 +317,7 @@ module _ (c : Config) (rules : Rules) (w : Cluster) (r : Lines) (h : Lives c rul
     accepts = subst (λ (l : List Label). AcceptsLabels c rules r (record_labels c l) s) (sym labels) freed.accepts;
     later = later;
     away = λ k ne. record { line = refl; pline = refl; views = λ g db key born. freed.others k ne g db key };
+    rest = λ g db key born why. freed.keeps g db key;
     last = refl;
     holder = refl;
     lives = freed.lives;

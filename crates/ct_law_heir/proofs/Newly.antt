@@ -42,7 +42,7 @@ use Rattle.ct_law_birth.proofs.BornStarts.{master_in}
 use Rattle.ct_law_removal.proofs.Removing.{removed_in_records}
 use Rattle.ct_law_line.proofs.Ages.{Ages, era_of, row_in, begun_view, LinesLive}
 use Rattle.ct_law_line.proofs.Lives.{Lives, NodeLives, MailSays, ReplySays, LeadSays, PhaseSays, IsTicket, IsGatheredOf}
-use Rattle.ct_law_line.proofs.Later.{Later, Away}
+use Rattle.ct_law_line.proofs.Later.{Later, Away, keeps_view}
 use Rattle.ct_law_line.proofs.Faces.{Turned}
 use Rattle.ct_law_line.proofs.Framing.{ticket_later}
 use Rattle.ct_law_line.proofs.Apart.{Fresh, AllFresh, is_led, replies_away, node_away}
@@ -279,6 +279,7 @@ module _ (c : Config) (rules : Rules) (w : Cluster) (r : Lines) (h : Lives c rul
     accepts = subst (λ (l : List Label). AcceptsLabels c rules r l s) (sym told) (s, round_accepted c rules w r h n g members x ticket unborn k, refl);
     later = later;
     away = λ j ne. away j;
+    rest = λ m db key born why. keeps_view _ _ ((away n).views m db key born);
     last = refl;
     holder = refl;
     lives = lives;

@@ -43,6 +43,7 @@ use Rattle.ct_law_shown.specs.Shown.{is_telling}
 use Rattle.ct_law_shown.proofs.Weave.{silent}
 use Rattle.ct_law_held.proofs.Held.{outs_labels}
 use Rattle.ct_law_lead.proofs.Leading.{node_lead}
+use Rattle.ct_law_line.proofs.Later.{keeps_view}
 use Rattle.ct_law_line.proofs.Apart.{none_fresh}
 
 module _ (c : Config) (rules : Rules) (w : Cluster) (r : Lines) (h : Lives c rules w r) (n : ℕ) (asked : ClientOp) (reason : Why) (there : nat_lt n c.nodes ≡ true) (quiet : is_telling (answer.Refused reason) ≡ false) where
@@ -97,6 +98,7 @@ module _ (c : Config) (rules : Rules) (w : Cluster) (r : Lines) (h : Lives c rul
     accepts = subst (λ (z : List Label). AcceptsLabels c rules r (record_labels c z) r) (sym labels) (accepted (speaks_of_records c (Answered n asked (answer.Refused reason))));
     later = later_none r h.ages;
     away = λ k ne. record { line = refl; pline = refl; views = λ g db key born. refl };
+    rest = λ g db key born why. keeps_view _ _ refl;
     last = refl;
     holder = refl;
     lives = resent c rules w v r h.ages (λ m db key. ap (λ (l : List Sent). mails m db key l) sent_same) h.lines;

@@ -12,7 +12,7 @@ use Rattle.ct_call.specs.Rules.{Rules}
 use Rattle.ct_lcp2.proofs.Choices.{all_append, all_weaken}
 use Rattle.ct_rules.specs.declared.state.RecState.{RecState}
 use Rattle.ct_rules.specs.declared.state.Wish.{Wish}
-use Rattle.ct_rules_node.specs.Node.{Node, Phase, Freezing, Frozen, Committing, Lead, has_records, kind_at, db_at, state_at}
+use Rattle.ct_rules_node.specs.Node.{Node, Phase, Freezing, Frozen, Committing, Lead, has_records, kind_at, db_at, is_present, state_at}
 use Rattle.ct_rules_node.specs.Laws.{NodeAscends}
 use Rattle.ct_rules_node.specs.Rounds.{frozen_state}
 use Rattle.ct_rules_node.specs.Turn.{Turn}
@@ -37,7 +37,7 @@ use Rattle.ct_law_node.proofs.Forming.{Is_formed}
 use Rattle.ct_law_line.proofs.Apart.{none_fresh}
 use Rattle.ct_law_line.proofs.Ages.{Ages, era_of, Rests}
 use Rattle.ct_law_line.proofs.Lives.{Lives, NodeLives, MailSays, RoundSays, ReplySays, LeadSays, PhaseSays}
-use Rattle.ct_law_line.proofs.Later.{Later}
+use Rattle.ct_law_line.proofs.Later.{Later, Keeps, keeps_view}
 use Rattle.ct_law_line.proofs.Faces.{Turned}
 use Rattle.ct_law_freeze.proofs.Froze.{ack}
 use Rattle.ct_law_freeze.proofs.Stood.{lead_later}
@@ -338,6 +338,29 @@ module _ (c : Config) (rules : Rules) (w : Cluster) (r : Lines) (h : Lives c rul
   unfolding is_removal
   unremoved m d k = ap (λ (z : List Label). is_removed r m d k z) labels
 
+  -- what the node has not locked stays as it is
+  world_locked : ((a.worlds (r.line n) db key).nodes n).state.locked ≡ None → ⊥
+  unfolding frozen_state
+  world_locked f = absurd (let e = sym (ap is_some (ap (λ (z : RecState). z.locked) (rested db key).state ∙ f)) ∙ t.locked in cc)
+
+  own_line : (d : ℕ) (o : List ℕ) → ((a.worlds (r.line n) d o).nodes n).state.locked ≡ None → (b.worlds (r.line n) d o).nodes n ≡ (a.worlds (r.line n) d o).nodes n
+  own_line d o free = ⊎_elim
+      (λ (i : is_it d o db key ≡ true). (let p = it_is d db o key i in
+      absurd (world_locked (subst (λ (q : List ℕ). ((a.worlds (r.line n) db q).nodes n).state.locked ≡ None) (sym p.1) (subst (λ (j : ℕ). ((a.worlds (r.line n) j o).nodes n).state.locked ≡ None) (sym p.0) free)))))
+      (λ (f : is_it d o db key ≡ false). Holding.other_view c rules w v r a n (r.line n) db key e left asked given h.lines holding d o f)
+      (cases_Bool (is_it d o db key))
+
+  keeps : (q d : ℕ) (o : List ℕ) → (r.line n ≢ q) ⊎ (r.line n ≢ q) ⊎ ((is_present y.phase ≡ false) × (((a.worlds q d o).nodes n).state.locked ≡ None)) → Keeps ((a.worlds q d o).nodes n) ((b.worlds q d o).nodes n)
+  keeps q d o why = ⊎_elim
+      (λ (is : q ≡ r.line n). ⊎_elim
+      (λ (ne : r.line n ≢ q). absurd (ne (sym is)))
+      (λ (k : (r.line n ≢ q) ⊎ ((is_present y.phase ≡ false) × (((a.worlds q d o).nodes n).state.locked ≡ None))). ⊎_elim
+      (λ (ne : r.line n ≢ q). absurd (ne (sym is)))
+      (λ (p : (is_present y.phase ≡ false) × (((a.worlds q d o).nodes n).state.locked ≡ None)).
+      subst (λ (j : ℕ). Keeps ((a.worlds j d o).nodes n) ((b.worlds j d o).nodes n)) (sym is) (keeps_view _ _ (own_line d o (subst (λ (j : ℕ). ((a.worlds j d o).nodes n).state.locked ≡ None) is p.1)))) k) why)
+      (λ (no : q ≢ r.line n). keeps_view _ _ (ap (λ (z : World). z.nodes n) (ap (λ (f : ℕ → List ℕ → World). f d o) (at_other (r.line n) q _ a.worlds no))))
+      (cases_eq q (r.line n))
+
   pub held_turned : Turned c rules who w r h.ages n pend u
   held_turned = record {
     lines = s;
@@ -345,6 +368,7 @@ module _ (c : Config) (rules : Rules) (w : Cluster) (r : Lines) (h : Lives c rul
     accepts = subst (λ (z : List Label). AcceptsLabels c rules r z s) (sym (ap (λ (z : List Label). record_labels c z) labels ∙ t.speaks)) (s, t.sort s accepted, refl);
     later = later;
     away = λ k ne. record { line = refl; pline = refl; views = λ q d o born. Holding.other_node c rules w v r a n (r.line n) db key e left asked given h.lines holding k ne q d o };
+    rest = λ q d o born why. keeps q d o why;
     last = refl;
     holder = refl;
     lives = Holding.held_live c rules w v r a n (r.line n) db key e left asked given h.lines holding;

@@ -53,7 +53,7 @@ use Rattle.ct_law_node.proofs.Staying.{NodeStays, Of_records}
 use Rattle.ct_law_removal.proofs.Removing.{removed_in_records}
 use Rattle.ct_law_line.proofs.Ages.{Ages, era_of}
 use Rattle.ct_law_line.proofs.Lives.{Lives, NodeLives, MailSays, RoundSays, ReplySays, PhaseSays, Replied}
-use Rattle.ct_law_line.proofs.Later.{Later}
+use Rattle.ct_law_line.proofs.Later.{Later, keeps_view}
 use Rattle.ct_law_line.proofs.Faces.{Turned}
 use Rattle.ct_law_line.proofs.Apart.{none_fresh}
 use Rattle.ct_law_line.proofs.Joining
@@ -361,6 +361,7 @@ module _ (c : Config) (rules : Rules) (w : Cluster) (r : Lines) (h : Lives c rul
     accepts = subst (λ (l : List Label). AcceptsLabels c rules r l s) (sym told) (s, accepted, refl);
     later = later;
     away = λ k ne. record { line = at_other n k g r.line ne; pline = at_other n k g r.pline ne; views = λ m db key _. views k m db key };
+    rest = λ m db key _ why. keeps_view _ _ (views n m db key);
     last = refl;
     holder = refl;
     lives = Joining.joins_live c rules w v r a n g h.lines born member later_one fresh_here low same_mails;

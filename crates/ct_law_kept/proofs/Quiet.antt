@@ -25,7 +25,7 @@ use Rattle.ct_cluster.specs.Labels.{Label, Answered, Noted, Yielded, Started, Ta
 use Rattle.ct_cluster.specs.Traces.{sent_label}
 use Rattle.ct_cluster.specs.declared.step.PendingCall.{PendingCall}
 use Rattle.ct_register.specs.Lines.{Lines}
-use Rattle.ct_law_shown.specs.Shown.{labels_of}
+use Rattle.ct_law_shown.specs.Shown.{labels_of, is_telling}
 use Rattle.ct_law_shown.specs.Waiting.{answered}
 use Rattle.ct_law_shown.proofs.Hearing.{list_more}
 use Rattle.ct_law_node.proofs.Pending.{Callers, Fits}
@@ -54,8 +54,9 @@ record_needs : (config : Config) (x : Choice) (r : Lines) (n : ℕ) (asked : Cli
 unfolding DatabasesNeed is_commit
 record_needs config x r n (op.Commit db writes) a h = absurd (let e = h.plain in cc)
 record_needs config x r n (op.Read db key) (answer.Read v) h = λ e. absurd (let k = no_persistent (kind_at config db) h.kind in cc)
-record_needs config x r n (op.Read db key) a h = tt
-record_needs config x r n asked a h = tt
+record_needs config x r n asked (answer.Refused (why.TooLong m)) h = no_persistent (kind_at config (db_of asked)) h.kind
+record_needs config x r n asked (answer.Refused w) h = tt
+record_needs config x r n asked a h = no_persistent (kind_at config (db_of asked)) h.kind
 
 record_goes : (config : Config) (x : Choice) (r : Lines) (n : ℕ) (asked : ClientOp) (a : Answer) → is_persistent (kind_at config (db_of asked)) ≡ false → bases (answer_goes config x n asked a r) ≡ bases r
 unfolding answer_goes
@@ -67,20 +68,19 @@ pub record_quiet : (config : Config) (n : ℕ) (asked : ClientOp) (a : Answer) �
 unfolding IsQuiet goes
 record_quiet config n asked a h x r = (record_needs config x r n asked a h, record_goes config x r n asked a (no_persistent (kind_at config (db_of asked)) h.kind))
 
-refused_needs : (config : Config) (x : Choice) (r : Lines) (n : ℕ) (asked : ClientOp) (w : Why) → DatabasesNeed config x r (Answered n asked (answer.Refused w))
-unfolding DatabasesNeed
-refused_needs config x r n (op.Commit db writes) w = tt
-refused_needs config x r n (op.Read db key) w = tt
-refused_needs config x r n asked w = tt
+refused_needs : (config : Config) (x : Choice) (r : Lines) (n : ℕ) (asked : ClientOp) (w : Why) → is_telling (answer.Refused w) ≡ false → DatabasesNeed config x r (Answered n asked (answer.Refused w))
+unfolding DatabasesNeed is_telling
+refused_needs config x r n asked (why.TooLong m) plain = absurd (cc)
+refused_needs config x r n asked w plain = tt
 
 refused_goes : (config : Config) (x : Choice) (r : Lines) (n : ℕ) (asked : ClientOp) (w : Why) → bases (answer_goes config x n asked (answer.Refused w) r) ≡ bases r
 unfolding answer_goes
 refused_goes config x r n asked (why.TooLong m) = refl
 refused_goes config x r n asked w = refl
 
-pub refused_quiet : (config : Config) (n : ℕ) (asked : ClientOp) (w : Why) → IsQuiet config (Answered n asked (answer.Refused w))
+pub refused_quiet : (config : Config) (n : ℕ) (asked : ClientOp) (w : Why) → is_telling (answer.Refused w) ≡ false → IsQuiet config (Answered n asked (answer.Refused w))
 unfolding IsQuiet goes
-refused_quiet config n asked w x r = (refused_needs config x r n asked w, refused_goes config x r n asked w)
+refused_quiet config n asked w plain x r = (refused_needs config x r n asked w plain, refused_goes config x r n asked w)
 
 -- a note that is quiet: all but those of rounds and of installations
 unfoldable pub IsQuietNote : Note → Type 0
@@ -143,10 +143,17 @@ labels_more n calls (out.Note x ∷ xs) ys = ap (λ (l : List Label). Noted n x 
 
 -- ---- what a node does
 
--- an answer to a call on a record, or a refusal
+-- an answer to a call on a record, or a refusal that tells nothing
 unfoldable pub IsQuietAnswer : Config → Callers → ℕ → Answer → Type 0
+IsQuietAnswer config who call (answer.Refused (why.TooLong m)) = OfRecord config (who call).1
 IsQuietAnswer config who call (answer.Refused w) = Unit {0}
 IsQuietAnswer config who call a = OfRecord config (who call).1
+
+-- a refusal that tells nothing is quiet
+pub plain_refusal : (config : Config) (who : Callers) (call : ℕ) (w : Why) → is_telling (answer.Refused w) ≡ false → IsQuietAnswer config who call (answer.Refused w)
+unfolding IsQuietAnswer is_telling
+plain_refusal config who call (why.TooLong m) plain = absurd (cc)
+plain_refusal config who call w plain = tt
 
 -- the label of an answer is that of the node and the operation of its call, or it has none
 pub answered_or_not : (who : Callers) (call : ℕ) (a : Answer) (xs : List PendingCall) → AllByRecursion (Fits who) xs → (answered call a xs ≡ []) ⊎ (answered call a xs ≡ Answered (who call).0 (who call).1 a ∷ [])
@@ -160,8 +167,9 @@ answered_or_not who call a (x ∷ xs) h = by (nat_eq x.call call) refl (answered
     by false t rest = rest
 
 one_answer : (config : Config) (who : Callers) (call n : ℕ) (a : Answer) → IsQuietAnswer config who call a → IsQuiet config (Answered n (who call).1 a)
-unfolding IsQuietAnswer
-one_answer config who call n (answer.Refused w) h = refused_quiet config n (who call).1 w
+unfolding IsQuietAnswer is_telling
+one_answer config who call n (answer.Refused (why.TooLong m)) h = record_quiet config n (who call).1 (answer.Refused (why.TooLong m)) h
+one_answer config who call n (answer.Refused w) h = refused_quiet config n (who call).1 w refl
 one_answer config who call n a h = record_quiet config n (who call).1 a h
 
 pub answer_quiet : (config : Config) (who : Callers) (call : ℕ) (a : Answer) (calls : List PendingCall) → AllByRecursion (Fits who) calls → IsQuietAnswer config who call a → AllByRecursion (IsQuiet config) (answered call a calls)

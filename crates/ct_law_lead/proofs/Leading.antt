@@ -29,7 +29,7 @@ use Rattle.ct_law_shown.proofs.Hearing.{mails_more}
 use Rattle.ct_law_node.proofs.Pending.{Callers, NodeKnown}
 use Rattle.ct_law_line.proofs.Ages.{Ages, era_of, Rests}
 use Rattle.ct_law_line.proofs.Lives.{Lives, NodeLives, MailSays, ReplySays, LeadSays, PhaseSays}
-use Rattle.ct_law_line.proofs.Later.{Later}
+use Rattle.ct_law_line.proofs.Later.{keeps_view, Later}
 use Rattle.ct_law_line.proofs.Apart.{none_fresh}
 use Rattle.ct_law_line.proofs.Faces.{Turned}
 use Rattle.ct_law_removal.proofs.Removing.{removed_in_records}
@@ -158,6 +158,7 @@ module _ (c : Config) (rules : Rules) (w : Cluster) (r : Lines) (h : Lives c rul
     accepts = subst (λ (l : List Label). AcceptsLabels c rules r l r) (sym led.untold) refl;
     later = later_none r h.ages;
     away = λ k ne. record { line = refl; pline = refl; views = λ g db key born. refl };
+    rest = λ g db key born why. keeps_view _ _ refl;
     last = refl;
     holder = refl;
     lives = resent c rules w v r h.ages same_mails h.lines;

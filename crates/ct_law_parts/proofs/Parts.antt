@@ -111,11 +111,15 @@ pub record CanKeep (r : Lines) (members : List ℕ) (q : ℕ) (kept : ℕ → �
   pub acked : (db : ℕ) → (r.databases q db).acked ≤ kept db
   pub seen : (db m : ℕ) → is_among m members ≡ true → r.pline m ≡ q → (r.databases q db).seen m ≤ kept db
 
+-- No answer is one of a persistent database but to a commit or a read there, or a refusal that tells nothing.
 unfoldable pub DatabasesNeed : Config → Choice → Lines → Label → Type 0
+DatabasesNeed config x r (Answered n asked (answer.Refused (why.TooLong m))) = is_persistent (kind_at config (db_of asked)) ≡ false
+DatabasesNeed config x r (Answered n asked (answer.Refused w)) = Unit {0}
 DatabasesNeed config x r (Answered n (op.Commit db writes) (answer.Committed number)) = OfDatabase config n db (IsOpen n writes number) r
 DatabasesNeed config x r (Answered n (op.Commit db writes) (answer.Unsure number missing)) = OfDatabase config n db (IsOpen n writes number) r × (missing ≢ [])
 DatabasesNeed config x r (Answered n (op.Read db key) (answer.Read v)) =
     is_persistent (kind_at config db) ≡ true → OfDatabase config n db (CanRead x n key v) r
+DatabasesNeed config x r (Answered n asked given) = is_persistent (kind_at config (db_of asked)) ≡ false
 DatabasesNeed config x r (Begun n db writes) =
     OfDatabase config n db (λ d. d.acked ≡ length d.commits) r × (lock_owner config (r.line n) db r ≡ Some n)
 DatabasesNeed config x r (Noted h (note.Round g members p q)) = CanKeep r members q x.kept

@@ -1,6 +1,6 @@
 -- The parts of a turn hold where the node goes on by rules of records, and says more of rounds and commits: the registers accept
 -- what it tells, its line lives on in the worlds that follow, and no other line sees it.
-use Rattle.std.proofs.Common.{◌≡◌, ◌≢◌, ℕ, ◌<◌, ◌^◌, Bool, true, false, cond, List, [], ◌∷◌, ◌++◌, Option, Some, None, append-nil, ⊎_elim, refl, sym, ap, ◌∙◌, subst, arith}
+use Rattle.std.proofs.Common.{◌≡◌, ◌≢◌, ℕ, ◌<◌, ◌^◌, Bool, true, false, cond, List, [], ◌∷◌, ◌++◌, Option, Some, None, append-nil, inl, inr, ⊎_elim, refl, sym, ap, ◌∙◌, subst, arith}
 use Rattle.std.specs.Prelude.{◌⊎◌, nat_eq, nat_lt, ◌&&◌}
 use Rattle.std.specs.List.{AllByRecursion}
 use Rattle.std.proofs.lemmas.Bool.{cases_eq, ne_eqb, eq-eqb, cases_Bool}
@@ -48,7 +48,7 @@ use Rattle.ct_law_plain.proofs.Locked.{CommitLocked}
 use Rattle.ct_law_generation.proofs.Going.{marks_step}
 use Rattle.ct_law_line.proofs.Ages.{Ages, era_of, LineLives}
 use Rattle.ct_law_line.proofs.Lives.{AllHaveInstalled, ReplySays, RoundSays, MailSays, LeadSays, NodeLives, Lives}
-use Rattle.ct_law_line.proofs.Later.{Later}
+use Rattle.ct_law_line.proofs.Later.{Later, Rest, keeps_view}
 use Rattle.ct_law_line.proofs.Framing.{mail_later}
 use Rattle.ct_law_line.proofs.Moving.{Moved, ages_moved, moved_live}
 use Rattle.ct_law_line.proofs.Apart.{none_fresh, each_then}
@@ -318,6 +318,14 @@ module _ (c : Config) (rules : Rules) (w : Cluster) (r : Lines) (h : Lives c rul
       (subst (λ (q : ℕ → List ℕ → Ghost). MarksStep false (marks_of (a.ghosts m db key)) (marks_of (q db key))) (sym (at_other g m ghosts a.ghosts ne)) (marks_stay (marks_of (a.ghosts m db key)))))
       (cases_eq m g)
 
+  rest : Rest r a after b n v.node.phase
+  rest m db key born why = keeps_view _ _ (other_views n m db key (apart why))
+    where
+      apart : (r.line n ≢ m) ⊎ (r.line n ≢ m) ⊎ ((is_present v.node.phase ≡ false) × (((a.worlds m db key).nodes n).state.locked ≡ None)) → m ≢ g
+      apart (inl ne) e = ne (sym e)
+      apart (inr (inl ne)) e = ne (sym e)
+      apart (inr (inr p)) e = absurd (let k = phase_of g v.node stays.present in let f = p.0 in cc)
+
   -- ---- all of it
 
   pub served_turned : Turned c rules h.who w r a n pend v
@@ -328,6 +336,7 @@ module _ (c : Config) (rules : Rules) (w : Cluster) (r : Lines) (h : Lives c rul
     accepts = subst (λ (l : List Label). AcceptsLabels c rules r l after) (sym told_is) (subst (λ (l : Lines). AcceptsLabels c rules r told l) woven.3 woven.1);
     later = later;
     away = λ k ne. record { line = refl; pline = refl; views = λ m db key born. views k ne m db key };
+    rest = rest;
     last = refl;
     holder = refl;
     lives = moved_live c rules w z r a g records next ghosts h.lines moved;

@@ -27,7 +27,7 @@ use Rattle.ct_law_shown.specs.Shown.{mail_of, mails}
 use Rattle.ct_law_node.proofs.Pending.{NodeKnown}
 use Rattle.ct_law_line.proofs.Ages.{LinesLive}
 use Rattle.ct_law_line.proofs.Lives.{ReplySays, MailSays, NodeLives, Lives}
-use Rattle.ct_law_line.proofs.Later.{Later, Away}
+use Rattle.ct_law_line.proofs.Later.{Later, Away, keeps_view}
 use Rattle.ct_law_line.proofs.Framing.{mail_later}
 use Rattle.ct_law_line.proofs.Apart.{none_fresh, each_then, reply_away, node_away}
 use Rattle.ct_law_line.proofs.Begetting.{same_lives}
@@ -137,6 +137,7 @@ module _ (c : Config) (rules : Rules) (w : Cluster) (r : Lines) (h : Lives c rul
     accepts = told;
     lives = quiet_lives c rules w run.cluster r h o quiet ticket holder there;
     marks = λ g e db key. subst (λ (b : Bool). MarksStep b (marks_of (h.ages.ghosts g db key)) (marks_of (h.ages.ghosts g db key))) (sym (kept g db key)) (marks_stay _);
+    rest = λ k g db key born why. keeps_view _ _ refl;
   }
 
 -- so it is where nothing happened

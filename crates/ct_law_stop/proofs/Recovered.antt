@@ -130,7 +130,8 @@ begun_after c rules w r h n members order k =
     (turned_after c rules v (ticketed g n members r) lives n (pending w) u own t k.there
     r h.ages (Ticket g n members ∷ labels_of n (pending w) u.outs)
     (ticketed g n members r, accepted c rules w r h n members free, t.accepts)
-    t.marks)
+    t.marks
+    (λ k p f. f))
 
 pub recover_after : (c : Config) (rules : Rules) (w : Cluster) (r : Lines) (h : Lives c rules w r) (n : ℕ) (members : List ℕ) → IsConfig c → After c rules r h.ages (outcome c rules w (step.Recover n members))
 unfolding is_allowed steps recover

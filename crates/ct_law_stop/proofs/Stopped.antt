@@ -45,7 +45,7 @@ use Rattle.ct_law_node.proofs.Putting.{own_node, other_node}
 use Rattle.ct_law_node.proofs.Staying.{Of_records}
 use Rattle.ct_law_line.proofs.Ages.{Ages, LinesLive}
 use Rattle.ct_law_line.proofs.Lives.{Replied, ReplySays, MailSays, LeadSays, PhaseSays, NodeLives, Lives}
-use Rattle.ct_law_line.proofs.Later.{Later, Away}
+use Rattle.ct_law_line.proofs.Later.{Later, Away, Keeps, keeps_view}
 use Rattle.ct_law_line.proofs.Framing.{mail_later}
 use Rattle.ct_law_line.proofs.Apart.{none_fresh, each_then, empty_formed, state_none, replies_away, node_away}
 use Rattle.ct_law_line.proofs.Stopping.{with_left, ages_left, each, leaves_live, idle_leaves}
@@ -93,6 +93,7 @@ record Left_lines (c : Config) (rules : Rules) (w : Cluster) (r : Lines) (a : Ag
   tables : b.tables ≡ a.tables
   views : (k : ℕ) → k ≢ n → (g db : ℕ) (key : List ℕ) → (b.worlds g db key).nodes k ≡ (a.worlds g db key).nodes k
   copies : (g db : ℕ) (key : List ℕ) → ((b.worlds g db key).nodes n).state.copy ≡ ((a.worlds g db key).nodes n).state.copy
+  frees : (g db : ℕ) (key : List ℕ) → ((a.worlds g db key).nodes n).state.locked ≡ None → ((b.worlds g db key).nodes n).state.locked ≡ None
   marks : (g db : ℕ) (key : List ℕ) → MarksStep false (marks_of (a.ghosts g db key)) (marks_of (b.ghosts g db key))
 
 -- who is in no line changes no world
@@ -103,6 +104,7 @@ idle_lines c rules w r a n live out = record {
   tables = refl;
   views = λ k ne g db key. refl;
   copies = λ g db key. refl;
+  frees = λ g db key f. f;
   marks = λ g db key. marks_stay _;
 }
 
@@ -121,6 +123,11 @@ module _ (c : Config) (rules : Rules) (w : Cluster) (r : Lines) (a : Ages) (n g 
       (cond_both (nat_eq n n) (unlocked ((a.worlds g db key).nodes n)) ((a.worlds g db key).nodes n) (λ (y : View). y.state.copy ≡ ((a.worlds g db key).nodes n).state.copy) (λ _. refl) (λ _. refl))
       (λ m _. refl) m
 
+  left_frees : (m db : ℕ) (key : List ℕ) → ((a.worlds m db key).nodes n).state.locked ≡ None → ((b.worlds m db key).nodes n).state.locked ≡ None
+  left_frees m db key = at_each (λ m (ws : ℕ → List ℕ → World). ((a.worlds m db key).nodes n).state.locked ≡ None → ((ws db key).nodes n).state.locked ≡ None) g (λ d j. with_left n (a.worlds g d j)) a.worlds
+      (λ f. cond_both (nat_eq n n) (unlocked ((a.worlds g db key).nodes n)) ((a.worlds g db key).nodes n) (λ (y : View). y.state.locked ≡ None) (λ _. refl) (λ _. f))
+      (λ m _ f. f) m
+
   left_marks : (m db : ℕ) (key : List ℕ) → MarksStep false (marks_of (a.ghosts m db key)) (marks_of (b.ghosts m db key))
   left_marks m db key = at_each (λ m (gs : ℕ → List ℕ → Ghost). MarksStep false (marks_of (a.ghosts m db key)) (marks_of (gs db key))) g
       (λ d j. (each c rules w (stopped_cluster c n w) r a n g live line born member there same d j).ghost) a.ghosts
@@ -128,7 +135,7 @@ module _ (c : Config) (rules : Rules) (w : Cluster) (r : Lines) (a : Ages) (n g 
       (λ m _. marks_stay _) m
 
   left_lines : Left_lines c rules w r a n b
-  left_lines = record { lines = leaves_live c rules w (stopped_cluster c n w) r a n g live line born member there same; tables = refl; views = left_views; copies = left_copies; marks = left_marks }
+  left_lines = record { lines = leaves_live c rules w (stopped_cluster c n w) r a n g live line born member there same; tables = refl; views = left_views; copies = left_copies; frees = left_frees; marks = left_marks }
 
 -- ---- the nodes
 
@@ -271,6 +278,10 @@ module _ (c : Config) (rules : Rules) (w : Cluster) (r : Lines) (h : Lives c rul
       bare = h.bare;
     };
     marks = λ g e db key. left.marks g db key;
+    rest = λ k g db key born why. ⊎_elim
+        (λ (is : k ≡ n). subst (λ (j : ℕ). Keeps ((a.worlds g db key).nodes j) ((b.worlds g db key).nodes j)) (sym is) (record { copy = left.copies g db key; free = left.frees g db key }))
+        (λ (ne : k ≢ n). keeps_view _ _ (left.views k ne g db key))
+        (cases_eq k n);
   }
 
 -- ---- the step

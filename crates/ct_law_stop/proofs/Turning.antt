@@ -8,7 +8,7 @@ use Rattle.ct_msg.specs.declared.config.Config.{Config}
 use Rattle.ct_frame.specs.declared.frame.Frame.{Frame}
 use Rattle.ct_call.specs.Rules.{Rules}
 use Rattle.ct_merge.proofs.Among.{In}
-use Rattle.ct_rules_node.specs.Node.{Node}
+use Rattle.ct_rules_node.specs.Node.{Node, Phase}
 use Rattle.ct_rules_node.specs.Turn.{Turn}
 use Rattle.ct_cluster.specs.Cluster.{Cluster, Sent, is_up, node_at}
 use Rattle.ct_cluster.specs.Labels.{Label}
@@ -24,6 +24,7 @@ use Rattle.ct_law_shown.specs.Shown.{labels_of}
 use Rattle.ct_law_node.proofs.Putting.{own_node, other_node}
 use Rattle.ct_law_line.proofs.Ages.{Ages}
 use Rattle.ct_law_line.proofs.Lives.{ReplySays, MailSays, NodeLives, Lives}
+use Rattle.ct_law_line.proofs.Later.{Rest, keeps_view}
 use Rattle.ct_law_line.proofs.Framing.{mail_later}
 use Rattle.ct_law_line.proofs.Apart.{each_then, replies_away, node_away}
 use Rattle.ct_law_line.proofs.Faces.{Turned, After, marks_in_all}
@@ -57,14 +58,25 @@ module _ (c : Config) (rules : Rules) (w : Cluster) (r : Lines) (h : Lives c rul
   unfolding put with_node node_at
   own_lives = subst (λ (x : Node). NodeLives c rules h.who v t.lines t.ages n x) (sym (own_node n u.node w (subst (λ (k : ℕ). n < k) (sym h.size) (ltb-true n c.nodes there)))) t.mine
 
+  own_is : node_at n v ≡ u.node
+  unfolding put with_node node_at
+  own_is = own_node n u.node w (subst (λ (k : ℕ). n < k) (sym h.size) (ltb-true n c.nodes there))
+
+  -- each node keeps what it has in lines in which it does nothing
+  all_rest : (k : ℕ) → Rest r h.ages t.lines t.ages k (node_at k v).phase
+  all_rest k = ⊎_elim
+      (λ (is : k ≡ n). subst (λ (j : ℕ). Rest r h.ages t.lines t.ages j (node_at j v).phase) (sym is) (subst (λ (x : Node). Rest r h.ages t.lines t.ages n x.phase) (sym own_is) t.rest))
+      (λ (ne : k ≢ n). λ g db key born why. keeps_view _ _ ((t.away k ne).views g db key born))
+      (cases_eq k n)
+
   all_live : (k : ℕ) → nat_lt k c.nodes ≡ true → NodeLives c rules h.who v t.lines t.ages k (node_at k v)
   all_live k lt = ⊎_elim (λ (is : k ≡ n). subst (λ (j : ℕ). NodeLives c rules h.who v t.lines t.ages j (node_at j v)) (sym is) own_lives) (λ (ne : k ≢ n). others_live k ne lt) (cases_eq k n)
 
   -- so it is from these registers on, where they accept what is told and marks go on
   pub turned_after : (r0 : Lines) (a0 : Ages) (trace : List Label) → AcceptsLabels c rules r0 (record_labels c trace) t.lines → MarksGoOn r0 trace (marks_in_all a0) (marks_in_all t.ages) →
-      After c rules r0 a0 (record { cluster = v; trace = trace })
+      ((k : ℕ) (p : Phase) → Rest r h.ages t.lines t.ages k p → Rest r0 a0 t.lines t.ages k p) → After c rules r0 a0 (record { cluster = v; trace = trace })
   unfolding put with_node is_up
-  turned_after r0 a0 trace accepts marks = record {
+  turned_after r0 a0 trace accepts marks rests = record {
     lines = t.lines;
     accepts = accepts;
     lives = record {
@@ -82,4 +94,5 @@ module _ (c : Config) (rules : Rules) (w : Cluster) (r : Lines) (h : Lives c rul
       bare = labels_bare c rules (labels_of n pend u.outs) r t.lines t.accepts h.bare;
     };
     marks = marks;
+    rest = λ k. rests k (node_at k v).phase (all_rest k);
   }

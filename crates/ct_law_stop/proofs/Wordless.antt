@@ -23,7 +23,7 @@ use Rattle.ct_law_shown.proofs.Hearing.{mails_more}
 use Rattle.ct_law_node.proofs.Pending.{Callers}
 use Rattle.ct_law_line.proofs.Ages.{Ages, LinesLive}
 use Rattle.ct_law_line.proofs.Lives.{ReplySays, MailSays, NodeLives, Lives}
-use Rattle.ct_law_line.proofs.Later.{Later, Away}
+use Rattle.ct_law_line.proofs.Later.{Later, Away, keeps_view}
 use Rattle.ct_law_line.proofs.Apart.{none_fresh, node_away}
 use Rattle.ct_law_line.proofs.Begetting.{same_lives}
 use Rattle.ct_law_line.proofs.Faces.{Turned}
@@ -112,6 +112,7 @@ module _ (c : Config) (rules : Rules) (who : Callers) (w : Cluster) (r : Lines) 
     accepts = subst (λ (ls : List Label). AcceptsLabels c rules r ls r) (sym h.untold) refl;
     later = stays;
     away = λ k ne. away k;
+    rest = λ m db key born why. keeps_view _ _ refl;
     last = refl;
     holder = refl;
     lives = lines_live;

@@ -33,6 +33,7 @@ use Rattle.ct_cluster.specs.declared.step.Line.TheVariants as line
 use Rattle.ct_cluster.specs.declared.step.PendingCall.{PendingCall}
 use Rattle.ct_register.specs.Lines.{Lines}
 use Rattle.ct_register.specs.Words.{at}
+use Rattle.ct_law_cluster.proofs.Configured.{refusals_silent}
 use Rattle.ct_law_shown.specs.Shown.{labels_of}
 use Rattle.ct_law_shown.specs.Waiting.{answered}
 use Rattle.ct_law_node.proofs.Pending.{Callers, Fits}
@@ -137,10 +138,10 @@ module _ (config : Config) (rules : Rules) (who : Callers) (calls : ℕ) (nodes 
   calm_call asked u none calm = subst (λ (l : List Label). Goes config nodes (at n u.node nodes) r has (l ++ labels_of n pend u.outs) (frame_list u.outs)) (sym none)
       (calm_goes config who nodes r has n (begins (nodes n)) u [] pend b.holds refl refl tt fit calm)
 
-  refused_goes : (asked : ClientOp) (w : Why) → Goes_to asked (answers call (answer.Refused w) t)
+  refused_goes : (asked : ClientOp) (w : Why) → refusal config rules (nodes n) asked ≡ Some w → Goes_to asked (answers call (answer.Refused w) t)
   unfolding answers does makes lines_of
-  refused_goes asked w = calm_call asked (answers call (answer.Refused w) t) (begun_refused n call asked w)
-      (calm_after (makes_calm config who (bases r) has n call (begins (nodes n))) (refuse_calm config who (bases r) has n call w t))
+  refused_goes asked w e = calm_call asked (answers call (answer.Refused w) t) (begun_refused n call asked w)
+      (calm_after (makes_calm config who (bases r) has n call (begins (nodes n))) (refuse_calm config who (bases r) has n call w t (refusals_silent config rules (nodes n) asked w e)))
 
   -- ---- a commit
 
@@ -226,5 +227,5 @@ module _ (config : Config) (rules : Rules) (who : Callers) (calls : ℕ) (nodes 
   client_goes asked own mine = by (refusal config rules (nodes n) asked) refl
     where
       by : (w : Option Why) → refusal config rules (nodes n) asked ≡ w → Goes_to asked (serves_or config rules n call asked t w)
-      by (Some w) e = refused_goes asked w
+      by (Some w) e = refused_goes asked w e
       by None e = free_goes asked e own mine

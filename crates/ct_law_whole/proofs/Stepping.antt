@@ -45,6 +45,7 @@ use Rattle.ct_law_cluster.proofs.Faulting.{vacuum_kind}
 use Rattle.ct_law_line.specs.Records.{LawOfRecords}
 use Rattle.ct_law_line.proofs.Ages.{Ages}
 use Rattle.ct_law_line.proofs.Lives.{WasSent, Lives}
+use Rattle.ct_law_line.proofs.Later.{Rest}
 use Rattle.ct_law_line.proofs.Faces.{Turned, After, StepLives, marks_in_all}
 use Rattle.ct_law_whole.proofs.Ending.{law_of_records}
 use Rattle.ct_law_stop.proofs.Quiet.{Quiet, quiet_lives, quiet_after, idle_after, after_taken}
@@ -117,7 +118,8 @@ turn_after all c rules w v r a refused h same s n e aside is there comes = fed_e
     (subst (λ (l : List Label). AcceptsLabels c rules r l t.lines) (sym (filter_more (speaks_of_records c) (own_labels w s ls) more ∙ ap (λ (l : List Label). l ++ record_labels c more) (aside ls).untold)) t.accepts))
     (subst (λ (l : List Label). MarksGoOn r l (marks_in_all a) (marks_in_all t.ages)) (sym told)
     (subst (λ (b : Ages). MarksGoOn r (own_labels w s ls ++ more) (marks_in_all b) (marks_in_all t.ages)) same
-    (λ g b db key. subst (λ (x : Bool). MarksStep x (marks_of (h.ages.ghosts g db key)) (marks_of (t.ages.ghosts g db key))) (sym (any_more (is_removal r g db key) (own_labels w s ls) more ((aside ls).kept g db key))) (t.marks g b db key)))))
+    (λ g b db key. subst (λ (x : Bool). MarksStep x (marks_of (h.ages.ghosts g db key)) (marks_of (t.ages.ghosts g db key))) (sym (any_more (is_removal r g db key) (own_labels w s ls) more ((aside ls).kept g db key))) (t.marks g b db key))))
+    (λ k p f. subst (λ (b : Ages). Rest r b t.lines t.ages k p) same f))
 
 -- ---- why it is not refused
 

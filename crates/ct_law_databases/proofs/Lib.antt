@@ -1,0 +1,4 @@
+pub mod Locking
+pub mod Whole
+pub mod Stepping
+pub mod Running

@@ -1,0 +1,3 @@
+pub mod Like
+pub mod Labels
+pub mod Placeless
