@@ -1,17 +1,13 @@
 -- The law of records, of generations and of addresses: over every list of steps, and the promise that follows.
-use Rattle.std.proofs.Common.{◌≡◌, ℕ, Bool, true, false, cond, not, ◌||◌, List, [], ◌∷◌, refl, sym, subst}
-use Rattle.std.specs.Prelude.{Result, Ok, Err}
+use Rattle.std.proofs.Common.{◌≡◌, ℕ, Bool, false, not, ◌||◌, List, [], ◌∷◌, refl, sym, subst}
 use Rattle.ct_bytes.specs.declared.address.Address.{Address}
 use Rattle.ct_msg.specs.declared.config.Config.{Config}
 use Rattle.ct_call.specs.Rules.{Rules}
 use Rattle.ct_cluster.specs.Cluster.{Cluster, opening}
-use Rattle.ct_cluster.specs.Faults.{is_allowed}
 use Rattle.ct_cluster.specs.Labels.{Label, Noted}
-use Rattle.ct_cluster.specs.Steps.{Stepped, applied}
 use Rattle.ct_cluster.specs.Traces
 use Rattle.ct_cluster.specs.Traces.{OpenCall, ran, ran_one}
 use Rattle.ct_cluster.specs.declared.step.Step.{Step}
-use Rattle.ct_cluster.specs.declared.step.StepFault.{StepFault}
 use Rattle.ct_register.specs.Lines
 use Rattle.ct_register.specs.Legal.{AcceptsLabels}
 use Rattle.ct_register.specs.Marks.{MarksStep}
@@ -21,7 +17,7 @@ use Rattle.ct_promise.specs.Marked.{AllMarks, MarksHold, MarksHoldIn, is_removal
 use Rattle.ct_promise.specs.Promises.{IsConfig, CallsStand}
 use Rattle.ct_promise.proofs.Follows.{both_accepted, filter_more}
 use Rattle.ct_promise.proofs.Opened.{opening_calls}
-use Rattle.ct_law_shown.specs.Waiting.{Outcome, unchanged, came_of, outcome, outcome_of}
+use Rattle.ct_law_shown.specs.Waiting.{Outcome, outcome, outcome_of}
 use Rattle.ct_law_entry.proofs.AtHome.{AllAtHome, step_home}
 use Rattle.ct_law_calls.proofs.Clusters.{Calls}
 use Rattle.ct_law_calls.proofs.Telling.{by_log, calls_stand}
@@ -34,43 +30,23 @@ use Rattle.ct_law_line.proofs.Opened.{opened_lives}
 use Rattle.ct_law_whole.proofs.Ending.{all_home, entries_home}
 use Rattle.ct_law_whole.proofs.Owed.{all_owed}
 use Rattle.ct_law_whole.proofs.Stepping.{owed_turned, step_lives}
-use Rattle.ct_law_parts.proofs.Parts.{Choice, goes_on, AllNeed}
-use Rattle.ct_law_stores.proofs.Places.{Turns}
-use Rattle.ct_law_places.proofs.Facts.{Spots, spots, MailStands, Holds}
+use Rattle.ct_law_parts.proofs.Parts.{Choice, goes_on}
+use Rattle.ct_law_places.proofs.Facts.{Spots, MailStands, Holds}
 use Rattle.ct_law_walk.proofs.Parts.{nodes_of, frames_in}
-use Rattle.ct_law_assigned.proofs.Law.{Before, StepHolds, step_holds}
 use Rattle.ct_law_addresses.specs.Addresses.{speaks_of_databases, other_labels, AddressesStand, AddressesRun, LawOfAddresses, KeepsAddresses, PromiseOfAddresses}
+use Rattle.ct_law_addresses.proofs.Beside.{PlacesCarried, places_stand, opened_places, outcome_holds}
 use Rattle.ct_law_addresses.proofs.Given.{before_given}
-use Rattle.ct_law_addresses.proofs.Stood.{addresses_stand, opened_holds, opened_mail, opened_nowhere, opened_addresses}
-use Rattle.ct_law_addresses.proofs.Together.{placed_as, Nowhere, labels_join}
+use Rattle.ct_law_addresses.proofs.Together.{placed_as, labels_join}
 
 -- the law of addresses leaves nothing open
 abbrev any_choice : Choice
 any_choice = record { counts = λ db key. 0; kept = λ db. 0; seen = 0 }
 
 -- what holds of addresses beside what holds of records and generations
-record Carried (config : Config) (w : Cluster) (r p : Lines.Lines) : Type 0 where
-  turns : Turns
-  holds : Holds config.addresses (nodes_of w) (spots (placed_as r p)) turns
-  mail : MailStands config.addresses (nodes_of w) (spots (placed_as r p)) turns (frames_in w)
-  nowhere : Nowhere (placed_as r p)
+abbrev Carried : Config → Cluster → Lines.Lines → Lines.Lines → Type 0
+Carried config w r p = PlacesCarried config w (placed_as r p)
 
 -- ---- one step
-
-outcome_holds : (config : Config) (rules : Rules) (w : Cluster) (r : Lines.Lines) (turns : Turns) (s : Step) → Before config w r turns → StepHolds config any_choice (outcome config rules w s).cluster r (outcome config rules w s).trace
-unfolding outcome unchanged came_of goes_on AllNeed
-outcome_holds config rules w r turns s b = allowed (is_allowed s)
-  where
-    idle : StepHolds config any_choice w r []
-    idle = record { turns = turns; needs = tt; holds = b.ready.holds; mail = b.ready.mail }
-
-    came : (o : Result Stepped StepFault) → applied config rules w s ≡ o → StepHolds config any_choice (came_of w s o).cluster r (came_of w s o).trace
-    came (Ok x) e = step_holds config rules any_choice w r turns b s x e
-    came (Err f) e = idle
-
-    allowed : (c : Bool) → StepHolds config any_choice (cond c (came_of w s (applied config rules w s)) (unchanged w)).cluster r (cond c (came_of w s (applied config rules w s)) (unchanged w)).trace
-    allowed true = came (applied config rules w s) refl
-    allowed false = idle
 
 -- the registers of both together, and what holds of them then
 record Onward (config : Config) (rules : Rules) (r t p : Lines.Lines) (o : Outcome) : Type 0 where
@@ -82,7 +58,7 @@ goes_onward : (config : Config) (rules : Rules) (w : Cluster) (r p : Lines.Lines
 goes_onward config rules w r p h s is c k =
     let q : Lines.Lines = placed_as r p in
     let o : Outcome = outcome config rules w s in
-    let g = outcome_holds config rules w q c.turns s (before_given config rules w r p h is c.turns c.holds c.mail) in
+    let g = outcome_holds config rules any_choice w q c.turns s (before_given config rules w r p h is c.turns c.holds c.mail) in
     let j = labels_join config rules any_choice o.trace r k.lines q k.accepts g.needs refl c.nowhere in
     record {
       next = goes_on config any_choice o.trace q;
@@ -139,7 +115,7 @@ steps_run config rules (s ∷ steps) w log r p h c home calls is =
       j.accepts,
       still_records run.cluster k.lines j.next both.0,
       still_generations run.cluster k.lines j.next (generations_stand config rules run.cluster k.lines k.lives),
-      addresses_stand config run.cluster (placed_as k.lines j.next) j.carried.turns j.carried.holds j.carried.mail j.carried.nowhere,
+      places_stand config run.cluster (placed_as k.lines j.next) j.carried,
       calls_stand config run.cluster run.log l.calls,
       still_marks run.cluster k.lines j.next (marks_in_all k.lives.ages) both.1,
       still_going r p run.trace (marks_in_all h.ages) (marks_in_all k.lives.ages) k.marks,
@@ -149,7 +125,7 @@ steps_run config rules (s ∷ steps) w log r p h c home calls is =
 pub law_of_addresses : LawOfAddresses
 law_of_addresses config rules steps is =
     let o = opened_lives config rules is in
-    let c : Carried config (opening config) (Lines.opening config) (Lines.opening config) = record { turns = λ g. 0; holds = opened_holds config; mail = opened_mail config; nowhere = opened_nowhere config } in
+    let c : Carried config (opening config) (Lines.opening config) (Lines.opening config) = opened_places config in
     subst (λ (marks : AllMarks). AddressesRun config rules (opening config) [] (Lines.opening config) marks steps) o.1
     (steps_run config rules steps (opening config) [] (Lines.opening config) (Lines.opening config) o.0 c (all_home config rules) (opened_calls config) is)
 
@@ -171,4 +147,4 @@ addresses_kept config rules (step ∷ steps) w log r marks m stands generations 
 
 pub promise_of_addresses : PromiseOfAddresses
 promise_of_addresses config rules steps is = (let first = generations_stand config rules _ _ (opened_lives config rules is).0 in
-    addresses_kept config rules steps _ _ _ _ (law_of_addresses config rules steps is) (opening_records_stand config) first (opened_addresses config) (opening_calls config))
+    addresses_kept config rules steps _ _ _ _ (law_of_addresses config rules steps is) (opening_records_stand config) first (places_stand config (opening config) (Lines.opening config) (opened_places config)) (opening_calls config))

@@ -1,5 +1,6 @@
 pub mod Given
 pub mod Together
 pub mod Stood
+pub mod Beside
 pub mod Law
 pub mod Holders

@@ -111,6 +111,3 @@ opened_mail c f is = absurd is
 
 pub opened_nowhere : (c : Config) → Nowhere (Lines.opening c)
 opened_nowhere c n a z = refl
-
-pub opened_addresses : (c : Config) → AddressesStand (cluster.opening c) (Lines.opening c)
-opened_addresses c = addresses_stand c (cluster.opening c) (Lines.opening c) no_turns (opened_holds c) (opened_mail c) (opened_nowhere c)

@@ -149,7 +149,7 @@ module _ (config : Config) (rules : Rules) (x : Choice) where
   -- ---- labels of addresses
 
   -- an address that is held or is not, at a node of a line
-  address_nowhere : (n : ℕ) (a : Address) (t : Bool) (p : Lines) → p.line n ≢ 0 → Nowhere p → (m : ℕ) (b : Address) → p.line m ≡ 0 → at n (at_address a t (p.held n)) p.held m b ≡ false
+  pub address_nowhere : (n : ℕ) (a : Address) (t : Bool) (p : Lines) → p.line n ≢ 0 → Nowhere p → (m : ℕ) (b : Address) → p.line m ≡ 0 → at n (at_address a t (p.held n)) p.held m b ≡ false
   address_nowhere n a t p line nowhere m b z = ap (λ (f : Address → Bool). f b) (at_other n m (at_address a t (p.held n)) p.held (λ e. line (ap p.line (sym e) ∙ z))) ∙ nowhere m b z
 
   address_joins : (label : Label) (r p : Lines) → speaks_of_records config label ≡ false → speaks_of_databases config label ≡ false → PlacesNeed config p label → AreAlike r p → Nowhere p → Joins r r p label

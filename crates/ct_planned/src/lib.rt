@@ -3,5 +3,6 @@
 
 pub mod change;
 pub mod commit;
+pub mod plans;
 pub mod record;
 pub mod still;

@@ -1,0 +1,6 @@
+//! The lines of a scenario: what they are, and how they are read.
+#![tactic(auto)]
+
+pub mod line;
+pub mod parse;
+pub mod words;

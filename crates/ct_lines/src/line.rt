@@ -1,0 +1,127 @@
+//! The lines of a scenario.
+ghost use Rattle.std.specs.Prelude.{◌≡◌};
+
+use ct_bytes::address::Address;
+use ct_bytes::items::Items;
+use ct_bytes::key::Key;
+use ct_bytes::memory::NoMemory;
+use ct_bytes::name::DbName;
+use ct_bytes::value::Value;
+use ct_cluster::step::Step;
+use ct_msg::client::Pair;
+use ct_msg::config::DbDecl;
+use std::alloc::AllocFailed;
+use thiserror::Error;
+
+/// One line of a scenario.
+#[derive(Debug, Drop, PartialEq)]
+pub enum ScenarioLine {
+    /// What the cluster is.
+    Config(ConfigLine),
+    /// A step that names no database and asks nothing as a client does.
+    Change(Step),
+    /// A step at a node on a database that it names. The name may be of no database that was declared.
+    ByName { node: u32, db: DbName, op: NamedOp },
+    /// Up to so many deliveries, 1 to 100,000.
+    Settle(u32),
+    /// A command of the command line, at a node.
+    Ctdb { node: u32, command: Command },
+}
+
+/// A line that says what the cluster is.
+#[derive(Debug, Drop, PartialEq)]
+pub enum ConfigLine {
+    /// The number of nodes, 1 to 16.
+    Nodes(u32),
+    Db(DbDecl),
+    /// A public address.
+    Address(Address),
+}
+
+/// What is asked, on a database that is named.
+#[derive(Debug, Drop, PartialEq)]
+pub enum NamedOp {
+    Lock(Key),
+    Read(Key),
+    Unlock(Key),
+    Store(Key, Value),
+    Apply { key: Key, function: u32, arg: Value },
+    /// The pairs are 1 to 16.
+    Commit(Items<Pair>),
+    Vacuum,
+}
+
+/// A command of the command line. The first seven print.
+#[derive(Debug, Drop, PartialEq)]
+pub enum Command {
+    Pnn,
+    ListNodes,
+    Status,
+    Ip,
+    GetDbMap,
+    CatTdb(DbName),
+    GetDbSeqNum(DbName),
+    Disable,
+    Enable,
+    ReadKey { db: DbName, key: Key },
+    WriteKey { db: DbName, key: Key, value: Value },
+    DeleteKey { db: DbName, key: Key },
+    /// The pairs are 1 to 16.
+    PTrans { db: DbName, writes: Items<Pair> },
+    Recover,
+}
+
+/// Why a line is refused. Each comes before those below it.
+#[derive(Clone, Copy, Debug, PartialEq, Eq)]
+pub enum LineKind {
+    /// It has more than 65,535 bytes.
+    Long,
+    /// The input ends inside it.
+    Unended,
+    /// It has none of the forms, or a word is out of its range.
+    Words,
+    /// It stands out of its place.
+    Order,
+    /// It names what is there already.
+    Repeat,
+    /// There are as many of its kind as there may be.
+    Limit,
+}
+
+/// Why no line was read: it is none, or memory ran out.
+#[derive(Debug, Drop, PartialEq, Eq, Error)]
+pub enum LineKindFault {
+    #[error("no line")]
+    Kind(LineKind),
+    #[error("want of memory")]
+    NoMemory,
+}
+
+/// Why words say nothing: they have no form of a line, or memory ran out.
+#[derive(Debug, Drop, PartialEq, Eq, Error)]
+pub enum WordFault {
+    #[error("no form of a line")]
+    NoForm,
+    #[error("want of memory")]
+    NoMemory,
+}
+
+impl From<NoMemory> for WordFault {
+    ghost use Rattle.ct_lines.specs.declared.line.WordFault.TheVariants.{NoMemory as Want};
+
+    ghost from_gives = { λ _ e. e ≡ Want };
+
+    fn from(_e: NoMemory) -> WordFault {
+        WordFault::NoMemory
+    }
+}
+
+impl<T: Drop> From<AllocFailed<T>> for WordFault {
+    ghost use Rattle.ct_lines.specs.declared.line.WordFault.TheVariants.{NoMemory as Want};
+
+    ghost from_gives = { λ _ e. e ≡ Want };
+
+    fn from(_e: AllocFailed<T>) -> WordFault {
+        WordFault::NoMemory
+    }
+}

@@ -1,0 +1,4 @@
+pub mod Acks
+pub mod Begins
+pub mod Follows
+pub mod Planned
