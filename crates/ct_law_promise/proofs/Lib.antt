@@ -1,0 +1,3 @@
+pub mod Nowhere
+pub mod Together
+pub mod Running
