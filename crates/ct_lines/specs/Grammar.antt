@@ -2,7 +2,6 @@
 use Rattle.std.specs.Prelude.{ℕ, ◌==◌, if◌then◌else◌, List, [], ◌∷◌, codes, Option, None, Some, option_map}
 use Rattle.std.specs.List.{slice_split}
 use Rattle.std.specs.Str.{bytes_eq}
-use Rattle.ct_bytes.specs.Address.{address_of}
 use Rattle.ct_bytes.specs.Number.{number_of}
 use Rattle.ct_cluster.specs.declared.step.Step.{Step}
 use Rattle.ct_cluster.specs.declared.step.Step.TheVariants as step
@@ -15,7 +14,7 @@ use Rattle.ct_lines.specs.declared.line.NamedOp.{NamedOp}
 use Rattle.ct_lines.specs.declared.line.NamedOp.TheVariants as op
 use Rattle.ct_lines.specs.declared.line.Command.{Command}
 use Rattle.ct_lines.specs.declared.line.Command.TheVariants as command
-use Rattle.ct_lines.specs.Words.{within, number_word, message_word, key_word, value_word, name_word, kind_word, pairs_of, members_word}
+use Rattle.ct_lines.specs.Words.{within, number_word, message_word, address_word, key_word, value_word, name_word, kind_word, pairs_of, members_word}
 
 -- the words of a line, cut at each space
 abbrev pub words_of : List ℕ → List (List ℕ)
@@ -50,7 +49,7 @@ one_form w a =
     if bytes_eq w (codes "nodes")
     then option_map (λ n. Config (config.Nodes n)) (within 1 17 (number_of a))
     else if bytes_eq w (codes "address")
-    then option_map (λ x. Config (config.Address x)) (address_of a)
+    then option_map (λ x. Config (config.Address x)) (address_word a)
     else if bytes_eq w (codes "settle")
     then option_map Settle (within 1 100001 (number_of a))
     else option_map Change (number_step w a)

@@ -1,7 +1,10 @@
 -- What the words of a line say, each by itself.
-use Rattle.std.specs.Prelude.{ℕ, ◌&&◌, ◌==◌, nat_le, nat_lt, is_none, if◌then◌else◌, List, [], ◌∷◌, length, codes, Option, None, Some}
+use Rattle.std.specs.Prelude.{ℕ, ◌^◌, Bool, ◌&&◌, ◌==◌, nat_le, nat_lt, is_none, if◌then◌else◌, List, [], ◌∷◌, length, codes, Option, None, Some}
 use Rattle.std.specs.List.{slice_split}
 use Rattle.std.specs.Str.{bytes_eq}
+use Rattle.ct_bytes.specs.declared.address.Address.{Address}
+use Rattle.ct_bytes.specs.declared.address.Address.TheVariants.{V4, V6}
+use Rattle.ct_bytes.specs.Address.{address_of}
 use Rattle.ct_bytes.specs.Name.{bad_byte}
 use Rattle.ct_bytes.specs.Number.{number_of}
 use Rattle.ct_bytes.specs.Spelling.{unspelled}
@@ -22,6 +25,19 @@ number_word word = within 0 4294967296 (number_of word)
 -- the number of a message, from 1 and below 2^62
 abbrev pub message_word : List ℕ → Option ℕ
 message_word word = within 1 4611686018427387904 (number_of word)
+
+-- the number of an address is in its type's range
+abbrev pub is_address : Address → Bool
+is_address (V4 n) = nat_lt n (2 ^ 32)
+is_address (V6 n) = nat_lt n (2 ^ 128)
+
+abbrev pub if_address : Option Address → Option Address
+if_address None = None
+if_address (Some a) = if is_address a then Some a else None
+
+-- the address whose text the word is
+abbrev pub address_word : List ℕ → Option Address
+address_word word = if_address (address_of word)
 
 -- a list of bytes, where it has at least low and at most high of them
 abbrev pub of_length : ℕ → ℕ → Option (List ℕ) → Option (List ℕ)

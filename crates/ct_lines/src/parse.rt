@@ -1,7 +1,8 @@
 //! Reading one line.
-ghost use Rattle.std.specs.Prelude.{◌≡◌, IfOk, map};
+ghost use Rattle.std.specs.Prelude.{◌≡◌, ◌≢◌, Err, IfOk, map};
 ghost use Rattle.ct_lines.specs.Grammar.{apply_op, bare_command, call_line, command_of, commit_form, ctdb_line, db_command, form, key_command, key_op, line_of, number_step, one_form, plain_command, plain_form, ptrans_form, two_form, value_command, value_op, words_of};
 ghost use Rattle.ct_lines.specs.Reading.{Reads, ReadsLine};
+ghost use Rattle.ct_lines.specs.Spelled.{IsInRange, spelled_line};
 ghost use Rattle.ct_lines.specs.Words.{key_word, name_word, number_word, value_word};
 
 use crate::line::{Command, ConfigLine, LineKind, LineKindFault, NamedOp, ScenarioLine, WordFault};
@@ -349,10 +350,8 @@ fn read_line(alloc: Global, line: &[u8]) -> Result<ScenarioLine, WordFault>
     form(alloc, words.as_slice())
 }
 
-/// Reads one line, without its line feed. Ok has the line whose text the bytes are. `Long` comes, want of memory apart,
-/// exactly where they are more than 65,535, and else `Words` exactly where they are the text of no line in its range.
-pub fn parse_line(alloc: Global, line: &[u8]) -> Result<ScenarioLine, LineKindFault>
-    ensures exact { ReadsLine result line.now }
+fn read_whole(alloc: Global, line: &[u8]) -> Result<ScenarioLine, LineKindFault>
+    ensures { ReadsLine result line.now }
 {
     if line.len() > 65535 {
         return Err(LineKindFault::Kind(LineKind::Long));
@@ -362,4 +361,14 @@ pub fn parse_line(alloc: Global, line: &[u8]) -> Result<ScenarioLine, LineKindFa
         Err(WordFault::NoForm) => Err(LineKindFault::Kind(LineKind::Words)),
         Err(WordFault::NoMemory) => Err(LineKindFault::NoMemory),
     }
+}
+
+/// Reads one line, without its line feed. Ok has the line whose text the bytes are. `Long` comes, want of memory apart,
+/// exactly where they are more than 65,535, and else `Words` exactly where they are the text of no line in its range.
+pub fn parse_line(alloc: Global, line: &[u8]) -> Result<ScenarioLine, LineKindFault>
+    ensures exact { ReadsLine result line.now }
+    ensures found { IfOk result (λ item. IsInRange item × (line.now ≡ spelled_line item)) }
+    ensures words { result ≡ Err (LineKindFault.Kind LineKind.Words) → (item : ScenarioLine) → IsInRange item → line.now ≢ spelled_line item }
+{
+    read_whole(alloc, line)
 }

@@ -2,11 +2,10 @@
 ghost use Rattle.std.specs.Prelude.{◌≡◌, ◌==◌, ◌<◌, ◌≤◌, ◌^◌, IfOk, map};
 ghost use Rattle.std.specs.List.{slice_split};
 ghost use Rattle.std.specs.Str.{bytes_eq};
-ghost use Rattle.ct_bytes.specs.Address.{address_of};
 ghost use Rattle.ct_bytes.specs.Number.{number_of};
 ghost use Rattle.ct_bytes.specs.Spelling.{unspelled};
 ghost use Rattle.ct_lines.specs.Reading.{Reads, ReadsBytes};
-ghost use Rattle.ct_lines.specs.Words.{each_of, in_order, key_word, kind_word, message_word, name_word, number_word, numbers_of, members_word, pair_of, pair_word, pairs_of, value_word, within};
+ghost use Rattle.ct_lines.specs.Words.{address_word, each_of, in_order, key_word, kind_word, message_word, name_word, number_word, numbers_of, members_word, pair_of, pair_word, pairs_of, value_word, within};
 
 use crate::line::WordFault;
 use ct_bytes::address::Address;
@@ -75,8 +74,9 @@ pub fn message_word(word: &[u8]) -> Result<u64, WordFault>
     number_within(word, 1, 4611686018427387904)
 }
 
+#[tactic(auto, using(crate::proofs::Said::if_address_in))]
 pub fn address_word(word: &[u8]) -> Result<Address, WordFault>
-    ensures { Reads result (address_of word.now) }
+    ensures { Reads result (address_word word.now) }
 {
     match Address::parse(word) {
         Some(address) => Ok(address),
