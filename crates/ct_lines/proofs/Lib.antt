@@ -1,6 +1,7 @@
 pub mod Back
 pub mod Each
 pub mod Forms
+pub mod Joined
 pub mod Lists
 pub mod Only
 pub mod Said

@@ -4,4 +4,5 @@
 pub mod laws;
 pub mod line;
 pub mod parse;
+pub mod print;
 pub mod words;
