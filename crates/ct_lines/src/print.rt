@@ -30,6 +30,14 @@ fn push_number(text: &mut Vec<u8>, n: u64) -> Result<(), NoMemory>
     push_decimal(text, n)
 }
 
+/// A line of a word and a number.
+fn push_numbered(text: &mut Vec<u8>, word: &[u8], n: u64) -> Result<(), NoMemory>
+    ensures { OnOk result (text.new.items ≡ text.old.items ++ join_with_byte 32 (word.now ∷ decimal n ∷ [])) }
+{
+    text.extend_from_slice(word)?;
+    push_number(text, n)
+}
+
 fn push_bytes(text: &mut Vec<u8>, bytes: &[u8]) -> Result<(), NoMemory>
     ensures { OnOk result (text.new.items ≡ text.old.items ++ 32 ∷ spelling bytes.now) }
 {
@@ -85,10 +93,7 @@ fn push_config(text: &mut Vec<u8>, what: &ConfigLine) -> Result<(), NoMemory>
     ensures { OnOk result (text.new.items ≡ text.old.items ++ join_with_byte 32 (config_words what.now)) }
 {
     match what {
-        ConfigLine::Nodes(n) => {
-            text.extend_from_slice(b"nodes")?;
-            push_number(text, u64::from(*n))
-        }
+        ConfigLine::Nodes(n) => { push_numbered(text, b"nodes", u64::from(*n)) }
         ConfigLine::Db(db) => {
             text.extend_from_slice(b"db")?;
             push_word(text, db.name.bytes())?;
@@ -106,44 +111,20 @@ fn push_step(text: &mut Vec<u8>, step: &Step) -> Result<(), NoMemory>
 {
     match step {
         Step::Client { .. } => Ok(()),
-        Step::Deliver(k) => {
-            text.extend_from_slice(b"deliver")?;
-            push_number(text, *k)
-        }
-        Step::Drop(k) => {
-            text.extend_from_slice(b"drop")?;
-            push_number(text, *k)
-        }
-        Step::Repeat(k) => {
-            text.extend_from_slice(b"repeat")?;
-            push_number(text, *k)
-        }
-        Step::Retry(n) => {
-            text.extend_from_slice(b"retry")?;
-            push_number(text, u64::from(*n))
-        }
+        Step::Deliver(k) => { push_numbered(text, b"deliver", *k) }
+        Step::Drop(k) => { push_numbered(text, b"drop", *k) }
+        Step::Repeat(k) => { push_numbered(text, b"repeat", *k) }
+        Step::Retry(n) => { push_numbered(text, b"retry", u64::from(*n)) }
         Step::Vacuum { .. } => Ok(()),
         Step::Recover { node, members } => {
             text.extend_from_slice(b"recover")?;
             push_number(text, u64::from(*node))?;
             push_members(text, members.as_slice())
         }
-        Step::Yield(n) => {
-            text.extend_from_slice(b"yield")?;
-            push_number(text, u64::from(*n))
-        }
-        Step::Stop(n) => {
-            text.extend_from_slice(b"stop")?;
-            push_number(text, u64::from(*n))
-        }
-        Step::Start(n) => {
-            text.extend_from_slice(b"start")?;
-            push_number(text, u64::from(*n))
-        }
-        Step::Takeover(n) => {
-            text.extend_from_slice(b"takeover")?;
-            push_number(text, u64::from(*n))
-        }
+        Step::Yield(n) => { push_numbered(text, b"yield", u64::from(*n)) }
+        Step::Stop(n) => { push_numbered(text, b"stop", u64::from(*n)) }
+        Step::Start(n) => { push_numbered(text, b"start", u64::from(*n)) }
+        Step::Takeover(n) => { push_numbered(text, b"takeover", u64::from(*n)) }
         Step::Able { .. } => Ok(()),
     }
 }
@@ -255,16 +236,13 @@ fn push_line(text: &mut Vec<u8>, line: &ScenarioLine) -> Result<(), NoMemory>
         ScenarioLine::Config(what) => push_config(text, what),
         ScenarioLine::Change(step) => push_step(text, step),
         ScenarioLine::ByName { node, db, op } => push_by_name(text, *node, db.bytes(), op),
-        ScenarioLine::Settle(count) => {
-            text.extend_from_slice(b"settle")?;
-            push_number(text, u64::from(*count))
-        }
+        ScenarioLine::Settle(count) => { push_numbered(text, b"settle", u64::from(*count)) }
         ScenarioLine::Ctdb { node, command } => push_ctdb(text, *node, command),
     }
 }
 
 /// The one text of a line, without its line feed.
-pub fn line_text(alloc: Global, line: &ScenarioLine) -> Result<Vec<u8>, NoMemory>
+pub fn print_line(alloc: Global, line: &ScenarioLine) -> Result<Vec<u8>, NoMemory>
     ensures { IfOk result (λ text. text.items ≡ spelled_line line.now) }
 {
     let mut text = Vec::new(alloc);
