@@ -43,8 +43,8 @@ unfolding with_lead
 posted_plan n l g me ns x m u v p a b c d =
     let t = begins (record n { dbs = []; lead = l }) in
     subst (λ (q : Planned). IsPlanned q (posts_all g me ns x (with_lead l (begins n))) n) (sym d)
-      (planned_beside v (posts_all g me ns x (with_lead l (begins n))) n (ap (λ (w : Turn). w.spent) c ∙ posts_spent g me ns x u ∙ ap (λ (w : Turn). w.spent) b)
-        (ap (with_dbs n.dbs) (c ∙ ap (posts_all g me ns x) (b ∙ ap (λ (k : Node). begins k) a)) ∙ sym (posts_beside n.dbs g me ns x t)))
+    (planned_beside v (posts_all g me ns x (with_lead l (begins n))) n (ap (λ (w : Turn). w.spent) c ∙ posts_spent g me ns x u ∙ ap (λ (w : Turn). w.spent) b)
+    (ap (with_dbs n.dbs) (c ∙ ap (posts_all g me ns x) (b ∙ ap (λ (k : Node). begins k) a)) ∙ sym (posts_beside n.dbs g me ns x t)))
 
 -- the plan of one that notes something in between
 pub noted_plan : (n : Node) (l : Lead) (g me : ℕ) (ns : List ℕ) (x : Msg) (y : Note) (m : Node) (u w v : Turn) (p : Planned) → m ≡ record n { dbs = []; lead = l } → u ≡ begins m → w ≡ notes y u → v ≡ posts_all g me ns x w →
@@ -53,5 +53,5 @@ unfolding with_lead notes does
 noted_plan n l g me ns x y m u w v p a b e c d =
     let t = begins (record n { dbs = []; lead = l }) in
     subst (λ (q : Planned). IsPlanned q (posts_all g me ns x (notes y (with_lead l (begins n)))) n) (sym d)
-      (planned_beside v (posts_all g me ns x (notes y (with_lead l (begins n)))) n (ap (λ (z : Turn). z.spent) c ∙ posts_spent g me ns x w ∙ ap (λ (z : Turn). z.spent) e ∙ ap (λ (z : Turn). z.spent) b)
-        (ap (with_dbs n.dbs) (c ∙ ap (posts_all g me ns x) (e ∙ ap (notes y) (b ∙ ap (λ (k : Node). begins k) a))) ∙ sym (posts_beside n.dbs g me ns x (notes y t))))
+    (planned_beside v (posts_all g me ns x (notes y (with_lead l (begins n)))) n (ap (λ (z : Turn). z.spent) c ∙ posts_spent g me ns x w ∙ ap (λ (z : Turn). z.spent) e ∙ ap (λ (z : Turn). z.spent) b)
+    (ap (with_dbs n.dbs) (c ∙ ap (posts_all g me ns x) (e ∙ ap (notes y) (b ∙ ap (λ (k : Node). begins k) a))) ∙ sym (posts_beside n.dbs g me ns x (notes y t))))

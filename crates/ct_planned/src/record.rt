@@ -13,13 +13,7 @@ use ct_turn::turn::CoreFault;
 
 /// What the rule of a record made of a draft is put back into the node, and what was done about the record is done.
 #[tactic(auto, unfolding(ct_rules_node::specs::Records::acted, ct_rules_node::specs::Records::put_back, crate::specs::Changes::changed_by))]
-pub fn acted(
-    me: u32,
-    db: u32,
-    key: &Key,
-    draft: Draft,
-    node: &Node,
-) -> Result<Planned, CoreFault>
+pub fn acted(me: u32, db: u32, key: &Key, draft: Draft, node: &Node) -> Result<Planned, CoreFault>
     requires { db < length node.now.dbs }
     ensures { Plans result (acted me db key.now draft (begins node.now)) node.now }
 {
