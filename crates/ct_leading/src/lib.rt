@@ -1,0 +1,4 @@
+//! What a node plans as the leader of a round.
+#![tactic(auto)]
+
+pub mod leading;
