@@ -1,0 +1,5 @@
+//! What comes of a client's call at a node, as a plan.
+#![tactic(auto)]
+
+pub mod pairs;
+pub mod records;
