@@ -1,3 +1,4 @@
 pub mod Acks
 pub mod Begins
 pub mod Planned
+pub mod Replies

@@ -1,25 +1,27 @@
 //! The leader's side of a round.
 ghost use Rattle.std.specs.Prelude.{◌≡◌, nat_lt, true, IfOk};
-ghost use Rattle.ct_frame.specs.Fields.{ascends};
+ghost use Rattle.ct_frame.specs.Fields.{ascends, is_message};
 ghost use Rattle.ct_planned.specs.Changes.{Plans};
 ghost use Rattle.ct_rules_node.specs.Node.{is_among};
-ghost use Rattle.ct_rules_node.specs.Rounds.{begin_round, on_freezeack, on_pushack, push_of};
+ghost use Rattle.ct_rules_node.specs.Rounds.{begin_round, on_freezeack, on_pullreply, on_pushack, push_of};
 ghost use Rattle.ct_rules_node.specs.Turn.{begins};
 ghost use Rattle.ct_frame.specs.declared.frame.Msg.TheVariants as message;
+ghost use Rattle.ct_frame.specs.declared.event.Note.TheVariants as note;
 ghost use Rattle.ct_lead.specs.Stages.{led_body};
 ghost use Rattle.ct_leading.specs.Made.{made_by};
 
 use ct_bytes::items::Items;
 use ct_bytes::memory::NoMemory;
+use ct_frame::event::Note;
 use ct_frame::frame::{Assigned, Msg};
 use ct_frame::header::LIMIT;
-use ct_frame::round::PushBody;
+use ct_frame::round::{Pull, PushBody};
 use ct_lead::lead::Lead;
 use ct_msg::config::Config;
 use ct_node_state::node::Node;
 use ct_node_state::placing::assigned_all;
 use ct_planned::change::Planned;
-use ct_planned::plans::{leads, leads_and_posts};
+use ct_planned::plans::{leads, leads_and_posts, leads_notes_and_posts};
 use ct_planned::still::nothing;
 use ct_turn::turn::CoreFault;
 use std::alloc::Global;
@@ -92,6 +94,40 @@ pub fn push_of(body: &PushBody) -> Result<Msg, NoMemory>
         ptables,
         assigned,
     })
+}
+
+/// The note of this round.
+fn round(alloc: Global, generation: u64, members: &[u32], body: &PushBody) -> Result<Note, NoMemory>
+    ensures { IfOk result (λ n. n ≡ note.Round generation members.now body.now.vparent body.now.pparent) }
+{
+    Ok(Note::Round {
+        generation,
+        members: Items::new(Vec::from_slice(alloc, members)?),
+        vparent: body.vparent,
+        pparent: body.pparent,
+    })
+}
+
+/// PullReply: the leader that waits for it gathers it and strikes its sender off. The last one is followed by the merge,
+/// its note and the Push. The fields of the message keep their rules.
+#[tactic(auto, using(crate::proofs::Replies::pull_in_order, crate::proofs::Acks::pullreply_dropped))]
+pub fn on_pullreply(me: u32, node: &Node, generation: u64, pull: Pull) -> Result<Planned, CoreFault>
+    requires { is_message pull.node (message.PullReply pull.vbase pull.pbase pull.table pull.ptables pull.addresses) ≡ true }
+    ensures { Plans result (on_pullreply me generation pull (begins node.now) node.now.lead) node.now }
+{
+    if !node.lead.awaits_pullreply(generation, pull.node) {
+        return Ok(nothing(node));
+    }
+    let lead = node.lead.copy()?.pulled(me, generation, pull)?;
+    match lead.body() {
+        Some(body) => {
+            let members = node.lead.members();
+            let note = round(node.alloc, generation, members, body)?;
+            let msg = push_of(body)?;
+            leads_notes_and_posts(node, lead, note, generation, me, members, &msg)
+        }
+        None => leads(node, lead),
+    }
 }
 
 /// Where the round that is led puts each address.
