@@ -17,5 +17,5 @@ pull_in_order pull h =
     let three = and_parts (is_below_limit pull.vbase && is_below_limit pull.pbase && are_rows (is_own_or_none pull.node) pull.table) (are_ptables pull.ptables) four.0 in
     let two = and_parts (is_below_limit pull.vbase && is_below_limit pull.pbase) (are_rows (is_own_or_none pull.node) pull.table) three.0 in
     both (ascends row_before pull.table && ascends ptable_before pull.ptables) (are_addresses pull.addresses)
-      (both (ascends row_before pull.table) (ascends ptable_before pull.ptables) (and_parts (list_all (is_row (is_own_or_none pull.node)) pull.table) (ascends row_before pull.table) two.1).1
-        (and_parts (list_all is_ptable pull.ptables) (ascends ptable_before pull.ptables) three.1).1) four.1
+    (both (ascends row_before pull.table) (ascends ptable_before pull.ptables) (and_parts (list_all (is_row (is_own_or_none pull.node)) pull.table) (ascends row_before pull.table) two.1).1
+    (and_parts (list_all is_ptable pull.ptables) (ascends ptable_before pull.ptables) three.1).1) four.1
