@@ -1,7 +1,7 @@
 //! Calls on one record.
 ghost use Rattle.std.specs.Prelude.{◌<◌, ◌^◌, length};
 ghost use Rattle.ct_call.specs.Shown.{rules_of};
-ghost use Rattle.ct_rules.specs.Moves.{store};
+ghost use Rattle.ct_rules.specs.Moves.{store, unlock};
 ghost use Rattle.ct_rules.specs.Parts.{want};
 ghost use Rattle.ct_rules_node.specs.Records.{at_record};
 ghost use Rattle.ct_rules_node.specs.Turn.{begins};
@@ -56,5 +56,24 @@ pub fn store(
 {
     let mut draft = node.view(db, key)?;
     moves::store(&mut draft, call, value)?;
+    acted(me, db, key, draft, node)
+}
+
+/// The lock ends, and then what waits is handled.
+#[tactic(auto, unfolding(ct_rules_node::specs::Records::at_record))]
+pub fn unlock(
+    config: &Config,
+    me: u32,
+    call: u64,
+    db: u32,
+    key: &Key,
+    node: &Node,
+) -> Result<Planned, CoreFault>
+    requires { db < length node.now.dbs }
+    ensures { Plans result (at_record config.now me db key.now (λ at o. unlock at call o) (begins node.now)) node.now }
+{
+    let at = node.place_of(config, me, db, key)?;
+    let mut draft = node.view(db, key)?;
+    moves::unlock(&mut draft, &at, call)?;
     acted(me, db, key, draft, node)
 }
