@@ -4,8 +4,9 @@ use Rattle.std.proofs.lemmas.Bool.{lt-ltb, le-ltb}
 use Rattle.std.proofs.lemmas.List.{append-nil, length-append, take-append-drop}
 use Rattle.ct_wire.specs.declared.cursor.Cursor.{Cursor}
 use Rattle.ct_wire.specs.declared.cursor.Outcome.{Outcome}
-use Rattle.ct_wire.specs.declared.cursor.Outcome.TheVariants as outcome
-use Rattle.ct_wire.specs.Cursor.{field_read, width, IsSound, IsSoundOutcome}
+use Rattle.ct_wire.specs.declared.cursor.Taken.{Taken}
+use Rattle.ct_wire.specs.declared.cursor.Taken.TheVariants as taken
+use Rattle.ct_wire.specs.Cursor.{field_read, outcome_of, width, IsSound, IsSoundTaken}
 use Rattle.ct_wire.specs.Decoding.{End, after_field, eaten}
 
 shorter : (raw bytes : List ℕ) (b w : ℕ) → length raw + length (b ∷ bytes) < w → ltb (length raw + 1) w ≡ true
@@ -58,8 +59,12 @@ field_taken c rest field behind k front back len is some =
 pub leads_to : (o p : Outcome) (e : End) (behind : List ℕ) → e ≡ after_field o behind (λ next. eaten next [] behind) → o ≡ p → e ≡ after_field p behind (λ next. eaten next [] behind)
 leads_to o p e behind given is = given ∙ ap (λ (x : Outcome). after_field x behind (λ next. eaten next [] behind)) is
 
-pub sound_more : (o : Outcome) (next : Cursor) → o ≡ outcome.More next → IsSoundOutcome o → IsSound next
-sound_more o next is sound = subst IsSoundOutcome is sound
+-- what was taken of a field, where it is this
+pub led_to : (t u : Taken) (c : Cursor) (o : Outcome) → t ≡ u → outcome_of t c ≡ o → o ≡ outcome_of u c
+led_to t u c o is exact = sym exact ∙ ap (λ (x : Taken). outcome_of x c) is
+
+pub sound_more : (t : Taken) (c : Cursor) → t ≡ taken.More → IsSoundTaken t c → IsSound c
+sound_more t c is sound = subst (λ (x : Taken). IsSoundTaken x c) is sound
 
 -- bytes at the front that complete a field of which some has come
 pub field_filled : (c : Cursor) (raw bytes front behind : List ℕ) (k : ℕ) → front ≡ take k bytes → behind ≡ drop k bytes → length front ≡ k → length raw + k ≡ width c → 1 ≤ k

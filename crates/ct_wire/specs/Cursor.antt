@@ -24,6 +24,8 @@ use Rattle.ct_wire_fields.specs.Reading.{no_draft, number_read, text_read, addre
 use Rattle.ct_wire.specs.declared.cursor.Cursor.{Cursor}
 use Rattle.ct_wire.specs.declared.cursor.Outcome.{Outcome}
 use Rattle.ct_wire.specs.declared.cursor.Outcome.TheVariants as outcome
+use Rattle.ct_wire.specs.declared.cursor.Taken.{Taken}
+use Rattle.ct_wire.specs.declared.cursor.Taken.TheVariants as taken
 use Rattle.ct_wire.specs.declared.cursor.Stage.{Stage}
 use Rattle.ct_wire.specs.declared.cursor.Stage.TheVariants as stage
 
@@ -182,6 +184,12 @@ IsSoundStage _ = Unit {0}
 abbrev pub IsSound : Cursor → Type 0
 IsSound c = IsSoundStage c.stage × (c.at < 2 ^ 32)
 
-abbrev pub IsSoundOutcome : Outcome → Type 0
-IsSoundOutcome (outcome.More c) = IsSound c
-IsSoundOutcome _ = Unit {0}
+-- what a field leads to, with the cursor as it is left
+abbrev pub outcome_of : Taken → Cursor → Outcome
+outcome_of taken.More c = outcome.More c
+outcome_of (taken.Whole f n) c = outcome.Whole f n
+outcome_of (taken.Malformed offset) c = outcome.Malformed offset
+
+abbrev pub IsSoundTaken : Taken → Cursor → Type 0
+IsSoundTaken taken.More c = IsSound c
+IsSoundTaken _ c = Unit {0}

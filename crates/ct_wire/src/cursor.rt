@@ -1,13 +1,15 @@
 //! A frame's fields as bytes: how many bytes the next field has, and what they lead to.
 ghost use Rattle.std.specs.Prelude.{◌≡◌, ◌+◌, ◌<◌, ◌≤◌, ◌^◌, IfOk, length};
-ghost use Rattle.ct_wire.specs.Cursor.{address_field, address_stage, address_start, after_family, arrive, family_read, field_read, has_room, is_text_length, last_is_v6, number_field, number_of, number_width, settled, start, start_width, text_field, text_length_read, text_stage, text_width, wide_number_of, width, IsSound, IsSoundOutcome, IsSoundStage};
+ghost use Rattle.ct_wire.specs.Cursor.{address_field, address_stage, address_start, after_family, arrive, family_read, field_read, has_room, is_text_length, last_is_v6, number_field, number_of, number_width, outcome_of, settled, start, start_width, text_field, text_length_read, text_stage, text_width, wide_number_of, width, IsSound, IsSoundStage, IsSoundTaken};
+ghost use Rattle.ct_wire_fields.specs.Reading.{step_of};
 
 use ct_bytes::address::Address;
 use ct_bytes::memory::NoMemory;
 use ct_frame::frame::Frame;
-use ct_wire_fields::draft::{Draft, Reading, Step};
+use ct_wire_fields::draft::{Draft, Led, Reading};
 use ct_wire_fields::place::{AddressPlace, NumberPlace, Place, TextPlace};
 use std::alloc::Global;
+use std::mem;
 
 /// Where inside a key, a value or an address the next field stands.
 #[derive(Clone, Copy, Debug, PartialEq, Eq)]
@@ -30,11 +32,22 @@ pub struct Cursor {
     pub stage: Stage,
 }
 
-/// What a field leads to.
+/// What a field leads to. The functions change a cursor in its place, and answer what comes of it beside: `Taken`.
 #[derive(Debug, Drop)]
 pub enum Outcome {
     /// There is more to come.
     More(Cursor),
+    /// It was the last field of a frame of this length.
+    Whole(Frame, u64),
+    /// The field at this offset is the first that breaks its rule.
+    Malformed(u64),
+}
+
+/// What a field leads to, beside the cursor that takes it.
+#[derive(Debug, Drop)]
+pub enum Taken {
+    /// There is more to come.
+    More,
     /// It was the last field of a frame of this length.
     Whole(Frame, u64),
     /// The field at this offset is the first that breaks its rule.
@@ -158,222 +171,224 @@ fn has_room(length: u32, at: u64, width: u64) -> bool
     at + width <= u64::from(length)
 }
 
-/// The next field stands at the offset `at`.
-fn arrive(reading: Reading, at: u64) -> Outcome
-    requires { at < 2 ^ 40 }
-    ensures exact { result ≡ arrive reading at }
-    ensures sound { IsSoundOutcome result }
-{
-    if !has_room(reading.draft.head.length, at, start_width(&reading)) {
-        return Outcome::Malformed(at);
-    }
-    Outcome::More(Cursor {
-        reading,
-        at,
-        stage: Stage::Start,
-    })
-}
-
-/// What a step leads to, in a frame of this length, where the fields read so far end at `at`.
-fn settled(length: u32, step: Step, at: u64) -> Outcome
-    requires { at < 2 ^ 40 }
-    ensures exact { result ≡ settled length step at }
-    ensures sound { IsSoundOutcome result }
-{
-    match step {
-        Step::Next(reading) => arrive(reading, at),
-        Step::Whole(frame) => {
-            if at == u64::from(length) {
-                Outcome::Whole(frame, at)
-            } else {
-                Outcome::Malformed(at)
-            }
-        }
-        Step::Broken(offset) => Outcome::Malformed(offset),
-    }
-}
-
-fn number_read(
-    alloc: Global,
-    draft: Draft,
-    at: u64,
-    place: NumberPlace,
-    field: &[u8],
-) -> Result<Outcome, NoMemory>
-    requires { at < 2 ^ 32 }
-    ensures exact { IfOk result (λ o. o ≡ number_field draft at place field.now) }
-    ensures sound { IfOk result IsSoundOutcome }
-{
-    let length = draft.head.length;
-    let end = at + number_width(&place);
-    let step = draft.number_read(alloc, at, number_of(field), place)?;
-    Ok(settled(length, step, end))
-}
-
-/// A key or value of no bytes is whole with its length.
-fn text_length_read(
-    alloc: Global,
-    draft: Draft,
-    at: u64,
-    place: TextPlace,
-    length: u64,
-) -> Result<Outcome, NoMemory>
-    requires { at < 2 ^ 32 }
-    ensures exact { IfOk result (λ o. o ≡ text_length_read draft at place length) }
-    ensures sound { IfOk result IsSoundOutcome }
-{
-    if !is_text_length(&place, length) {
-        return Ok(Outcome::Malformed(at));
-    }
-    let end = at + text_width(&place);
-    let frame = draft.head.length;
-    if length == 0 {
-        let step = draft.text_read(alloc, at, Vec::new(alloc), place)?;
-        return Ok(settled(frame, step, end));
-    }
-    if !has_room(frame, end, length) {
-        return Ok(Outcome::Malformed(end));
-    }
-    Ok(Outcome::More(Cursor {
-        reading: Reading {
-            draft,
-            place: Place::Text(place),
-        },
-        at,
-        stage: Stage::Text { length },
-    }))
-}
-
-fn text_read(
-    alloc: Global,
-    draft: Draft,
-    at: u64,
-    place: TextPlace,
-    length: u64,
-    field: &[u8],
-) -> Result<Outcome, NoMemory>
-    requires { (at < 2 ^ 32) × (length ≤ 1024) }
-    ensures exact { IfOk result (λ o. o ≡ text_field draft at place length field.now) }
-    ensures sound { IfOk result IsSoundOutcome }
-{
-    let frame = draft.head.length;
-    let end = at + text_width(&place) + length;
-    let step = draft.text_read(alloc, at, Vec::from_slice(alloc, field)?, place)?;
-    Ok(settled(frame, step, end))
-}
-
-fn address_read(
-    draft: Draft,
-    at: u64,
-    place: AddressPlace,
-    address: Address,
-    end: u64,
-) -> Result<Outcome, NoMemory>
-    requires { end < 2 ^ 40 }
-    ensures exact { IfOk result (λ o. o ≡ address_field draft at place address end) }
-    ensures sound { IfOk result IsSoundOutcome }
-{
-    let length = draft.head.length;
-    let step = draft.address_read(at, address, place)?;
-    Ok(settled(length, step, end))
-}
-
-/// An address of this many bytes follows the family, if the frame has room for it.
-fn after_family(draft: Draft, at: u64, place: AddressPlace, stage: Stage, width: u64) -> Outcome
-    requires { (at < 2 ^ 32) × (width ≤ 16) × IsSoundStage stage }
-    ensures exact { result ≡ after_family draft at place stage width }
-    ensures sound { IsSoundOutcome result }
-{
-    if !has_room(draft.head.length, at + 1, width) {
-        return Outcome::Malformed(at + 1);
-    }
-    Outcome::More(Cursor {
-        reading: Reading {
-            draft,
-            place: Place::Address(place),
-        },
-        at,
-        stage,
-    })
-}
-
-/// The family of an address. No IPv4 address comes after an IPv6 address.
-fn family_read(draft: Draft, at: u64, place: AddressPlace, family: u64) -> Outcome
-    requires { at < 2 ^ 32 }
-    ensures exact { result ≡ family_read draft at place family }
-    ensures sound { IsSoundOutcome result }
-{
-    if family == 4 && !last_is_v6(&draft, place) {
-        return after_family(draft, at, place, Stage::Four, 4);
-    }
-    if family == 6 {
-        return after_family(draft, at, place, Stage::Sixteen, 16);
-    }
-    Outcome::Malformed(at)
-}
-
-/// The first field of an address, which is all of it where a version names no families.
-fn address_start(
-    draft: Draft,
-    at: u64,
-    place: AddressPlace,
-    field: &[u8],
-) -> Result<Outcome, NoMemory>
-    requires { at < 2 ^ 32 }
-    ensures exact { IfOk result (λ o. o ≡ address_start draft at place field.now) }
-    ensures sound { IfOk result IsSoundOutcome }
-{
-    if !draft.head.version.names_families() {
-        let address = Address::V4((number_of(field) % 4_294_967_296) as u32);
-        return address_read(draft, at, place, address, at + 4);
-    }
-    Ok(family_read(draft, at, place, number_of(field)))
-}
-
-fn address_stage(
-    draft: Draft,
-    at: u64,
-    place: AddressPlace,
-    stage: Stage,
-    field: &[u8],
-) -> Result<Outcome, NoMemory>
-    requires { at < 2 ^ 32 }
-    ensures exact { IfOk result (λ o. o ≡ address_stage draft at place stage field.now) }
-    ensures sound { IfOk result IsSoundOutcome }
-{
-    match stage {
-        Stage::Four => {
-            let address = Address::V4((number_of(field) % 4_294_967_296) as u32);
-            address_read(draft, at, place, address, at + 5)
-        }
-        Stage::Sixteen => {
-            let address = Address::V6(wide_number_of(field));
-            address_read(draft, at, place, address, at + 17)
-        }
-        Stage::Start => address_start(draft, at, place, field),
-        Stage::Text { .. } => address_start(draft, at, place, field),
-    }
-}
-
-fn text_stage(
-    alloc: Global,
-    draft: Draft,
-    at: u64,
-    place: TextPlace,
-    stage: Stage,
-    field: &[u8],
-) -> Result<Outcome, NoMemory>
-    requires { (at < 2 ^ 32) × IsSoundStage stage }
-    ensures exact { IfOk result (λ o. o ≡ text_stage draft at place stage field.now) }
-    ensures sound { IfOk result IsSoundOutcome }
-{
-    match stage {
-        Stage::Text { length } => text_read(alloc, draft, at, place, length, field),
-        _ => text_length_read(alloc, draft, at, place, number_of(field)),
-    }
-}
-
 impl Cursor {
+    /// The next field stands at the offset `at`.
+    fn arrive(&mut self, place: Place, at: u64) -> Taken
+        requires { at < 2 ^ 40 }
+        ensures exact { outcome_of result self.new ≡ arrive (record { draft = self.old.reading.draft; place = place }) at }
+        ensures sound { IsSoundTaken result self.new }
+    {
+        self.reading.place = place;
+        self.at = at;
+        self.stage = Stage::Start;
+        if !has_room(
+            self.reading.draft.head.length,
+            at,
+            start_width(&self.reading),
+        ) {
+            return Taken::Malformed(at);
+        }
+        Taken::More
+    }
+
+    /// What a step leads to, in a frame of this length, where the fields read so far end at `at`.
+    fn settled(&mut self, length: u32, led: Led, at: u64) -> Taken
+        requires { at < 2 ^ 40 }
+        ensures exact { outcome_of result self.new ≡ settled length (step_of led self.old.reading.draft) at }
+        ensures sound { IsSoundTaken result self.new }
+    {
+        match led {
+            Led::Next(place) => self.arrive(place, at),
+            Led::Whole(frame) => {
+                if at == u64::from(length) {
+                    Taken::Whole(frame, at)
+                } else {
+                    Taken::Malformed(at)
+                }
+            }
+            Led::Broken(offset) => Taken::Malformed(offset),
+        }
+    }
+
+    fn number_read(
+        &mut self,
+        alloc: Global,
+        place: NumberPlace,
+        field: &[u8],
+    ) -> Result<Taken, NoMemory>
+        requires { self.old.at < 2 ^ 32 }
+        ensures exact { IfOk result (λ t. outcome_of t self.new ≡ number_field self.old.reading.draft self.old.at place field.now) }
+        ensures sound { IfOk result (λ t. IsSoundTaken t self.new) }
+    {
+        let length = self.reading.draft.head.length;
+        let at = self.at;
+        let end = at + number_width(&place);
+        let led = self
+            .reading
+            .draft
+            .number_read(alloc, at, number_of(field), place)?;
+        Ok(self.settled(length, led, end))
+    }
+
+    /// A key or value of no bytes is whole with its length.
+    fn text_length_read(
+        &mut self,
+        alloc: Global,
+        place: TextPlace,
+        length: u64,
+    ) -> Result<Taken, NoMemory>
+        requires { self.old.at < 2 ^ 32 }
+        ensures exact { IfOk result (λ t. outcome_of t self.new ≡ text_length_read self.old.reading.draft self.old.at place length) }
+        ensures sound { IfOk result (λ t. IsSoundTaken t self.new) }
+    {
+        let at = self.at;
+        if !is_text_length(&place, length) {
+            return Ok(Taken::Malformed(at));
+        }
+        let end = at + text_width(&place);
+        let frame = self.reading.draft.head.length;
+        if length == 0 {
+            let led = self
+                .reading
+                .draft
+                .text_read(alloc, at, Vec::new(alloc), place)?;
+            return Ok(self.settled(frame, led, end));
+        }
+        if !has_room(frame, end, length) {
+            return Ok(Taken::Malformed(end));
+        }
+        self.reading.place = Place::Text(place);
+        self.stage = Stage::Text { length };
+        Ok(Taken::More)
+    }
+
+    fn text_read(
+        &mut self,
+        alloc: Global,
+        place: TextPlace,
+        length: u64,
+        field: &[u8],
+    ) -> Result<Taken, NoMemory>
+        requires { (self.old.at < 2 ^ 32) × (length ≤ 1024) }
+        ensures exact { IfOk result (λ t. outcome_of t self.new ≡ text_field self.old.reading.draft self.old.at place length field.now) }
+        ensures sound { IfOk result (λ t. IsSoundTaken t self.new) }
+    {
+        let frame = self.reading.draft.head.length;
+        let at = self.at;
+        let end = at + text_width(&place) + length;
+        let text = Vec::from_slice(alloc, field)?;
+        let led = self.reading.draft.text_read(alloc, at, text, place)?;
+        Ok(self.settled(frame, led, end))
+    }
+
+    fn address_read(
+        &mut self,
+        alloc: Global,
+        place: AddressPlace,
+        address: Address,
+        end: u64,
+    ) -> Result<Taken, NoMemory>
+        requires { end < 2 ^ 40 }
+        ensures exact { IfOk result (λ t. outcome_of t self.new ≡ address_field self.old.reading.draft self.old.at place address end) }
+        ensures sound { IfOk result (λ t. IsSoundTaken t self.new) }
+    {
+        let length = self.reading.draft.head.length;
+        let at = self.at;
+        let led = self.reading.draft.address_read(alloc, at, address, place)?;
+        Ok(self.settled(length, led, end))
+    }
+
+    /// An address of this many bytes follows the family, if the frame has room for it.
+    fn after_family(&mut self, place: AddressPlace, stage: Stage, width: u64) -> Taken
+        requires { (self.old.at < 2 ^ 32) × (width ≤ 16) × IsSoundStage stage }
+        ensures exact { outcome_of result self.new ≡ after_family self.old.reading.draft self.old.at place stage width }
+        ensures sound { IsSoundTaken result self.new }
+    {
+        let at = self.at;
+        if !has_room(self.reading.draft.head.length, at + 1, width) {
+            return Taken::Malformed(at + 1);
+        }
+        self.reading.place = Place::Address(place);
+        self.stage = stage;
+        Taken::More
+    }
+
+    /// The family of an address. No IPv4 address comes after an IPv6 address.
+    fn family_read(&mut self, place: AddressPlace, family: u64) -> Taken
+        requires { self.old.at < 2 ^ 32 }
+        ensures exact { outcome_of result self.new ≡ family_read self.old.reading.draft self.old.at place family }
+        ensures sound { IsSoundTaken result self.new }
+    {
+        if family == 4 && !last_is_v6(&self.reading.draft, place) {
+            return self.after_family(place, Stage::Four, 4);
+        }
+        if family == 6 {
+            return self.after_family(place, Stage::Sixteen, 16);
+        }
+        Taken::Malformed(self.at)
+    }
+
+    /// The first field of an address, which is all of it where a version names no families.
+    fn address_start(
+        &mut self,
+        alloc: Global,
+        place: AddressPlace,
+        field: &[u8],
+    ) -> Result<Taken, NoMemory>
+        requires { self.old.at < 2 ^ 32 }
+        ensures exact { IfOk result (λ t. outcome_of t self.new ≡ address_start self.old.reading.draft self.old.at place field.now) }
+        ensures sound { IfOk result (λ t. IsSoundTaken t self.new) }
+    {
+        if !self.reading.draft.head.version.names_families() {
+            let address = Address::V4((number_of(field) % 4_294_967_296) as u32);
+            let end = self.at + 4;
+            return self.address_read(alloc, place, address, end);
+        }
+        Ok(self.family_read(place, number_of(field)))
+    }
+
+    fn address_stage(
+        &mut self,
+        alloc: Global,
+        place: AddressPlace,
+        field: &[u8],
+    ) -> Result<Taken, NoMemory>
+        requires { self.old.at < 2 ^ 32 }
+        ensures exact { IfOk result (λ t. outcome_of t self.new ≡ address_stage self.old.reading.draft self.old.at place self.old.stage field.now) }
+        ensures sound { IfOk result (λ t. IsSoundTaken t self.new) }
+    {
+        match self.stage {
+            Stage::Four => {
+                let address = Address::V4((number_of(field) % 4_294_967_296) as u32);
+                let end = self.at + 5;
+                self.address_read(alloc, place, address, end)
+            }
+            Stage::Sixteen => {
+                let address = Address::V6(wide_number_of(field));
+                let end = self.at + 17;
+                self.address_read(alloc, place, address, end)
+            }
+            Stage::Start => self.address_start(alloc, place, field),
+            Stage::Text { .. } => self.address_start(alloc, place, field),
+        }
+    }
+
+    fn text_stage(
+        &mut self,
+        alloc: Global,
+        place: TextPlace,
+        field: &[u8],
+    ) -> Result<Taken, NoMemory>
+        requires { IsSound self.old }
+        ensures exact { IfOk result (λ t. outcome_of t self.new ≡ text_stage self.old.reading.draft self.old.at place self.old.stage field.now) }
+        ensures sound { IfOk result (λ t. IsSoundTaken t self.new) }
+    {
+        match self.stage {
+            Stage::Text { length } => self.text_read(alloc, place, length, field),
+            _ => self.text_length_read(alloc, place, number_of(field)),
+        }
+    }
+
     /// Before the first field of a frame.
     pub fn start(alloc: Global) -> Cursor
         ensures exact { result ≡ start }
@@ -414,18 +429,17 @@ impl Cursor {
         }
     }
 
-    /// Takes the next field.
-    pub fn step(self, alloc: Global, field: &[u8]) -> Result<Outcome, NoMemory>
-        requires { IsSound self }
-        ensures exact { IfOk result (λ o. o ≡ field_read self field.now) }
-        ensures sound { IfOk result IsSoundOutcome }
+    /// Takes the next field. Only where more is to come, and memory is left, the cursor is of further use.
+    pub fn step(&mut self, alloc: Global, field: &[u8]) -> Result<Taken, NoMemory>
+        requires { IsSound self.old }
+        ensures exact { IfOk result (λ t. outcome_of t self.new ≡ field_read self.old field.now) }
+        ensures sound { IfOk result (λ t. IsSoundTaken t self.new) }
     {
-        let Cursor { reading, at, stage } = self;
-        let Reading { draft, place } = reading;
+        let place = mem::replace(&mut self.reading.place, Place::Number(NumberPlace::Length));
         match place {
-            Place::Number(place) => number_read(alloc, draft, at, place, field),
-            Place::Text(place) => text_stage(alloc, draft, at, place, stage, field),
-            Place::Address(place) => address_stage(draft, at, place, stage, field),
+            Place::Number(place) => self.number_read(alloc, place, field),
+            Place::Text(place) => self.text_stage(alloc, place, field),
+            Place::Address(place) => self.address_stage(alloc, place, field),
         }
     }
 }

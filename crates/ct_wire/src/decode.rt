@@ -1,10 +1,10 @@
 //! Frames read from bytes, whole and in pieces.
-ghost use Rattle.std.specs.Prelude.{◌≡◌, ◌<◌, ◌≤◌, [], IfOk, length};
+ghost use Rattle.std.specs.Prelude.{◌≡◌, ◌<◌, ◌≤◌, [], IfOk, length, nat_lt};
 ghost use Rattle.ct_wire.specs.Cursor.{start, width, IsSound};
 ghost use Rattle.ct_wire.specs.Decoding.{decoded, eaten, raw_length, Completes, Decodes, Feeds, Finds, IsSoundProgress, IsSoundSpot, Shortens};
 ghost use Rattle.ct_wire.specs.declared.decode.Progress.TheVariants.{Amid};
 
-use crate::cursor::{Cursor, Outcome};
+use crate::cursor::{Cursor, Taken};
 use ct_bytes::items::Items;
 use ct_bytes::memory::NoMemory;
 use ct_frame::frame::Frame;
@@ -72,12 +72,9 @@ pub fn read_fields(alloc: Global, mut cursor: Cursor, bytes: &[u8]) -> Result<Ev
     'fields: while rest.len() as u64 >= cursor.width() {
         let (field, behind) = rest.split_at(cursor.width() as usize);
         match cursor.step(alloc, field)? {
-            Outcome::More(next) => {
-                cursor = next;
-                rest = behind;
-            }
-            Outcome::Whole(frame, length) => return Ok(Event::Ends(frame, length, behind)),
-            Outcome::Malformed(offset) => return Ok(Event::Breaks(offset)),
+            Taken::More => rest = behind,
+            Taken::Whole(frame, length) => return Ok(Event::Ends(frame, length, behind)),
+            Taken::Malformed(offset) => return Ok(Event::Breaks(offset)),
         }
     }
     let raw = Vec::from_slice(alloc, rest)?;
@@ -98,19 +95,26 @@ pub fn decode(alloc: Global, bytes: &[u8]) -> Result<(Frame, usize), WireFault>
     }
 }
 
+/// Whether fewer bytes have come than the field lacks.
+fn is_short(bytes: &[u8], lacking: usize) -> bool
+    ensures { result ≡ nat_lt (length bytes.now) lacking }
+{
+    bytes.len() < lacking
+}
+
 /// Goes on with a frame of which some has come.
 pub fn resume(alloc: Global, spot: Spot, bytes: &[u8]) -> Result<Event<'_>, NoMemory>
     requires { IsSoundSpot spot }
     ensures exact { IfOk result (λ event. Finds event (eaten spot.cursor spot.raw bytes.now)) }
     ensures shorter { IfOk result (λ event. Shortens event bytes.now) }
 {
-    let Spot { cursor, raw } = spot;
+    let Spot { mut cursor, raw } = spot;
     if raw.is_empty() {
         return read_fields(alloc, cursor, bytes);
     }
     let lacking = (cursor.width() - raw.len() as u64) as usize;
     let mut raw = raw.into_vec();
-    if bytes.len() < lacking {
+    if is_short(bytes, lacking) {
         raw.extend_from_slice(bytes)?;
         return Ok(Event::Waits(Spot {
             cursor,
@@ -120,8 +124,8 @@ pub fn resume(alloc: Global, spot: Spot, bytes: &[u8]) -> Result<Event<'_>, NoMe
     let (front, behind) = bytes.split_at(lacking);
     raw.extend_from_slice(front)?;
     match cursor.step(alloc, raw.as_slice())? {
-        Outcome::More(next) => read_fields(alloc, next, behind),
-        Outcome::Whole(frame, length) => Ok(Event::Ends(frame, length, behind)),
-        Outcome::Malformed(offset) => Ok(Event::Breaks(offset)),
+        Taken::More => read_fields(alloc, cursor, behind),
+        Taken::Whole(frame, length) => Ok(Event::Ends(frame, length, behind)),
+        Taken::Malformed(offset) => Ok(Event::Breaks(offset)),
     }
 }

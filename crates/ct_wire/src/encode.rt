@@ -167,9 +167,19 @@ impl Encoder {
             return Ok(None);
         }
         let front = first_piece(rest);
+        let count = front.len();
         let piece = Vec::from_slice(alloc, front)?;
-        self.given += front.len();
+        self.gives(count);
         Ok(Some(piece))
+    }
+
+    /// So many bytes more are given.
+    #[tactic(auto, using(crate::proofs::Lists::behind_more, crate::proofs::Lists::more_fits))]
+    fn gives(&mut self, count: usize)
+        requires { count ≤ length self.old }
+        ensures { self.new ≡ drop count self.old }
+    {
+        self.given += count;
     }
 }
 

@@ -23,6 +23,8 @@ use Rattle.ct_wire_fields.specs.declared.draft.Head.{Head}
 use Rattle.ct_wire_fields.specs.declared.draft.Draft.{Draft}
 use Rattle.ct_wire_fields.specs.declared.draft.Step.{Step}
 use Rattle.ct_wire_fields.specs.declared.draft.Step.TheVariants.{Next, Whole, Broken}
+use Rattle.ct_wire_fields.specs.declared.draft.Led.{Led}
+use Rattle.ct_wire_fields.specs.declared.draft.Led.TheVariants as led
 use Rattle.ct_wire_fields.specs.Version.{names_masters, version_of}
 use Rattle.ct_wire_fields.specs.Check.{is_count, last_of, key_of, value_of, follows_node, follows_db, follows_row, follows_pair, follows_ptable, follows_address, follows_assigned}
 
@@ -44,6 +46,12 @@ no_draft = record {
   addresses = [];
   assigned = [];
 }
+
+-- what a field led to, with the draft as it left it
+abbrev pub step_of : Led → Draft → Step
+step_of (led.Next p) d = Next (record { draft = d; place = p })
+step_of (led.Whole f) d = Whole f
+step_of (led.Broken offset) d = Broken offset
 
 abbrev pub to_number : Draft → NumberPlace → Step
 to_number d p = Next (record { draft = d; place = place.Number p })

@@ -1,66 +1,55 @@
 //! Takeover runs and their addresses.
 ghost use Rattle.std.specs.Prelude.{◌≡◌, IfOk};
-ghost use Rattle.ct_wire_fields.specs.Reading.{addresses_left, addresses_whole, after_run, assigned_left, assigned_node_read, assigned_read, assigned_whole, held_read, run_read};
+ghost use Rattle.ct_wire_fields.specs.Reading.{addresses_left, addresses_whole, after_run, assigned_left, assigned_node_read, assigned_read, assigned_whole, held_read, run_read, step_of};
 
 use crate::check::{follows_address, follows_assigned, is_from_one, is_node};
-use crate::draft::{Draft, Step, whole};
+use crate::draft::{Draft, Led, taken, to_address, to_number, whole};
 use crate::place::{AddressPlace, NumberPlace, Operation};
 use ct_bytes::address::Address;
 use ct_bytes::memory::NoMemory;
 use ct_frame::frame::{Assigned, Msg};
+use std::alloc::Global;
 
 impl Draft {
-    fn after_run(self) -> Step
-        ensures { result ≡ after_run self self.head.operation }
+    fn after_run(&self) -> Led
+        ensures { step_of result self.now ≡ after_run self.now self.now.head.operation }
     {
         match self.head.operation {
-            Operation::Release => self.to_number(NumberPlace::AddressCount),
+            Operation::Release => to_number(NumberPlace::AddressCount),
             Operation::ReleaseAck => whole(self.head, Msg::ReleaseAck { run: self.run }),
-            _ => self.to_number(NumberPlace::AssignedCount),
+            _ => to_number(NumberPlace::AssignedCount),
         }
     }
 
-    pub(crate) fn run_read(self, at: u64, number: u64) -> Step
-        ensures { result ≡ run_read self at number }
+    pub(crate) fn run_read(&mut self, at: u64, number: u64) -> Led
+        ensures { step_of result self.new ≡ run_read self.old at number }
     {
         if !is_from_one(number) {
-            return Step::Broken(at);
+            return Led::Broken(at);
         }
-        Draft {
-            run: number,
-            ..self
-        }
-        .after_run()
+        self.run = number;
+        self.after_run()
     }
 
-    fn addresses_whole(self) -> Step
-        ensures { result ≡ addresses_whole self self.head.operation }
+    fn addresses_whole(&mut self, alloc: Global) -> Led
+        ensures { step_of result self.new ≡ addresses_whole self.old self.old.head.operation }
     {
-        let Draft {
-            head,
-            run,
-            vbase,
-            pbase,
-            table,
-            ptables,
-            addresses,
-            ..
-        } = self;
-        match head.operation {
+        let addresses = taken(alloc, &mut self.addresses);
+        match self.head.operation {
             Operation::Release => whole(
-                head,
+                self.head,
                 Msg::Release {
-                    run,
+                    run: self.run,
                     keep: addresses,
                 },
             ),
             _ => whole(
-                head,
+                self.head,
                 Msg::PullReply {
-                    vbase,
-                    pbase,
-                    table,
-                    ptables,
+                    vbase: self.vbase,
+                    pbase: self.pbase,
+                    table: taken(alloc, &mut self.table),
+                    ptables: taken(alloc, &mut self.ptables),
                     addresses,
                 },
             ),
@@ -68,51 +57,50 @@ impl Draft {
     }
 
     /// The next address, where `left` are to come.
-    pub(crate) fn addresses_left(self, left: u64) -> Step
-        ensures { result ≡ addresses_left self left }
+    pub(crate) fn addresses_left(&mut self, alloc: Global, left: u64) -> Led
+        ensures { step_of result self.new ≡ addresses_left self.old left }
     {
         if left > 0 {
-            self.to_address(AddressPlace::Held { left })
+            to_address(AddressPlace::Held { left })
         } else {
-            self.addresses_whole()
+            self.addresses_whole(alloc)
         }
     }
 
     pub(crate) fn held_read(
-        mut self,
+        &mut self,
+        alloc: Global,
         at: u64,
         left: u64,
         address: Address,
-    ) -> Result<Step, NoMemory>
-        ensures { IfOk result (λ step. step ≡ held_read self at left address) }
+    ) -> Result<Led, NoMemory>
+        ensures { IfOk result (λ led. step_of led self.new ≡ held_read self.old at left address) }
     {
         if !follows_address(self.addresses.as_slice(), &address) {
-            return Ok(Step::Broken(at));
+            return Ok(Led::Broken(at));
         }
         self.addresses.push(address)?;
-        Ok(self.addresses_left(left.saturating_sub(1)))
+        Ok(self.addresses_left(alloc, left.saturating_sub(1)))
     }
 
-    fn assigned_whole(self) -> Step
-        ensures { result ≡ assigned_whole self self.head.operation }
+    fn assigned_whole(&mut self, alloc: Global) -> Led
+        ensures { step_of result self.new ≡ assigned_whole self.old self.old.head.operation }
     {
-        let Draft {
-            head,
-            run,
-            nodes: members,
-            table,
-            ptables,
-            assigned,
-            ..
-        } = self;
-        match head.operation {
-            Operation::Take => whole(head, Msg::Take { run, assigned }),
+        let assigned = taken(alloc, &mut self.assigned);
+        match self.head.operation {
+            Operation::Take => whole(
+                self.head,
+                Msg::Take {
+                    run: self.run,
+                    assigned,
+                },
+            ),
             _ => whole(
-                head,
+                self.head,
                 Msg::Push {
-                    members,
-                    table,
-                    ptables,
+                    members: taken(alloc, &mut self.nodes),
+                    table: taken(alloc, &mut self.table),
+                    ptables: taken(alloc, &mut self.ptables),
                     assigned,
                 },
             ),
@@ -120,39 +108,40 @@ impl Draft {
     }
 
     /// The next address that is given to a node, where `left` are to come.
-    pub(crate) fn assigned_left(self, left: u64) -> Step
-        ensures { result ≡ assigned_left self left }
+    pub(crate) fn assigned_left(&mut self, alloc: Global, left: u64) -> Led
+        ensures { step_of result self.new ≡ assigned_left self.old left }
     {
         if left > 0 {
-            self.to_address(AddressPlace::Assigned { left })
+            to_address(AddressPlace::Assigned { left })
         } else {
-            self.assigned_whole()
+            self.assigned_whole(alloc)
         }
     }
 
-    pub(crate) fn assigned_read(self, at: u64, left: u64, address: Address) -> Step
-        ensures { result ≡ assigned_read self at left address }
+    pub(crate) fn assigned_read(&self, at: u64, left: u64, address: Address) -> Led
+        ensures { step_of result self.now ≡ assigned_read self.now at left address }
     {
         if !follows_assigned(self.assigned.as_slice(), &address) {
-            return Step::Broken(at);
+            return Led::Broken(at);
         }
-        self.to_number(NumberPlace::AssignedNode { left, address })
+        to_number(NumberPlace::AssignedNode { left, address })
     }
 
     pub(crate) fn assigned_node_read(
-        mut self,
+        &mut self,
+        alloc: Global,
         at: u64,
         left: u64,
         address: Address,
         number: u64,
-    ) -> Result<Step, NoMemory>
-        ensures { IfOk result (λ step. step ≡ assigned_node_read self at left address number) }
+    ) -> Result<Led, NoMemory>
+        ensures { IfOk result (λ led. step_of led self.new ≡ assigned_node_read self.old at left address number) }
     {
         if !is_node(number) {
-            return Ok(Step::Broken(at));
+            return Ok(Led::Broken(at));
         }
         let node = Some(number as u32);
         self.assigned.push(Assigned { address, node })?;
-        Ok(self.assigned_left(left.saturating_sub(1)))
+        Ok(self.assigned_left(alloc, left.saturating_sub(1)))
     }
 }

@@ -1,6 +1,6 @@
 //! What has been read of a frame.
-ghost use Rattle.std.specs.Prelude.{◌≡◌};
-ghost use Rattle.ct_wire_fields.specs.Reading.{no_draft, to_number, to_text, to_address, whole};
+ghost use Rattle.std.specs.Prelude.{◌≡◌, []};
+ghost use Rattle.ct_wire_fields.specs.Reading.{no_draft};
 
 use crate::place::{AddressPlace, NumberPlace, Operation, Place, TextPlace};
 use crate::version::Version;
@@ -9,6 +9,7 @@ use ct_bytes::items::Items;
 use ct_frame::frame::{Assigned, Frame, Msg, PTable, TableRow};
 use ct_msg::client::Pair;
 use std::alloc::Global;
+use std::mem;
 
 /// The header of a frame. What has not been read is 0, the first version or the first operation.
 #[derive(Clone, Copy, Debug, PartialEq, Eq)]
@@ -50,11 +51,22 @@ pub struct Reading {
     pub place: Place,
 }
 
-/// What a field leads to.
+/// What a field leads to. The functions change a draft in its place, and answer what comes of it beside: `Led`.
 #[derive(Debug, Drop)]
 pub enum Step {
     /// There is more to come.
     Next(Reading),
+    /// It was the last field.
+    Whole(Frame),
+    /// The field at this offset breaks its rule.
+    Broken(u64),
+}
+
+/// What a field leads to, beside the draft that it is read into.
+#[derive(Debug, Drop)]
+pub enum Led {
+    /// There is more to come: this place is next.
+    Next(Place),
     /// It was the last field.
     Whole(Frame),
     /// The field at this offset breaks its rule.
@@ -91,43 +103,45 @@ impl Draft {
             assigned: Items::empty(alloc),
         }
     }
+}
 
-    pub fn to_number(self, place: NumberPlace) -> Step
-        ensures { result ≡ to_number self place }
-    {
-        Step::Next(Reading {
-            draft: self,
-            place: Place::Number(place),
-        })
-    }
+/// A number comes next.
+pub fn to_number(place: NumberPlace) -> Led
+    ensures { result ≡ Led.Next (Place.Number place) }
+{
+    Led::Next(Place::Number(place))
+}
 
-    pub fn to_text(self, place: TextPlace) -> Step
-        ensures { result ≡ to_text self place }
-    {
-        Step::Next(Reading {
-            draft: self,
-            place: Place::Text(place),
-        })
-    }
+/// A key or value comes next.
+pub fn to_text(place: TextPlace) -> Led
+    ensures { result ≡ Led.Next (Place.Text place) }
+{
+    Led::Next(Place::Text(place))
+}
 
-    pub fn to_address(self, place: AddressPlace) -> Step
-        ensures { result ≡ to_address self place }
-    {
-        Step::Next(Reading {
-            draft: self,
-            place: Place::Address(place),
-        })
-    }
+/// An address comes next.
+pub fn to_address(place: AddressPlace) -> Led
+    ensures { result ≡ Led.Next (Place.Address place) }
+{
+    Led::Next(Place::Address(place))
 }
 
 /// The frame of this header and message.
-pub fn whole(head: Head, msg: Msg) -> Step
-    ensures { result ≡ whole head msg }
+pub fn whole(head: Head, msg: Msg) -> Led
+    ensures { result ≡ Led.Whole (record { generation = head.generation; sender = head.sender; receiver = head.receiver; msg = msg }) }
 {
-    Step::Whole(Frame {
+    Led::Whole(Frame {
         generation: head.generation,
         sender: head.sender,
         receiver: head.receiver,
         msg,
     })
+}
+
+/// The items of a list, which is empty from then on.
+pub fn taken<T>(alloc: Global, list: &mut Items<T>) -> Items<T>
+    ensures items { result ≡ list.old }
+    ensures none { list.new ≡ [] }
+{
+    mem::replace(list, Items::empty(alloc))
 }

@@ -1,9 +1,9 @@
 //! The fields of the header.
 ghost use Rattle.std.specs.Prelude.{◌≡◌, slice_get};
-ghost use Rattle.ct_wire_fields.specs.Reading.{operation_of, names_request, is_request, begun, length_read, magic_read, version_read, generation_read, operation_read, receiver_read, sender_read, request_read};
+ghost use Rattle.ct_wire_fields.specs.Reading.{operation_of, names_request, is_request, begun, length_read, magic_read, version_read, generation_read, operation_read, receiver_read, sender_read, request_read, step_of};
 
 use crate::check::{is_from_one, is_node};
-use crate::draft::{Draft, Head, Step, whole};
+use crate::draft::{Draft, Led, to_number, whole};
 use crate::place::{NumberPlace, Operation};
 use crate::version::Version;
 use ct_frame::frame::Msg;
@@ -77,122 +77,101 @@ fn is_request(operation: Operation, number: u64) -> bool
 }
 
 impl Draft {
-    pub(crate) fn length_read(self, at: u64, number: u64) -> Step
-        ensures { result ≡ length_read self at number }
+    pub(crate) fn length_read(&mut self, at: u64, number: u64) -> Led
+        ensures { step_of result self.new ≡ length_read self.old at number }
     {
         if number < 40 || number > 268_435_456 {
-            return Step::Broken(at);
+            return Led::Broken(at);
         }
-        let head = Head {
-            length: number as u32,
-            ..self.head
-        };
-        Draft { head, ..self }.to_number(NumberPlace::Magic)
+        self.head.length = number as u32;
+        to_number(NumberPlace::Magic)
     }
 
-    pub(crate) fn magic_read(self, at: u64, number: u64) -> Step
-        ensures { result ≡ magic_read self at number }
+    pub(crate) fn magic_read(&self, at: u64, number: u64) -> Led
+        ensures { step_of result self.now ≡ magic_read self.now at number }
     {
         // The bytes `CTDB`.
         if number != 0x4354_4442 {
-            return Step::Broken(at);
+            return Led::Broken(at);
         }
-        self.to_number(NumberPlace::Version)
+        to_number(NumberPlace::Version)
     }
 
-    pub(crate) fn version_read(self, at: u64, number: u64) -> Step
-        ensures { result ≡ version_read self at number }
+    pub(crate) fn version_read(&mut self, at: u64, number: u64) -> Led
+        ensures { step_of result self.new ≡ version_read self.old at number }
     {
         let Some(version) = Version::of(number) else {
-            return Step::Broken(at);
+            return Led::Broken(at);
         };
-        let head = Head {
-            version,
-            ..self.head
-        };
-        Draft { head, ..self }.to_number(NumberPlace::Generation)
+        self.head.version = version;
+        to_number(NumberPlace::Generation)
     }
 
-    pub(crate) fn generation_read(self, at: u64, number: u64) -> Step
-        ensures { result ≡ generation_read self at number }
+    pub(crate) fn generation_read(&mut self, at: u64, number: u64) -> Led
+        ensures { step_of result self.new ≡ generation_read self.old at number }
     {
         if !is_from_one(number) {
-            return Step::Broken(at);
+            return Led::Broken(at);
         }
-        let head = Head {
-            generation: number,
-            ..self.head
-        };
-        Draft { head, ..self }.to_number(NumberPlace::Operation)
+        self.head.generation = number;
+        to_number(NumberPlace::Operation)
     }
 
-    pub(crate) fn operation_read(self, at: u64, number: u64) -> Step
-        ensures { result ≡ operation_read self at number }
+    pub(crate) fn operation_read(&mut self, at: u64, number: u64) -> Led
+        ensures { step_of result self.new ≡ operation_read self.old at number }
     {
         let Some(operation) = operation_of(number) else {
-            return Step::Broken(at);
+            return Led::Broken(at);
         };
-        let head = Head {
-            operation,
-            ..self.head
-        };
-        Draft { head, ..self }.to_number(NumberPlace::Receiver)
+        self.head.operation = operation;
+        to_number(NumberPlace::Receiver)
     }
 
-    pub(crate) fn receiver_read(self, at: u64, number: u64) -> Step
-        ensures { result ≡ receiver_read self at number }
+    pub(crate) fn receiver_read(&mut self, at: u64, number: u64) -> Led
+        ensures { step_of result self.new ≡ receiver_read self.old at number }
     {
         if !is_node(number) {
-            return Step::Broken(at);
+            return Led::Broken(at);
         }
-        let head = Head {
-            receiver: number as u32,
-            ..self.head
-        };
-        Draft { head, ..self }.to_number(NumberPlace::Sender)
+        self.head.receiver = number as u32;
+        to_number(NumberPlace::Sender)
     }
 
-    pub(crate) fn sender_read(self, at: u64, number: u64) -> Step
-        ensures { result ≡ sender_read self at number }
+    pub(crate) fn sender_read(&mut self, at: u64, number: u64) -> Led
+        ensures { step_of result self.new ≡ sender_read self.old at number }
     {
         if !is_node(number) {
-            return Step::Broken(at);
+            return Led::Broken(at);
         }
-        let head = Head {
-            sender: number as u32,
-            ..self.head
-        };
-        Draft { head, ..self }.to_number(NumberPlace::Request)
+        self.head.sender = number as u32;
+        to_number(NumberPlace::Request)
     }
 
-    pub(crate) fn request_read(self, at: u64, number: u64) -> Step
-        ensures { result ≡ request_read self at number }
+    pub(crate) fn request_read(&mut self, at: u64, number: u64) -> Led
+        ensures { step_of result self.new ≡ request_read self.old at number }
     {
         if !is_request(self.head.operation, number) {
-            return Step::Broken(at);
+            return Led::Broken(at);
         }
-        let head = Head {
-            request: number,
-            ..self.head
-        };
-        Draft { head, ..self }.begun()
+        self.head.request = number;
+        self.begun()
     }
 
     /// The first field of the body.
-    fn begun(self) -> Step
-        ensures { result ≡ begun self self.head.operation }
+    fn begun(&self) -> Led
+        ensures { step_of result self.now ≡ begun self.now self.now.head.operation }
     {
         match self.head.operation {
-            Operation::Freeze | Operation::Push => self.to_number(NumberPlace::NodeCount),
+            Operation::Freeze | Operation::Push => to_number(NumberPlace::NodeCount),
             Operation::FreezeAck => whole(self.head, Msg::FreezeAck),
             Operation::Pull => whole(self.head, Msg::Pull),
-            Operation::PullReply => self.to_number(NumberPlace::VolatileBase),
+            Operation::PullReply => to_number(NumberPlace::VolatileBase),
             Operation::PushAck => whole(self.head, Msg::PushAck),
             Operation::Thaw => whole(self.head, Msg::Thaw),
             Operation::Release | Operation::ReleaseAck | Operation::Take => {
-                self.to_number(NumberPlace::Run)
+                to_number(NumberPlace::Run)
             }
-            _ => self.to_number(NumberPlace::Db),
+            _ => to_number(NumberPlace::Db),
         }
     }
 }

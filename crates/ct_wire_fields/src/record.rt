@@ -1,78 +1,73 @@
 //! The messages of one record, and those of a commit.
 ghost use Rattle.std.specs.Prelude.{◌≡◌, IfOk};
 ghost use Rattle.ct_wire_fields.specs.Check.{key_of, value_of};
-ghost use Rattle.ct_wire_fields.specs.Reading.{after_db, after_key, after_kind, after_node, after_rsn, after_seq, after_value, db_read, key_found, kind_read, least_read, next_write, node_read, rsn_read, seq_read, value_found, write_count_read, write_key_found, write_value_found};
+ghost use Rattle.ct_wire_fields.specs.Reading.{after_db, after_key, after_kind, after_node, after_rsn, after_seq, after_value, db_read, key_found, kind_read, least_read, next_write, node_read, rsn_read, seq_read, value_found, write_count_read, write_key_found, write_value_found, step_of};
 
 use crate::check::{is_below_limit, is_count, is_db, is_from_one, is_node, key_of, value_of};
-use crate::draft::{Draft, Step, whole};
+use crate::draft::{Draft, Led, taken, to_number, to_text, whole};
 use crate::place::{NumberPlace, Operation, TextPlace};
 use ct_bytes::key::Key;
 use ct_bytes::memory::NoMemory;
 use ct_bytes::value::Value;
 use ct_frame::frame::{CallKind, Msg};
 use ct_msg::client::Pair;
+use std::alloc::Global;
 
 impl Draft {
-    fn after_db(self) -> Step
-        ensures { result ≡ after_db self self.head.operation }
+    fn after_db(&self) -> Led
+        ensures { step_of result self.now ≡ after_db self.now self.now.head.operation }
     {
         match self.head.operation {
-            Operation::PUpdate | Operation::PAck => self.to_number(NumberPlace::Seq),
-            _ => self.to_text(TextPlace::Key),
+            Operation::PUpdate | Operation::PAck => to_number(NumberPlace::Seq),
+            _ => to_text(TextPlace::Key),
         }
     }
 
-    pub(crate) fn db_read(self, at: u64, number: u64) -> Step
-        ensures { result ≡ db_read self at number }
+    pub(crate) fn db_read(&mut self, at: u64, number: u64) -> Led
+        ensures { step_of result self.new ≡ db_read self.old at number }
     {
         if !is_db(number) {
-            return Step::Broken(at);
+            return Led::Broken(at);
         }
-        Draft {
-            db: number as u32,
-            ..self
-        }
-        .after_db()
+        self.db = number as u32;
+        self.after_db()
     }
 
-    fn after_key(self, key: Key) -> Step
-        ensures { result ≡ after_key self key self.head.operation }
+    fn after_key(&self, key: Key) -> Led
+        ensures { step_of result self.now ≡ after_key self.now key self.now.head.operation }
     {
         match self.head.operation {
-            Operation::Call => self.to_number(NumberPlace::Kind { key }),
-            Operation::Recall => self.to_number(NumberPlace::Least { key }),
-            Operation::Done => self.to_number(NumberPlace::Node { key }),
-            _ => self.to_number(NumberPlace::Rsn { key }),
+            Operation::Call => to_number(NumberPlace::Kind { key }),
+            Operation::Recall => to_number(NumberPlace::Least { key }),
+            Operation::Done => to_number(NumberPlace::Node { key }),
+            _ => to_number(NumberPlace::Rsn { key }),
         }
     }
 
-    pub(crate) fn key_read(self, at: u64, text: Vec<u8>) -> Step
-        ensures { result ≡ key_found self at (key_of text.items) }
+    pub(crate) fn key_read(&self, at: u64, text: Vec<u8>) -> Led
+        ensures { step_of result self.now ≡ key_found self.now at (key_of text.items) }
     {
         match key_of(text) {
-            None => Step::Broken(at),
+            None => Led::Broken(at),
             Some(key) => self.after_key(key),
         }
     }
 
-    pub(crate) fn least_read(self, at: u64, key: Key, number: u64) -> Step
-        ensures { result ≡ least_read self at key number }
+    pub(crate) fn least_read(&mut self, at: u64, key: Key, number: u64) -> Led
+        ensures { step_of result self.new ≡ least_read self.old at key number }
     {
         if !is_below_limit(number) {
-            return Step::Broken(at);
+            return Led::Broken(at);
         }
-        Draft {
-            rsn: number,
-            ..self
-        }
-        .to_number(NumberPlace::Node { key })
+        self.rsn = number;
+        to_number(NumberPlace::Node { key })
     }
 
-    fn after_node(self, key: Key) -> Step
-        ensures { result ≡ after_node self key self.head.operation }
+    fn after_node(&self, key: Key) -> Led
+        ensures { step_of result self.now ≡ after_node self.now key self.now.head.operation }
     {
         match self.head.operation {
-            Operation::Recall => self.to_number(NumberPlace::Kind { key }),
+            Operation::Recall => to_number(NumberPlace::Kind { key }),
             _ => whole(
                 self.head,
                 Msg::Done {
@@ -85,21 +80,18 @@ impl Draft {
         }
     }
 
-    pub(crate) fn node_read(self, at: u64, key: Key, number: u64) -> Step
-        ensures { result ≡ node_read self at key number }
+    pub(crate) fn node_read(&mut self, at: u64, key: Key, number: u64) -> Led
+        ensures { step_of result self.new ≡ node_read self.old at key number }
     {
         if !is_node(number) {
-            return Step::Broken(at);
+            return Led::Broken(at);
         }
-        Draft {
-            node: number as u32,
-            ..self
-        }
-        .after_node(key)
+        self.node = number as u32;
+        self.after_node(key)
     }
 
-    fn after_kind(self, key: Key, kind: CallKind) -> Step
-        ensures { result ≡ after_kind self key kind self.head.operation }
+    fn after_kind(&self, key: Key, kind: CallKind) -> Led
+        ensures { step_of result self.now ≡ after_kind self.now key kind self.now.head.operation }
     {
         match self.head.operation {
             Operation::Recall => whole(
@@ -125,8 +117,8 @@ impl Draft {
         }
     }
 
-    pub(crate) fn kind_read(self, at: u64, key: Key, number: u64) -> Step
-        ensures { result ≡ kind_read self at key number }
+    pub(crate) fn kind_read(&self, at: u64, key: Key, number: u64) -> Led
+        ensures { step_of result self.now ≡ kind_read self.now at key number }
     {
         if number == 0 {
             return self.after_kind(key, CallKind::Lock);
@@ -134,17 +126,17 @@ impl Draft {
         if number == 1 {
             return self.after_kind(key, CallKind::Read);
         }
-        Step::Broken(at)
+        Led::Broken(at)
     }
 
-    fn after_rsn(self, at: u64, key: Key) -> Step
-        ensures { result ≡ after_rsn self at key self.head.operation }
+    fn after_rsn(&self, at: u64, key: Key) -> Led
+        ensures { step_of result self.now ≡ after_rsn self.now at key self.now.head.operation }
     {
-        let Draft { head, db, rsn, .. } = self;
+        let (head, db, rsn) = (self.head, self.db, self.rsn);
         let request = head.request;
         match head.operation {
             Operation::Give | Operation::Pass | Operation::Grant => {
-                self.to_text(TextPlace::Value { key })
+                to_text(TextPlace::Value { key })
             }
             Operation::Refuse => whole(
                 head,
@@ -161,27 +153,24 @@ impl Draft {
             Operation::VStored => whole(head, Msg::VStored { db, key, rsn }),
             Operation::VDelete => whole(head, Msg::VDelete { db, key, rsn }),
             Operation::VDeleted => whole(head, Msg::VDeleted { db, key, rsn }),
-            _ => Step::Broken(at),
+            _ => Led::Broken(at),
         }
     }
 
-    pub(crate) fn rsn_read(self, at: u64, key: Key, number: u64) -> Step
-        ensures { result ≡ rsn_read self at key number }
+    pub(crate) fn rsn_read(&mut self, at: u64, key: Key, number: u64) -> Led
+        ensures { step_of result self.new ≡ rsn_read self.old at key number }
     {
         if !is_below_limit(number) {
-            return Step::Broken(at);
+            return Led::Broken(at);
         }
-        Draft {
-            rsn: number,
-            ..self
-        }
-        .after_rsn(at, key)
+        self.rsn = number;
+        self.after_rsn(at, key)
     }
 
-    fn after_value(self, key: Key, value: Value) -> Step
-        ensures { result ≡ after_value self key value self.head.operation }
+    fn after_value(&self, key: Key, value: Value) -> Led
+        ensures { step_of result self.now ≡ after_value self.now key value self.now.head.operation }
     {
-        let Draft { head, db, rsn, .. } = self;
+        let (head, db, rsn) = (self.head, self.db, self.rsn);
         let request = head.request;
         match head.operation {
             Operation::Give => whole(
@@ -216,20 +205,20 @@ impl Draft {
         }
     }
 
-    pub(crate) fn value_read(self, at: u64, key: Key, text: Vec<u8>) -> Step
-        ensures { result ≡ value_found self at key (value_of text.items) }
+    pub(crate) fn value_read(&self, at: u64, key: Key, text: Vec<u8>) -> Led
+        ensures { step_of result self.now ≡ value_found self.now at key (value_of text.items) }
     {
         match value_of(text) {
-            None => Step::Broken(at),
+            None => Led::Broken(at),
             Some(value) => self.after_value(key, value),
         }
     }
 
-    fn after_seq(self) -> Step
-        ensures { result ≡ after_seq self self.head.operation }
+    fn after_seq(&self) -> Led
+        ensures { step_of result self.now ≡ after_seq self.now self.now.head.operation }
     {
         match self.head.operation {
-            Operation::PUpdate => self.to_number(NumberPlace::WriteCount),
+            Operation::PUpdate => to_number(NumberPlace::WriteCount),
             _ => whole(
                 self.head,
                 Msg::PAck {
@@ -240,67 +229,66 @@ impl Draft {
         }
     }
 
-    pub(crate) fn seq_read(self, at: u64, number: u64) -> Step
-        ensures { result ≡ seq_read self at number }
+    pub(crate) fn seq_read(&mut self, at: u64, number: u64) -> Led
+        ensures { step_of result self.new ≡ seq_read self.old at number }
     {
         if !is_from_one(number) {
-            return Step::Broken(at);
+            return Led::Broken(at);
         }
-        Draft {
-            seq: number,
-            ..self
-        }
-        .after_seq()
+        self.seq = number;
+        self.after_seq()
     }
 
-    pub(crate) fn write_count_read(self, at: u64, number: u64) -> Step
-        ensures { result ≡ write_count_read self at number }
+    pub(crate) fn write_count_read(&self, at: u64, number: u64) -> Led
+        ensures { step_of result self.now ≡ write_count_read self.now at number }
     {
         if !is_count(number) {
-            return Step::Broken(at);
+            return Led::Broken(at);
         }
-        self.to_text(TextPlace::WriteKey { left: number })
+        to_text(TextPlace::WriteKey { left: number })
     }
 
-    pub(crate) fn write_key_read(self, at: u64, left: u64, text: Vec<u8>) -> Step
-        ensures { result ≡ write_key_found self at left (key_of text.items) }
+    pub(crate) fn write_key_read(&self, at: u64, left: u64, text: Vec<u8>) -> Led
+        ensures { step_of result self.now ≡ write_key_found self.now at left (key_of text.items) }
     {
         match key_of(text) {
-            None => Step::Broken(at),
-            Some(key) => self.to_text(TextPlace::WriteValue { left, key }),
+            None => Led::Broken(at),
+            Some(key) => to_text(TextPlace::WriteValue { left, key }),
         }
     }
 
     /// The next write, where `left` are to come, this one among them.
-    fn next_write(self, left: u64) -> Step
-        ensures { result ≡ next_write self left }
+    fn next_write(&mut self, alloc: Global, left: u64) -> Led
+        ensures { step_of result self.new ≡ next_write self.old left }
     {
         if left > 1 {
-            return self.to_text(TextPlace::WriteKey { left: left - 1 });
+            return to_text(TextPlace::WriteKey { left: left - 1 });
         }
-        let Draft {
-            head,
-            db,
-            seq,
-            pairs: writes,
-            ..
-        } = self;
-        whole(head, Msg::PUpdate { db, seq, writes })
+        let writes = taken(alloc, &mut self.pairs);
+        whole(
+            self.head,
+            Msg::PUpdate {
+                db: self.db,
+                seq: self.seq,
+                writes,
+            },
+        )
     }
 
     pub(crate) fn write_value_read(
-        mut self,
+        &mut self,
+        alloc: Global,
         at: u64,
         left: u64,
         key: Key,
         text: Vec<u8>,
-    ) -> Result<Step, NoMemory>
-        ensures { IfOk result (λ step. step ≡ write_value_found self at left key (value_of text.items)) }
+    ) -> Result<Led, NoMemory>
+        ensures { IfOk result (λ led. step_of led self.new ≡ write_value_found self.old at left key (value_of text.items)) }
     {
         let Some(value) = value_of(text) else {
-            return Ok(Step::Broken(at));
+            return Ok(Led::Broken(at));
         };
         self.pairs.push(Pair { key, value })?;
-        Ok(self.next_write(left))
+        Ok(self.next_write(alloc, left))
     }
 }

@@ -1,15 +1,14 @@
 //! Lists of nodes, the rows of a table and the persistent databases.
-ghost use Rattle.std.specs.Prelude.{◌≡◌, IfOk};
+ghost use Rattle.std.specs.Prelude.{◌≡◌, IfOk, OnOk};
 ghost use Rattle.ct_wire_fields.specs.Check.{key_of, value_of};
-ghost use Rattle.ct_wire_fields.specs.Reading.{after_nodes, after_ptables, master_of, may_have_row, next_node, node_count_read, node_item_read, pair_key_found, pair_value_found, pairs_left, persistent_base_read, plain_master, ptable_db_read, ptable_seq_read, ptables_left, row_db_read, row_key_found, row_master_read, row_rsn_read, row_value_found, rows_left, volatile_base_read, with_row};
+ghost use Rattle.ct_wire_fields.specs.Reading.{after_nodes, after_ptables, master_of, may_have_row, next_node, node_count_read, node_item_read, pair_key_found, pair_value_found, pairs_left, persistent_base_read, plain_master, ptable_db_read, ptable_seq_read, ptables_left, row_db_read, row_key_found, row_master_read, row_rsn_read, row_value_found, rows_left, step_of, volatile_base_read, with_row};
 
 use crate::check::{
     follows_db, follows_node, follows_pair, follows_ptable, follows_row, is_among, is_below_limit,
     is_count, is_db, is_node, key_of, value_of,
 };
-use crate::draft::{Draft, Step, whole};
+use crate::draft::{Draft, Led, taken, to_number, to_text, whole};
 use crate::place::{NumberPlace, Operation, TextPlace};
-use ct_bytes::items::Items;
 use ct_bytes::key::Key;
 use ct_bytes::memory::NoMemory;
 use ct_bytes::value::Value;
@@ -19,88 +18,83 @@ use ct_msg::client::Pair;
 use std::alloc::Global;
 
 impl Draft {
-    pub(crate) fn node_count_read(self, at: u64, number: u64) -> Step
-        ensures { result ≡ node_count_read self at number }
+    pub(crate) fn node_count_read(&self, at: u64, number: u64) -> Led
+        ensures { step_of result self.now ≡ node_count_read self.now at number }
     {
         if !is_count(number) {
-            return Step::Broken(at);
+            return Led::Broken(at);
         }
-        self.to_number(NumberPlace::NodeItem { left: number })
+        to_number(NumberPlace::NodeItem { left: number })
     }
 
-    fn after_nodes(self) -> Step
-        ensures { result ≡ after_nodes self self.head.operation }
+    fn after_nodes(&mut self, alloc: Global) -> Led
+        ensures { step_of result self.new ≡ after_nodes self.old self.old.head.operation }
     {
         match self.head.operation {
             Operation::Freeze => whole(
                 self.head,
                 Msg::Freeze {
-                    members: self.nodes,
+                    members: taken(alloc, &mut self.nodes),
                 },
             ),
-            _ => self.to_number(NumberPlace::RowCount),
+            _ => to_number(NumberPlace::RowCount),
         }
     }
 
     /// The next node, where `left` are to come, this one among them.
-    fn next_node(self, left: u64) -> Step
-        ensures { result ≡ next_node self left }
+    fn next_node(&mut self, alloc: Global, left: u64) -> Led
+        ensures { step_of result self.new ≡ next_node self.old left }
     {
         if left > 1 {
-            return self.to_number(NumberPlace::NodeItem { left: left - 1 });
+            return to_number(NumberPlace::NodeItem { left: left - 1 });
         }
-        self.after_nodes()
+        self.after_nodes(alloc)
     }
 
     pub(crate) fn node_item_read(
-        mut self,
+        &mut self,
+        alloc: Global,
         at: u64,
         left: u64,
         number: u64,
-    ) -> Result<Step, NoMemory>
-        ensures { IfOk result (λ step. step ≡ node_item_read self at left number) }
+    ) -> Result<Led, NoMemory>
+        ensures { IfOk result (λ led. step_of led self.new ≡ node_item_read self.old at left number) }
     {
         if !is_node(number) || !follows_node(self.nodes.as_slice(), number) {
-            return Ok(Step::Broken(at));
+            return Ok(Led::Broken(at));
         }
         self.nodes.push(number as u32)?;
-        Ok(self.next_node(left))
+        Ok(self.next_node(alloc, left))
     }
 
-    pub(crate) fn volatile_base_read(self, at: u64, number: u64) -> Step
-        ensures { result ≡ volatile_base_read self at number }
+    pub(crate) fn volatile_base_read(&mut self, at: u64, number: u64) -> Led
+        ensures { step_of result self.new ≡ volatile_base_read self.old at number }
     {
         if !is_below_limit(number) {
-            return Step::Broken(at);
+            return Led::Broken(at);
         }
-        Draft {
-            vbase: number,
-            ..self
-        }
-        .to_number(NumberPlace::PersistentBase)
+        self.vbase = number;
+        to_number(NumberPlace::PersistentBase)
     }
 
-    pub(crate) fn persistent_base_read(self, at: u64, number: u64) -> Step
-        ensures { result ≡ persistent_base_read self at number }
+    pub(crate) fn persistent_base_read(&mut self, at: u64, number: u64) -> Led
+        ensures { step_of result self.new ≡ persistent_base_read self.old at number }
     {
         if !is_below_limit(number) {
-            return Step::Broken(at);
+            return Led::Broken(at);
         }
-        Draft {
-            pbase: number,
-            ..self
-        }
-        .to_number(NumberPlace::RowCount)
+        self.pbase = number;
+        to_number(NumberPlace::RowCount)
     }
 
     /// The next row, or the persistent databases, where `left` rows are to come.
-    pub(crate) fn rows_left(self, left: u64) -> Step
-        ensures { result ≡ rows_left self left }
+    pub(crate) fn rows_left(&self, left: u64) -> Led
+        ensures { step_of result self.now ≡ rows_left self.now left }
     {
         if left > 0 {
-            self.to_number(NumberPlace::RowDb { left })
+            to_number(NumberPlace::RowDb { left })
         } else {
-            self.to_number(NumberPlace::PTableCount)
+            to_number(NumberPlace::PTableCount)
         }
     }
 
@@ -117,47 +111,41 @@ impl Draft {
         }
     }
 
-    pub(crate) fn row_db_read(self, at: u64, left: u64, number: u64) -> Step
-        ensures { result ≡ row_db_read self at left number }
+    pub(crate) fn row_db_read(&mut self, at: u64, left: u64, number: u64) -> Led
+        ensures { step_of result self.new ≡ row_db_read self.old at left number }
     {
         if !is_db(number) || !follows_db(self.table.as_slice(), number) || !self.may_have_row() {
-            return Step::Broken(at);
+            return Led::Broken(at);
         }
-        Draft {
-            db: number as u32,
-            ..self
-        }
-        .to_text(TextPlace::RowKey { left, start: at })
+        self.db = number as u32;
+        to_text(TextPlace::RowKey { left, start: at })
     }
 
-    pub(crate) fn row_key_read(self, at: u64, left: u64, start: u64, text: Vec<u8>) -> Step
-        ensures { result ≡ row_key_found self at left start (key_of text.items) }
+    pub(crate) fn row_key_read(&self, at: u64, left: u64, start: u64, text: Vec<u8>) -> Led
+        ensures { step_of result self.now ≡ row_key_found self.now at left start (key_of text.items) }
     {
         let Some(key) = key_of(text) else {
-            return Step::Broken(at);
+            return Led::Broken(at);
         };
         if !follows_row(self.table.as_slice(), self.db, &key) {
-            return Step::Broken(start);
+            return Led::Broken(start);
         }
-        self.to_number(NumberPlace::RowRsn { left, key })
+        to_number(NumberPlace::RowRsn { left, key })
     }
 
-    pub(crate) fn row_rsn_read(self, at: u64, left: u64, key: Key, number: u64) -> Step
-        ensures { result ≡ row_rsn_read self at left key number }
+    pub(crate) fn row_rsn_read(&mut self, at: u64, left: u64, key: Key, number: u64) -> Led
+        ensures { step_of result self.new ≡ row_rsn_read self.old at left key number }
     {
         if !is_below_limit(number) {
-            return Step::Broken(at);
+            return Led::Broken(at);
         }
-        Draft {
-            rsn: number,
-            ..self
-        }
-        .to_text(TextPlace::RowValue { left, key })
+        self.rsn = number;
+        to_text(TextPlace::RowValue { left, key })
     }
 
     /// One more row of the table.
-    fn with_row(mut self, key: Key, value: Value, master: Option<u32>) -> Result<Draft, NoMemory>
-        ensures { IfOk result (λ draft. draft ≡ with_row self key value master) }
+    fn with_row(&mut self, key: Key, value: Value, master: Option<u32>) -> Result<(), NoMemory>
+        ensures { OnOk result (self.new ≡ with_row self.old key value master) }
     {
         self.table.push(TableRow {
             db: self.db,
@@ -166,7 +154,7 @@ impl Draft {
             value,
             master,
         })?;
-        Ok(self)
+        Ok(())
     }
 
     /// The data master of a row of version 1.
@@ -180,25 +168,23 @@ impl Draft {
     }
 
     pub(crate) fn row_value_read(
-        self,
+        &mut self,
         at: u64,
         left: u64,
         key: Key,
         text: Vec<u8>,
-    ) -> Result<Step, NoMemory>
-        ensures { IfOk result (λ step. step ≡ row_value_found self at left key (value_of text.items)) }
+    ) -> Result<Led, NoMemory>
+        ensures { IfOk result (λ led. step_of led self.new ≡ row_value_found self.old at left key (value_of text.items)) }
     {
         let Some(value) = value_of(text) else {
-            return Ok(Step::Broken(at));
+            return Ok(Led::Broken(at));
         };
         if self.head.version.names_masters() {
-            return Ok(self.to_number(NumberPlace::RowMaster { left, key, value }));
+            return Ok(to_number(NumberPlace::RowMaster { left, key, value }));
         }
         let master = self.plain_master();
-        Ok(
-            self.with_row(key, value, master)?
-                .rows_left(left.saturating_sub(1)),
-        )
+        self.with_row(key, value, master)?;
+        Ok(self.rows_left(left.saturating_sub(1)))
     }
 
     /// The data master that a row names, if it may name it.
@@ -226,121 +212,111 @@ impl Draft {
     }
 
     pub(crate) fn row_master_read(
-        self,
+        &mut self,
         at: u64,
         left: u64,
         key: Key,
         value: Value,
         number: u64,
-    ) -> Result<Step, NoMemory>
-        ensures { IfOk result (λ step. step ≡ row_master_read self at left key value number) }
+    ) -> Result<Led, NoMemory>
+        ensures { IfOk result (λ led. step_of led self.new ≡ row_master_read self.old at left key value number) }
     {
         let Some(master) = self.master_of(number) else {
-            return Ok(Step::Broken(at));
+            return Ok(Led::Broken(at));
         };
-        Ok(
-            self.with_row(key, value, master)?
-                .rows_left(left.saturating_sub(1)),
-        )
+        self.with_row(key, value, master)?;
+        Ok(self.rows_left(left.saturating_sub(1)))
     }
 
-    fn after_ptables(self) -> Step
-        ensures { result ≡ after_ptables self self.head.operation }
+    fn after_ptables(&self) -> Led
+        ensures { step_of result self.now ≡ after_ptables self.now self.now.head.operation }
     {
         match self.head.operation {
-            Operation::PullReply => self.to_number(NumberPlace::AddressCount),
-            _ => self.to_number(NumberPlace::AssignedCount),
+            Operation::PullReply => to_number(NumberPlace::AddressCount),
+            _ => to_number(NumberPlace::AssignedCount),
         }
     }
 
     /// The next persistent database, or what follows the last, where `left` are to come.
-    pub(crate) fn ptables_left(self, left: u64) -> Step
-        ensures { result ≡ ptables_left self left }
+    pub(crate) fn ptables_left(&self, left: u64) -> Led
+        ensures { step_of result self.now ≡ ptables_left self.now left }
     {
         if left > 0 {
-            self.to_number(NumberPlace::PTableDb { left })
+            to_number(NumberPlace::PTableDb { left })
         } else {
             self.after_ptables()
         }
     }
 
-    pub(crate) fn ptable_db_read(self, at: u64, left: u64, number: u64) -> Step
-        ensures { result ≡ ptable_db_read self at left number }
+    pub(crate) fn ptable_db_read(&mut self, at: u64, left: u64, number: u64) -> Led
+        ensures { step_of result self.new ≡ ptable_db_read self.old at left number }
     {
         if !is_db(number) || !follows_ptable(self.ptables.as_slice(), number) {
-            return Step::Broken(at);
+            return Led::Broken(at);
         }
-        Draft {
-            db: number as u32,
-            ..self
-        }
-        .to_number(NumberPlace::PTableSeq { left })
+        self.db = number as u32;
+        to_number(NumberPlace::PTableSeq { left })
     }
 
-    pub(crate) fn ptable_seq_read(self, at: u64, left: u64, number: u64) -> Step
-        ensures { result ≡ ptable_seq_read self at left number }
+    pub(crate) fn ptable_seq_read(&mut self, at: u64, left: u64, number: u64) -> Led
+        ensures { step_of result self.new ≡ ptable_seq_read self.old at left number }
     {
         if !is_below_limit(number) {
-            return Step::Broken(at);
+            return Led::Broken(at);
         }
-        Draft {
-            seq: number,
-            ..self
-        }
-        .to_number(NumberPlace::PairCount { left })
+        self.seq = number;
+        to_number(NumberPlace::PairCount { left })
     }
 
     /// The next pair of a persistent database, or the next database, where `more` pairs are to come.
-    pub(crate) fn pairs_left(self, alloc: Global, left: u64, more: u64) -> Result<Step, NoMemory>
-        ensures { IfOk result (λ step. step ≡ pairs_left self left more) }
+    pub(crate) fn pairs_left(
+        &mut self,
+        alloc: Global,
+        left: u64,
+        more: u64,
+    ) -> Result<Led, NoMemory>
+        ensures { IfOk result (λ led. step_of led self.new ≡ pairs_left self.old left more) }
     {
         if more > 0 {
-            return Ok(self.to_text(TextPlace::PairKey { left, more }));
+            return Ok(to_text(TextPlace::PairKey { left, more }));
         }
-        let Draft {
-            db,
-            seq,
-            mut ptables,
+        let pairs = taken(alloc, &mut self.pairs);
+        self.ptables.push(PTable {
+            db: self.db,
+            seq: self.seq,
             pairs,
-            ..
-        } = self;
-        ptables.push(PTable { db, seq, pairs })?;
-        let draft = Draft {
-            ptables,
-            pairs: Items::empty(alloc),
-            ..self
-        };
-        Ok(draft.ptables_left(left.saturating_sub(1)))
+        })?;
+        Ok(self.ptables_left(left.saturating_sub(1)))
     }
 
-    pub(crate) fn pair_key_read(self, at: u64, left: u64, more: u64, text: Vec<u8>) -> Step
-        ensures { result ≡ pair_key_found self at left more (key_of text.items) }
+    pub(crate) fn pair_key_read(&self, at: u64, left: u64, more: u64, text: Vec<u8>) -> Led
+        ensures { step_of result self.now ≡ pair_key_found self.now at left more (key_of text.items) }
     {
         let Some(key) = key_of(text) else {
-            return Step::Broken(at);
+            return Led::Broken(at);
         };
         if !follows_pair(self.pairs.as_slice(), &key) {
-            return Step::Broken(at);
+            return Led::Broken(at);
         }
-        self.to_text(TextPlace::PairValue { left, more, key })
+        to_text(TextPlace::PairValue { left, more, key })
     }
 
     pub(crate) fn pair_value_read(
-        mut self,
+        &mut self,
         alloc: Global,
         at: u64,
         left: u64,
         more: u64,
         key: Key,
         text: Vec<u8>,
-    ) -> Result<Step, NoMemory>
-        ensures { IfOk result (λ step. step ≡ pair_value_found self at left more key (value_of text.items)) }
+    ) -> Result<Led, NoMemory>
+        ensures { IfOk result (λ led. step_of led self.new ≡ pair_value_found self.old at left more key (value_of text.items)) }
     {
         let Some(value) = value_of(text) else {
-            return Ok(Step::Broken(at));
+            return Ok(Led::Broken(at));
         };
         if value.bytes().is_empty() {
-            return Ok(Step::Broken(at));
+            return Ok(Led::Broken(at));
         }
         self.pairs.push(Pair { key, value })?;
         self.pairs_left(alloc, left, more.saturating_sub(1))

@@ -1,32 +1,28 @@
-use Rattle.std.proofs.Common.{◌≡◌, ◌∙◌, [], sym, arith}
-use Rattle.ct_wire.specs.declared.cursor.Outcome.TheVariants as outcome
-use Rattle.ct_wire.specs.Cursor.{field_read}
-use Rattle.ct_wire.proofs.Eaten.{eaten_rest, field_taken, leads_to, sound_more}
+use Rattle.std.proofs.Common.{◌∙◌, [], sym, arith}
+use Rattle.ct_wire.specs.declared.cursor.Taken.TheVariants as taken
+use Rattle.ct_wire.proofs.Eaten.{eaten_rest, field_taken, leads_to, led_to, sound_more}
 use Rattle.ct_wire.proofs.decode.read_fields.Goals as goal
 
 pub fields-preserved : goal.fields-preserved
 fields-preserved c =
     let some = c.width-in-fields.ensures.some c.fields.invariant.1 in
     let field = field_taken c.fields.cursor c.fields.rest.now c.split_at.result.0.now c.split_at.result.1.now c.width-in-fields.result c.split_at.ensures.front c.split_at.ensures.back c.split_at.ensures.front_len c.width-in-fields.ensures.exact some.0 in
-    let found : c.in_ok-next.field-0 ≡ outcome.More c.in-More.next = cc in
-    let is : field_read c.fields.cursor c.split_at.result.0.now ≡ outcome.More c.in-More.next = sym c.in_ok-next.ensures.exact ∙ found in
+    let is = led_to c.in_ok-step.field-0 taken.More c.step.new.self _ c.in-More.is c.in_ok-step.ensures.exact in
     let led = leads_to _ _ _ c.split_at.result.1.now field is in
-    (sym led ∙ c.fields.invariant.0, sound_more c.in_ok-next.field-0 c.in-More.next found c.in_ok-next.ensures.sound, omega (arith, c.split_at.ensures.back_len, c.fields.invariant.2))
+    (sym led ∙ c.fields.invariant.0, sound_more c.in_ok-step.field-0 c.step.new.self c.in-More.is c.in_ok-step.ensures.sound, omega (arith, c.split_at.ensures.back_len, c.fields.invariant.2))
 
 pub returns-in-Whole-clause-exact : goal.returns-in-Whole-clause-exact
 returns-in-Whole-clause-exact c =
     let some = c.width-in-fields.ensures.some c.fields.invariant.1 in
     let field = field_taken c.fields.cursor c.fields.rest.now c.split_at.result.0.now c.split_at.result.1.now c.width-in-fields.result c.split_at.ensures.front c.split_at.ensures.back c.split_at.ensures.front_len c.width-in-fields.ensures.exact some.0 in
-    let found : c.in_ok-next.field-0 ≡ outcome.Whole c.in-Whole.frame c.in-Whole.length = cc in
-    let is : field_read c.fields.cursor c.split_at.result.0.now ≡ outcome.Whole c.in-Whole.frame c.in-Whole.length = sym c.in_ok-next.ensures.exact ∙ found in
+    let is = led_to c.in_ok-step.field-0 (taken.Whole c.in-Whole.frame c.in-Whole.length) c.step.new.self _ c.in-Whole.is c.in_ok-step.ensures.exact in
     sym c.fields.invariant.0 ∙ leads_to _ _ _ c.split_at.result.1.now field is
 
 pub returns-in-Malformed-clause-exact : goal.returns-in-Malformed-clause-exact
 returns-in-Malformed-clause-exact c =
     let some = c.width-in-fields.ensures.some c.fields.invariant.1 in
     let field = field_taken c.fields.cursor c.fields.rest.now c.split_at.result.0.now c.split_at.result.1.now c.width-in-fields.result c.split_at.ensures.front c.split_at.ensures.back c.split_at.ensures.front_len c.width-in-fields.ensures.exact some.0 in
-    let found : c.in_ok-next.field-0 ≡ outcome.Malformed c.in-Malformed.offset = cc in
-    let is : field_read c.fields.cursor c.split_at.result.0.now ≡ outcome.Malformed c.in-Malformed.offset = sym c.in_ok-next.ensures.exact ∙ found in
+    let is = led_to c.in_ok-step.field-0 (taken.Malformed c.in-Malformed.offset) c.step.new.self _ c.in-Malformed.is c.in_ok-step.ensures.exact in
     sym c.fields.invariant.0 ∙ leads_to _ _ _ c.split_at.result.1.now field is
 
 pub returns-clause-exact : goal.returns-clause-exact
