@@ -2,6 +2,7 @@
 use Rattle.std.proofs.Common.{◌≡◌, ℕ, zero, suc, ◌≤◌, Bool, true, false, cond, ◌||◌, List, [], ◌∷◌, length, Option, Some, None, refl, sym, ◌∙◌, ap, subst, arith}
 use Rattle.std.proofs.lemmas.Bool.{and_from, and_parts, or_parts, ltb-false}
 use Rattle.std.proofs.lemmas.List.Kept.{IsStrictlySortedBy-filter}
+use Rattle.std.proofs.lemmas.List.Sorted.{length_permutation}
 use Rattle.std.specs.Prelude.{nat_lt, slice_get}
 use Rattle.std.specs.List.{AllByRecursion, filter}
 use Rattle.std.specs.List.Sorted.{IsStrictlySortedBy}
@@ -41,11 +42,12 @@ no_fault false f r e = (refl, e)
 few_nodes : (nodes : ℕ) (dbs : List DbDecl) (addresses : List Address) → config_fault nodes dbs addresses ≡ None → nodes ≤ 16
 few_nodes nodes dbs addresses e = ltb-false 16 nodes (or_parts (nat_lt nodes 1) (nat_lt 16 nodes) (no_fault (nat_lt nodes 1 || nat_lt 16 nodes) _ _ e).0).1
 
-few_dbs : (nodes : ℕ) (dbs : List DbDecl) (addresses : List Address) → config_fault nodes dbs addresses ≡ None → length dbs ≤ 15
-few_dbs nodes dbs addresses e =
+few_given : (nodes : ℕ) (dbs : List DbDecl) (addresses : List Address) → config_fault nodes dbs addresses ≡ None → (length dbs ≤ 15) × (length addresses ≤ 64)
+few_given nodes dbs addresses e =
     let a = no_fault (nat_lt nodes 1 || nat_lt 16 nodes) _ _ e in
     let b = no_fault (nat_lt 15 (length dbs) || nat_lt 64 (length addresses)) _ _ a.1 in
-    ltb-false 15 (length dbs) (or_parts (nat_lt 15 (length dbs)) (nat_lt 64 (length addresses)) b.0).0
+    let p = or_parts (nat_lt 15 (length dbs)) (nat_lt 64 (length addresses)) b.0 in
+    (ltb-false 15 (length dbs) p.0, ltb-false 64 (length addresses) p.1)
 
 sorted_after : (a : Address) (bs : List Address) → IsStrictlySortedBy address_cmp (a ∷ bs) → ascends_after address_before a bs ≡ true
 unfolding IsStrictlySortedBy
@@ -83,9 +85,15 @@ filter_ascends f as' e = sorted_addresses (filter f as') (IsStrictlySortedBy-fil
 
 pub configs_have_limits : ConfigsHaveLimits
 configs_have_limits c dbs addresses h =
-    let l = few_dbs c.nodes dbs addresses h.0 in
+    let l = few_given c.nodes dbs addresses h.0 in
+    let few = l.0 in
     let m : length c.dbs ≡ suc (length dbs) = ap (λ (ds : List DbDecl). length ds) h.2 in
-    record { nodes = few_nodes c.nodes dbs addresses h.0; dbs = omega arith; addresses = sorted_addresses c.addresses h.4 }
+    record {
+      nodes = few_nodes c.nodes dbs addresses h.0;
+      dbs = omega arith;
+      few_addresses = subst (λ n. n ≤ 64) (sym (length_permutation addresses c.addresses h.3)) l.1;
+      addresses = sorted_addresses c.addresses h.4;
+    }
 
 -- ---- a node of which nothing is kept
 

@@ -24,10 +24,11 @@ use Rattle.ct_node_form.specs.Form.{AreFormed}
 
 -- ---- the configuration
 
--- a configuration has at most 16 nodes and 16 databases, and its addresses ascend
+-- a configuration has at most 16 nodes, 16 databases and 64 addresses, which ascend
 pub record HasLimits (c : Config) : Type 0 where
   pub nodes : c.nodes ≤ 16
   pub dbs : length c.dbs ≤ 16
+  pub few_addresses : length c.addresses ≤ 64
   pub addresses : are_addresses c.addresses ≡ true
 
 -- In form: is it a node of the configuration?

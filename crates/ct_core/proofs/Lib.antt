@@ -1,0 +1,3 @@
+pub mod Everyone
+pub mod Leading
+pub mod Plans

@@ -1,0 +1,127 @@
+//! One node, and its steps.
+ghost use Rattle.std.specs.Prelude.{◌≡◌, ◌<◌, true, IfOk, OnErr, OnOk};
+ghost use Rattle.std.specs.List.{list_all};
+ghost use Rattle.ct_call.specs.Shown.{rules_of};
+ghost use Rattle.ct_cluster.specs.Cluster.{everyone};
+ghost use Rattle.ct_core.specs.Core.{IsPlanOf, PlansStep, Steps};
+ghost use Rattle.ct_node_form.specs.Whole.{HasLimits, is_sound_out};
+ghost use Rattle.ct_planned.specs.Changes.{changed_by};
+ghost use Rattle.ct_rules_node.specs.Coming.{may_come};
+ghost use Rattle.ct_rules_node.specs.Node.{opening, restarted};
+ghost use Rattle.ct_rules_node.specs.Steps.{stepped};
+
+use crate::opening::everyone;
+use ct_arrivals::events::happens;
+use ct_bytes::copies::Duplicate;
+use ct_bytes::memory::NoMemory;
+use ct_call::table::CallTable;
+use ct_frame::event::{Event, Out};
+use ct_msg::config::Config;
+use ct_node_state::node::Node;
+use ct_planned::change::Planned;
+use ct_planned::commit::commit;
+use ct_turn::turn::CoreFault;
+use std::alloc::Global;
+use std::marker::Model;
+
+/// One node, with its number and its configuration.
+#[derive(Drop)]
+pub struct Core {
+    pub(crate) pnn: u32,
+    pub(crate) config: Config,
+    pub(crate) node: Node,
+}
+
+impl Model for Core {
+    ghost use Rattle.ct_core.specs.Core as machine;
+
+    ghost Value = { machine.Core };
+
+    ghost view = { λ c. record { pnn = c.pnn; config = c.config; node = c.node } };
+
+    ghost invariant = { λ c. machine.CoreInForm (record { pnn = c.pnn; config = c.config; node = c.node }) };
+}
+
+impl Core {
+    /// The node of this number at the opening of a cluster: it serves in generation 1 of all nodes, and nothing is kept of
+    /// any key.
+    #[tactic(auto, using(crate::proofs::Everyone::everyone_ascends, crate::proofs::Everyone::someone, crate::proofs::Everyone::opens))]
+    pub fn new(alloc: Global, pnn: u32, config: &Config) -> Result<Core, NoMemory>
+        requires node { pnn < config.now.nodes }
+        requires limits { HasLimits config.now }
+        ensures { IfOk result (λ x. x ≡ record { pnn = pnn; config = config.now; node = opening config.now (everyone config.now) }) }
+    {
+        let members = everyone(alloc, config)?;
+        let node = Node::opening(alloc, config, &members)?;
+        let config = config.copy()?;
+        Ok(Core { pnn, config, node })
+    }
+
+    /// What comes of an event, as a plan: what it changes and what it does. Nothing is changed yet.
+    #[tactic(auto, using(crate::proofs::Plans::plans_step, crate::proofs::Plans::plan_of, crate::proofs::Plans::plan_sound))]
+    pub fn plan(&self, table: &CallTable, event: &Event) -> Result<Planned, CoreFault>
+        requires { may_come self.now.config self.now.pnn self.now.node event.now ≡ true }
+        ensures plan { PlansStep result (stepped self.now.config (rules_of table.now) self.now.pnn event.now self.now.node) self.now.node }
+        ensures of_this { IfOk result (λ p. IsPlanOf self.now p) }
+        ensures sound { IfOk result (λ p. list_all (is_sound_out self.now.config self.now.pnn) p.outs ≡ true) }
+    {
+        happens(&self.config, table, self.pnn, event, &self.node)
+    }
+
+    /// Changes the node as it was planned, and answers what it does. The plan is of the node as it stands. Without memory
+    /// nothing changes.
+    #[tactic(auto, using(crate::proofs::Plans::can_change, crate::proofs::Plans::stays_in_form, crate::proofs::Plans::stays_unchanged))]
+    pub fn commit(&mut self, planned: Planned) -> Result<Vec<Out>, NoMemory>
+        requires { IsPlanOf self.old planned }
+        ensures outs { IfOk result (λ outs. outs.items ≡ planned.outs) }
+        ensures ok { OnOk result (self.new ≡ record self.old { node = changed_by planned.change self.old.node }) }
+        ensures err { OnErr result (self.new ≡ self.old) }
+    {
+        let Planned { change, outs } = planned;
+        commit(&mut self.node, change)?;
+        Ok(outs.into_vec())
+    }
+
+    /// What comes of an event: the node changes, and what it does is answered, in order. An event that is dropped answers
+    /// nothing. Each message that the node sends keeps the rules of its fields, names this node as its sender, and goes to a
+    /// node of the configuration. A step that is refused changes nothing.
+    pub fn step(&mut self, table: &CallTable, event: &Event) -> Result<Vec<Out>, CoreFault>
+        requires { may_come self.old.config self.old.pnn self.old.node event.now ≡ true }
+        ensures step { Steps (λ outs. outs.items) result (stepped self.old.config (rules_of table.now) self.old.pnn event.now self.old.node) self.old self.new }
+        ensures sound { IfOk result (λ outs. list_all (is_sound_out self.old.config self.old.pnn) outs.items ≡ true) }
+    {
+        let planned = self.plan(table, event)?;
+        match self.commit(planned) {
+            Ok(outs) => Ok(outs),
+            Err(NoMemory) => Err(CoreFault::NoMemory),
+        }
+    }
+
+    /// What a stop leaves of the node: its number, the configuration, the promise, the persistent databases and their base.
+    /// It takes no memory.
+    #[tactic(auto, using(crate::proofs::Everyone::placed_so, crate::proofs::Everyone::restarts))]
+    pub fn restart(self) -> Core
+        ensures { result ≡ record self { node = restarted self.config self.node } }
+    {
+        let Core { pnn, config, node } = self;
+        let node = node.restarted(&config);
+        Core { pnn, config, node }
+    }
+
+    /// A copy that equals it.
+    pub fn copy(&self) -> Result<Core, NoMemory>
+        ensures { IfOk result (λ x. x ≡ self.now) }
+    {
+        Ok(Core {
+            pnn: self.pnn,
+            config: self.config.copy()?,
+            node: self.node.copy()?,
+        })
+    }
+}
+
+impl Duplicate for Core {
+    fn duplicate(&self) -> Result<Core, NoMemory> {
+        self.copy()
+    }
+}

@@ -1,0 +1,3 @@
+pub mod Writing
+pub mod Releasing
+pub mod Serving

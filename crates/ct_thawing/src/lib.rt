@@ -1,0 +1,4 @@
+//! What a member plans where a round ends: it is thawed.
+#![tactic(auto)]
+
+pub mod thawing;

@@ -1,0 +1,5 @@
+pub mod Left
+pub mod Records
+pub mod Taking
+pub mod Keys
+pub mod Walking
