@@ -5,8 +5,8 @@ use Rattle.std.proofs.KnownBytes.{Appends-nil, Appends-trans}
 use Rattle.std.proofs.lemmas.Bool.{lt-ltb}
 use Rattle.ct_scenario.specs.Grammar.{line_of}
 use Rattle.std.proofs.lemmas.List.{take_more, take-append-drop}
-use Rattle.ct_world.specs.Register.{Label}
-use Rattle.ct_world.specs.declared.step.Line.{Line}
+use Rattle.ct_one_node.specs.Register.{Label}
+use Rattle.ct_one_node.specs.declared.step.Line.{Line}
 use Rattle.ct_main.specs.Feeding.{Fed, FedPart, FedRefused, Feeds, Prints, run_on, stop_at}
 use Rattle.ct_main.specs.Play.{Run, continued, ended, lines_after, rest_after, run_from, run_lines, told, with_rest}
 use Rattle.ct_main.specs.Session.{Matches, Played, Plays, item_played, line_played, longest}

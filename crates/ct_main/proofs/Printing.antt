@@ -6,7 +6,7 @@ use Rattle.std.specs.Io.KnownBytes.{Appends}
 use Rattle.std.proofs.KnownBytes.{Appends-trans}
 use Rattle.ct_outside.specs.declared.fault.SinkFault.{SinkFault}
 use Rattle.ct_outside.specs.declared.fault.SinkFault.TheVariants as sink
-use Rattle.ct_world.specs.declared.step.Line.{Line}
+use Rattle.ct_one_node.specs.declared.step.Line.{Line}
 use Rattle.ct_main.specs.Feeding.{Prints, stop_of}
 use Rattle.ct_main.specs.Text.{line_text, lines_text}
 use Rattle.ct_main.specs.declared.player.Stop.TheVariants.{NoMemory}

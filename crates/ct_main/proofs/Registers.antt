@@ -10,12 +10,12 @@ use Rattle.ct_scenario.specs.Grammar.{line_of}
 use Rattle.ct_scenario.specs.declared.line.ScenarioLine.{ScenarioLine}
 use Rattle.ct_scenario.specs.declared.line.ScenarioLine.TheVariants as item
 use Rattle.ct_scenario.specs.declared.line.ConfigLine.TheVariants.{Nodes, Db}
-use Rattle.ct_world.specs.Cluster.{Cluster, IsBuilt, Stepped, applied, opening}
-use Rattle.ct_world.specs.Register.{Keeps, Label, labels_of}
-use Rattle.ct_world.specs.declared.step.Step.{Step}
-use Rattle.ct_world.specs.declared.step.Step.TheVariants.{Client}
-use Rattle.ct_world.specs.declared.step.StepFault.{StepFault}
-use Rattle.ct_world.proofs.Registers.{kept_opening, kept_step}
+use Rattle.ct_one_node.specs.Cluster.{Cluster, IsBuilt, Stepped, applied, opening}
+use Rattle.ct_one_node.specs.Register.{Keeps, Label, labels_of}
+use Rattle.ct_one_node.specs.declared.step.Step.{Step}
+use Rattle.ct_one_node.specs.declared.step.Step.TheVariants.{Client}
+use Rattle.ct_one_node.specs.declared.step.StepFault.{StepFault}
+use Rattle.ct_one_node.proofs.Registers.{kept_opening, kept_step}
 use Rattle.ct_main.specs.Play.{Run, continued, lines_after, played, run_from, run_lines}
 use Rattle.ct_main.specs.Session.{Played, client_op, db_number, item_played, line_played, may_declare, one_node, outcome, placed, start, with_db, is_volatile}
 use Rattle.ct_main.specs.declared.session.Place.{Place}

@@ -6,7 +6,7 @@ use Rattle.std.specs.Io.KnownBytes.{Appends, Consumes, IsAtEnd}
 use Rattle.ct_outside.specs.Causes.{AppendsPart, Rose}
 use Rattle.ct_outside.specs.declared.fault.SinkFault.{SinkFault}
 use Rattle.ct_outside.specs.declared.fault.SinkFault.TheVariants as sink
-use Rattle.ct_world.specs.Register.{Keeps}
+use Rattle.ct_one_node.specs.Register.{Keeps}
 use Rattle.ct_main.specs.Play.{played, rest}
 use Rattle.ct_main.specs.Text.{what_text}
 use Rattle.ct_main.specs.declared.player.End.{End}

@@ -4,8 +4,8 @@ use Rattle.std.specs.Io.KnownBytes.{Appends, Consumes, IsAtEnd}
 use Rattle.ct_outside.specs.Causes.{AppendsPart, Rose}
 use Rattle.ct_outside.specs.declared.fault.SinkFault.{SinkFault}
 use Rattle.ct_outside.specs.declared.fault.SinkFault.TheVariants as sink
-use Rattle.ct_world.specs.Register.{Label}
-use Rattle.ct_world.specs.declared.step.Line.{Line}
+use Rattle.ct_one_node.specs.Register.{Label}
+use Rattle.ct_one_node.specs.declared.step.Line.{Line}
 use Rattle.ct_main.specs.Play.{Run, rest_after, run_from, told}
 use Rattle.ct_main.specs.Text.{lines_text}
 use Rattle.ct_main.specs.Claims.{HasEndCause}

@@ -1,6 +1,6 @@
 -- What a list of bytes makes the program print.
 use Rattle.std.specs.Prelude.{ℕ, ◌+◌, ◌==◌, nat_lt, if◌then◌else◌, List, [], ◌∷◌, ◌++◌, length, Option, None, Some, Result, Ok, Err}
-use Rattle.ct_world.specs.Register.{Label}
+use Rattle.ct_one_node.specs.Register.{Label}
 use Rattle.ct_main.specs.Session.{Played, line_played, longest, start}
 use Rattle.ct_main.specs.Text.{lines_text}
 use Rattle.ct_main.specs.declared.session.Session.{Session}

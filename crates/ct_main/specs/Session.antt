@@ -15,13 +15,13 @@ use Rattle.ct_scenario.specs.declared.line.ScenarioLine.TheVariants as item
 use Rattle.ct_scenario.specs.declared.line.ConfigLine.TheVariants.{Nodes, Db}
 use Rattle.ct_scenario.specs.declared.line.NamedOp.{NamedOp}
 use Rattle.ct_scenario.specs.declared.line.NamedOp.TheVariants as named
-use Rattle.ct_world.specs.Cluster.{Cluster, Stepped, applied, opening}
-use Rattle.ct_world.specs.Register.{Label, labels_of}
-use Rattle.ct_world.specs.declared.step.Line.{Line}
-use Rattle.ct_world.specs.declared.step.Step.{Step}
-use Rattle.ct_world.specs.declared.step.Step.TheVariants.{Client}
-use Rattle.ct_world.specs.declared.step.StepFault.{StepFault}
-use Rattle.ct_world.specs.declared.step.StepFault.TheVariants as fault
+use Rattle.ct_one_node.specs.Cluster.{Cluster, Stepped, applied, opening}
+use Rattle.ct_one_node.specs.Register.{Label, labels_of}
+use Rattle.ct_one_node.specs.declared.step.Line.{Line}
+use Rattle.ct_one_node.specs.declared.step.Step.{Step}
+use Rattle.ct_one_node.specs.declared.step.Step.TheVariants.{Client}
+use Rattle.ct_one_node.specs.declared.step.StepFault.{StepFault}
+use Rattle.ct_one_node.specs.declared.step.StepFault.TheVariants as fault
 use Rattle.ct_main.specs.declared.session.Place.{Place}
 use Rattle.ct_main.specs.declared.session.Place.TheVariants.{First, Second, Later}
 use Rattle.ct_main.specs.declared.session.PlayFault.{PlayFault}

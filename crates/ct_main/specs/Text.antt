@@ -2,8 +2,8 @@
 use Rattle.std.specs.Prelude.{ℕ, List, ◌++◌, codes}
 use Rattle.std.specs.Fmt.{decimal}
 use Rattle.std.specs.List.{flat_map}
-use Rattle.ct_world.specs.declared.step.Line.{Line}
-use Rattle.ct_world.specs.declared.step.Line.TheVariants.{Answered}
+use Rattle.ct_one_node.specs.declared.step.Line.{Line}
+use Rattle.ct_one_node.specs.declared.step.Line.TheVariants.{Answered}
 use Rattle.ct_tool.specs.Answer.{answer_text}
 use Rattle.ct_main.specs.declared.session.What.{What}
 use Rattle.ct_main.specs.declared.session.What.TheVariants as what

@@ -10,10 +10,10 @@ use crate::session::{PlayFault, Session, What};
 use crate::text::line_text;
 use ct_bytes::items::Items;
 use ct_bytes::memory::NoMemory;
+use ct_one_node::step::Line;
 use ct_outside::fault::SinkFault;
 use ct_outside::sink::{Sink, write_all};
 use ct_outside::source::Source;
-use ct_world::step::Line;
 use std::alloc::{AllocFailed, Global};
 
 /// Why playing stops before the input ends.

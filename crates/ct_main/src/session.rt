@@ -7,10 +7,10 @@ use ct_bytes::memory::NoMemory;
 use ct_bytes::name::DbName;
 use ct_msg::client::ClientOp;
 use ct_msg::config::{Config, DbDecl, DbKind};
+use ct_one_node::step::{Line, Step, StepFault};
+use ct_one_node::world::World;
 use ct_scenario::line::{ConfigLine, LineKindFault, NamedOp, ScenarioLine};
 use ct_scenario::parse::parse_line;
-use ct_world::step::{Line, Step, StepFault};
-use ct_world::world::World;
 use std::alloc::{AllocFailed, Global};
 
 /// Which line comes next.

@@ -7,11 +7,11 @@ use crate::text::{line_text, push_what};
 use ct_bytes::items::Items;
 use ct_bytes::value::Value;
 use ct_msg::client::{Answer, Why};
+use ct_one_node::step::Line;
 use ct_outside::fault::{Failed, SinkFault};
 use ct_outside::memory::{MemSink, MemSource};
 use ct_outside::sink::Sink;
 use ct_outside::source::Source;
-use ct_world::step::Line;
 use std::alloc::Global;
 use std::test::Fail;
 

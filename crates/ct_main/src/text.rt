@@ -4,9 +4,9 @@ ghost use Rattle.ct_main.specs.Text.{line_text, what_text};
 
 use crate::session::What;
 use ct_bytes::memory::NoMemory;
+use ct_one_node::step::Line;
 use ct_tool::answer::push_answer;
 use ct_tool::words::{push, push_number};
-use ct_world::step::Line;
 use std::alloc::Global;
 
 /// The text of one line, with its line feed.

@@ -1,3 +1,4 @@
-pub mod Calls
-pub mod Maps
-pub mod Registers
+mod Opened
+mod Numbers
+mod Cores
+mod Missing

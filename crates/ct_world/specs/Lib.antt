@@ -1,4 +1,1 @@
-pub mod Cluster
-pub mod Code
-pub mod Register
-pub mod Calls
+pub mod World

@@ -1,9 +1,5 @@
-//! The world of one node: its records, and the steps that change them.
+//! The cluster in code: its nodes as machines, every message that was sent, the recovery lock, and why a step is refused.
 #![tactic(auto)]
 
-pub mod laws;
-pub mod step;
-mod store;
-#[cfg(test)]
-mod tests;
+pub mod faults;
 pub mod world;

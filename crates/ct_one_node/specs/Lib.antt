@@ -1,0 +1,4 @@
+pub mod Cluster
+pub mod Code
+pub mod Register
+pub mod Calls
