@@ -1,3 +1,4 @@
 pub mod Everyone
+pub mod Few
 pub mod Leading
 pub mod Plans

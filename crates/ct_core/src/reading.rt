@@ -1,11 +1,13 @@
 //! What a node has and knows. No call but those of lists takes memory.
-ghost use Rattle.std.specs.Prelude.{◌≡◌, IfOk, None, Some, if◌then◌else◌, map, option_copied};
+ghost use Rattle.std.specs.Prelude.{◌≡◌, ◌++◌, IfOk, OnOk, None, Some, if◌then◌else◌, map, option_copied};
 ghost use Rattle.std.specs.Map.Iter.{deref_pair};
 ghost use Rattle.ct_bytes.specs.Address.{same_address};
+ghost use Rattle.ct_cluster.specs.Cluster.{pending_in};
 ghost use Rattle.ct_cluster.specs.Faults.{leads};
 ghost use Rattle.ct_round.specs.Member.{told_in};
 ghost use Rattle.ct_rows.specs.Had.{copies_of, entries_of};
 ghost use Rattle.ct_rules_node.specs.Node.{db_at, is_persistent, is_serving, kind_at, state_at};
+ghost use Rattle.ct_rules_node.specs.Numbered.{by_number};
 ghost use Rattle.ct_rules_node.specs.Rounds.{rows_of};
 ghost use Rattle.ct_rules_node.specs.Takeovers.{has_address};
 
@@ -13,12 +15,14 @@ use crate::machine::Core;
 use ct_bytes::address::Address;
 use ct_bytes::key::Key;
 use ct_bytes::memory::NoMemory;
+use ct_cluster::step::PendingCall;
 use ct_frame::frame::{Assigned, TableRow};
 use ct_frame::header::RecCopy;
 use ct_frame::round::Phase;
 use ct_msg::config::Config;
 use ct_node_state::kinds::{is_persistent, kind_at};
 use ct_node_state::phases::is_serving;
+use ct_pending::pending::{add_pending, pending};
 use ct_persist::store::PStore;
 use ct_rows::{entries, rows};
 
@@ -151,5 +155,20 @@ impl Core {
         ensures { IfOk result (λ rows. rows.items ≡ entries_of db (db_at db self.now.node).records) }
     {
         entries::entries(db, &self.node)
+    }
+    /// Puts the client calls that wait here behind these, by record: those of a database by key, and then its commit.
+    #[tactic(auto, using(crate::proofs::Few::few_dbs))]
+    pub fn add_pending(&self, calls: &mut Vec<PendingCall>) -> Result<(), NoMemory>
+        ensures { OnOk result (calls.new.items ≡ calls.old.items ++ pending_in self.now.pnn 0 self.now.node.dbs) }
+    {
+        add_pending(calls, self.pnn, &self.node)
+    }
+
+    /// The client calls that wait here, by number.
+    #[tactic(auto, using(crate::proofs::Few::few_dbs))]
+    pub fn pending(&self) -> Result<Vec<PendingCall>, NoMemory>
+        ensures { IfOk result (λ v. v.items ≡ by_number (λ x. x.call) (pending_in self.now.pnn 0 self.now.node.dbs)) }
+    {
+        pending(self.pnn, &self.node)
     }
 }

@@ -1,0 +1,6 @@
+//! The client calls that wait at a node for their answers.
+#![tactic(auto)]
+
+pub mod pending;
+#[cfg(test)]
+mod tests;
