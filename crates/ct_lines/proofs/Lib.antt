@@ -4,6 +4,7 @@ pub mod Forms
 pub mod Joined
 pub mod Lists
 pub mod Only
+pub mod Placed
 pub mod Said
 pub mod Texts
 pub mod Whole

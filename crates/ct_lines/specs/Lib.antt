@@ -1,4 +1,5 @@
 pub mod Grammar
+pub mod Places
 pub mod Reading
 pub mod Spelled
 pub mod Words

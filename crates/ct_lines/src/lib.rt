@@ -4,5 +4,8 @@
 pub mod laws;
 pub mod line;
 pub mod parse;
+pub mod places;
 pub mod print;
+#[cfg(test)]
+mod tests;
 pub mod words;
