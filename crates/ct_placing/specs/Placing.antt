@@ -96,14 +96,3 @@ abbrev pub Takes : Result (Unit {0}) LineKindFault → Option LineKind → Given
 Takes (Ok u) refused after old new = (refused ≡ None) × (new ≡ after)
 Takes (Err (Kind k)) refused after old new = (refused ≡ Some k) × (new ≡ old)
 Takes (Err NoMemory) refused after old new = new ≡ old
-
--- ---- all lines
-
--- what is given after these lines, and nothing where one of them is refused
-abbrev pub then_lines : (Given → Option Given) → Option LineKind → Given → Option Given
-then_lines more None g = more g
-then_lines more (Some k) g = None
-
-unfoldable pub given_by : List (List ℕ) → Given → Option Given
-given_by [] g = Some g
-given_by (line ∷ lines) g = then_lines (given_by lines) (refusal line g) (with_line line g)

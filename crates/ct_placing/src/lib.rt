@@ -3,4 +3,6 @@
 
 pub mod line;
 pub mod placing;
+#[cfg(test)]
+mod tests;
 pub mod text;

@@ -67,7 +67,7 @@ fn form(words: &[&[u8]]) -> Result<GivenLine, WordFault>
     }
 }
 
-/// Reads a line of at most any length, without its line feed, and without regard to the lines before it.
+/// Reads a line, without its line feed, by itself: the lines before it and its length do not matter.
 #[tactic(auto, unfolding(crate::specs::Grammar::line_of))]
 pub fn read_line(alloc: Global, line: &[u8]) -> Result<GivenLine, WordFault>
     ensures { Reads result (line_of line.now) }
