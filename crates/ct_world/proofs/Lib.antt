@@ -2,3 +2,4 @@ mod Opened
 mod Numbers
 mod Cores
 mod Missing
+mod Seated

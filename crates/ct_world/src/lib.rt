@@ -2,4 +2,5 @@
 #![tactic(auto)]
 
 pub mod faults;
+pub mod view;
 pub mod world;

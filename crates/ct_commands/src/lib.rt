@@ -1,0 +1,8 @@
+//! The texts of the commands that print what one node has and knows.
+#![tactic(auto)]
+
+pub mod command;
+pub mod databases;
+mod dumps;
+mod lines;
+mod nodes;
