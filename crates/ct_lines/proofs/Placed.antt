@@ -4,16 +4,18 @@ use Rattle.std.proofs.lemmas.Bool.{cond-false, or_parts}
 use Rattle.std.proofs.lemmas.Bool.Decides.{nat_tests}
 use Rattle.std.proofs.lemmas.List.{length-append}
 use Rattle.std.specs.List.{list_any}
-use Rattle.std.specs.Prelude.{IsSome, is_none, nat_lt, nat_le, ◌||◌, option_map}
+use Rattle.std.specs.Prelude.{IsSome, is_none, is_some, nat_lt, nat_le, ◌||◌, option_map}
 use Rattle.ct_bytes.specs.Address.{same_address}
 use Rattle.ct_bytes.specs.declared.address.Address.{Address}
 use Rattle.ct_msg.specs.Config.{config_fault, first_place, lock_db, repeat_from, repeated_address, repeated_name, same_name}
 use Rattle.ct_msg.specs.declared.config.Config.{Config}
 use Rattle.ct_msg.specs.declared.config.ConfigFault.TheVariants.{BadNodes, Repeated, TooMany}
 use Rattle.ct_msg.specs.declared.config.DbDecl.{DbDecl}
-use Rattle.ct_lines.specs.Places.{Accepted, IsAccepted, IsConfigOf, IsMade, config_refusal, first_reason, is_closed, is_named, is_there, later_refusal, or_one, with_config}
+use Rattle.ct_lines.specs.Places.{Accepted, IsAccepted, IsConfigOf, IsMade, config_refusal, first_reason, is_closed, is_named, is_there, later_refusal, or_one, refusal, with_config, with_later, with_line}
 use Rattle.ct_lines.specs.declared.line.ConfigLine.{ConfigLine}
 use Rattle.ct_lines.specs.declared.line.ConfigLine.TheVariants as config
+use Rattle.ct_lines.specs.declared.line.ScenarioLine.{ScenarioLine}
+use Rattle.ct_lines.specs.declared.line.ScenarioLine.TheVariants as line
 
 -- what makes a configuration, part by part
 record HasNoFault (n : ℕ) (dbs : List DbDecl) (addresses : List Address) : Type 0 where
@@ -114,3 +116,22 @@ begun_known a e = by a.nodes e
 
 pub made_of : (a : Accepted) (c : Config) → IsConfigOf a c → IsMade c
 made_of a c h = (a.dbs, a.addresses, h.1)
+
+-- ---- the configuration stands once a line of another kind came
+
+config_refused : (what : ConfigLine) (a : Accepted) → IsSome a.nodes → a.begun ≡ true → config_refusal what a ≡ None → with_config what a ≡ a
+config_refused (config.Nodes n) a some b e = let open_so = (none_holds (is_some a.nodes) false false e).0 in absurd (cc)
+config_refused (config.Db d) a some b e =
+    let open_so = (or_parts (is_none a.nodes) a.begun (none_holds (is_closed a) (is_named d a) (nat_le 15 (length a.dbs)) e).0).1 in absurd (cc)
+config_refused (config.Address x) a some b e =
+    let open_so = (or_parts (is_none a.nodes) a.begun (none_holds (is_closed a) (is_there x a) (nat_le 64 (length a.addresses)) e).0).1 in absurd (cc)
+
+begun_already : (a : Accepted) → a.begun ≡ true → with_later a ≡ a
+begun_already a b = (λ i. record a { begun = sym b i })
+
+pub stands : (l : ScenarioLine) (a : Accepted) → IsSome a.nodes → a.begun ≡ true → refusal l a ≡ None → with_line l a ≡ a
+stands (line.Config what) a some b e = config_refused what a some b e
+stands (line.Change step) a some b e = begun_already a b
+stands (line.ByName node db asked) a some b e = begun_already a b
+stands (line.Settle count) a some b e = begun_already a b
+stands (line.Ctdb node asked) a some b e = begun_already a b
