@@ -1,5 +1,4 @@
-pub mod Configs
 pub mod Ending
 pub mod Feeding
 pub mod Printing
-pub mod Registers
+pub mod Promised

@@ -6,9 +6,17 @@ use Rattle.std.specs.Io.KnownBytes.{Appends, Consumes, IsAtEnd}
 use Rattle.ct_outside.specs.Causes.{AppendsPart, Rose}
 use Rattle.ct_outside.specs.declared.fault.SinkFault.{SinkFault}
 use Rattle.ct_outside.specs.declared.fault.SinkFault.TheVariants as sink
-use Rattle.ct_one_node.specs.Register.{Keeps}
-use Rattle.ct_main.specs.Play.{played, rest}
-use Rattle.ct_main.specs.Text.{what_text}
+use Rattle.ct_call.specs.Rules.{Rules}
+use Rattle.ct_cluster.specs.Cluster.{opening}
+use Rattle.ct_cluster.specs.Traces.{ran}
+use Rattle.ct_promise.specs.Marked.{MarksRun, no_marks}
+use Rattle.ct_promise.specs.Promises.{Keeps}
+use Rattle.ct_register.specs.Lines as lines
+use Rattle.ct_world.specs.World.{World}
+use Rattle.ct_play.specs.Course.{Deed, printed, steps_of}
+use Rattle.ct_play.specs.Play.{Run, pending_text_of, played, rest}
+use Rattle.ct_play.specs.Text.{what_text}
+use Rattle.ct_play.specs.declared.what.What.{What}
 use Rattle.ct_main.specs.declared.player.End.{End}
 use Rattle.ct_main.specs.declared.player.End.TheVariants as end
 
@@ -16,34 +24,57 @@ use Rattle.ct_main.specs.declared.player.End.TheVariants as end
 abbrev pub most_bytes : ℕ
 most_bytes = 1099511627776
 
--- no line of the bytes is refused, and out gained their whole text
-pub record WholeText (bytes : List ℕ) (before now : Option (List ℕ)) : Type 0 where
-  pub unrefused : (played bytes).refusal ≡ None
-  pub text : Appends before now (played bytes).text
+-- a run that is not refused tells at its end of the calls that wait
+abbrev pub ended_text : Option What → Run → List ℕ
+ended_text None r = r.text ++ pending_text_of r
+ended_text (Some what) r = r.text
+
+-- the text of an input behind whose last line feed this rest stands: where there is one, no end is told
+abbrev pub text_at : List ℕ → Run → List ℕ
+text_at [] r = ended_text r.refusal r
+text_at (x ∷ xs) r = r.text
+
+-- no line of the bytes is refused, and out gained the text of all their lines
+pub record WholeText (rules : Rules) (bytes : List ℕ) (before now : Option (List ℕ)) : Type 0 where
+  pub unrefused : (played rules bytes).refusal ≡ None
+  pub text : Appends before now (played rules bytes).text
+
+-- no line of the bytes is refused, and out gained the text of all their lines and then of the calls that wait
+pub record EndedText (rules : Rules) (bytes : List ℕ) (before now : Option (List ℕ)) : Type 0 where
+  pub unrefused : (played rules bytes).refusal ≡ None
+  pub text : Appends before now ((played rules bytes).text ++ pending_text_of (played rules bytes))
 
 -- How an end of the play, the bytes that were taken, what is left of the input then, and what out held before and
 -- holds now go together.
-abbrev pub Ends : End → List ℕ → Option (List ℕ) → Option (List ℕ) → Option (List ℕ) → Type 0
+abbrev pub Ends : Rules → End → List ℕ → Option (List ℕ) → Option (List ℕ) → Option (List ℕ) → Type 0
 -- the input was read to its end, and it has no unended line
-Ends end.Read bytes left before now = IsAtEnd left × (rest bytes ≡ []) × (length bytes < most_bytes) × WholeText bytes before now
+Ends rules end.Read bytes left before now = IsAtEnd left × (rest bytes ≡ []) × (length bytes < most_bytes) × EndedText rules bytes before now
 -- the input ended inside a line, the one after those that were played
-Ends (end.Unended line) bytes left before now = IsAtEnd left × (rest bytes ≢ []) × (length bytes < most_bytes) × (line ≡ (played bytes).count + 1) × WholeText bytes before now
+Ends rules (end.Unended line) bytes left before now = IsAtEnd left × (rest bytes ≢ []) × (length bytes < most_bytes) × (line ≡ (played rules bytes).count + 1) × WholeText rules bytes before now
 -- a line was refused, the first such; out gained the text before it
-Ends (end.Refused line what) bytes left before now = ((played bytes).refusal ≡ Some what) × (line ≡ (played bytes).count + 1) × Appends before now (played bytes).text
-Ends end.ReadFault bytes left before now = (length bytes < most_bytes) × WholeText bytes before now
-Ends end.TooLong bytes left before now = (length bytes ≡ most_bytes) × WholeText bytes before now
+Ends rules (end.Refused line what) bytes left before now = ((played rules bytes).refusal ≡ Some what) × (line ≡ (played rules bytes).count + 1) × Appends before now (played rules bytes).text
+Ends rules end.ReadFault bytes left before now = (length bytes < most_bytes) × WholeText rules bytes before now
+Ends rules end.TooLong bytes left before now = (length bytes ≡ most_bytes) × WholeText rules bytes before now
 -- a front of the text
-Ends end.WriteFault bytes left before now = AppendsPart before now (played bytes).text
-Ends end.NoMemory bytes left before now = AppendsPart before now (played bytes).text
+Ends rules end.WriteFault bytes left before now = AppendsPart before now (text_at (rest bytes) (played rules bytes))
+Ends rules end.NoMemory bytes left before now = AppendsPart before now (text_at (rest bytes) (played rules bytes))
 
--- The bytes that were taken are a front of what the source had left. Out holds what the end says of them. The calls
--- that they had answered are legal, and the world stands for the registers that these made.
-pub record Plays (e : End) (left_before left before now : Option (List ℕ)) : Type 0 where
+-- The steps that a run took from the opening of its cluster lead to where the cluster stands, and print what was printed. The
+-- registers accept all that these steps told, and the cluster stands for them; step by step marks hold and go on. Before a
+-- cluster was opened no step was taken.
+abbrev pub KeepsPromise : Rules → Option World → List Deed → Type 0
+KeepsPromise rules None deeds = deeds ≡ []
+KeepsPromise rules (Some w) deeds = let run = ran w.config rules (opening w.config) [] (steps_of deeds) in
+    (run.cluster ≡ w.cluster) × (run.lines ≡ printed deeds) × Keeps w.config rules run × MarksRun w.config rules (opening w.config) [] (lines.opening w.config) (λ g. no_marks) (steps_of deeds)
+
+-- The bytes that were taken are a front of what the source had left. Out holds what the end says of them, and whatever the end
+-- is, their run keeps the promise.
+pub record Plays (rules : Rules) (e : End) (left_before left before now : Option (List ℕ)) : Type 0 where
   pub bytes : List ℕ
   pub taken : Consumes left_before left bytes
-  pub ends : Ends e bytes left before now
+  pub ends : Ends rules e bytes left before now
   pub most : length bytes ≤ most_bytes
-  pub registers : Keeps (played bytes).session.world (played bytes).labels
+  pub promised : KeepsPromise rules (played rules bytes).session.world (played rules bytes).deeds
 
 -- a fault comes only where its count rose
 pub record HasEndCause (e : End) (in_before in_now out_before out_now : ℕ) : Type 0 where

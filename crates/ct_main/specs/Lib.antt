@@ -1,5 +1,2 @@
 pub mod Claims
 pub mod Feeding
-pub mod Play
-pub mod Session
-pub mod Text

@@ -3,7 +3,5 @@
 
 pub mod player;
 pub mod run;
-pub mod session;
 #[cfg(test)]
 mod tests;
-pub mod text;

@@ -2,18 +2,21 @@
 ghost use Rattle.std.specs.Prelude.{◌≡◌, ◌≤◌, ◌<◌, ◌+◌, ◌^◌, ◌∷◌, [], length, IfOk, OnOk};
 ghost use Rattle.std.specs.Io.KnownBytes.{Appends};
 ghost use Rattle.ct_outside.specs.Causes.{AppendsPart};
+ghost use Rattle.ct_call.specs.Shown.{rules_of};
+ghost use Rattle.ct_outside.specs.Causes.{Rose};
 ghost use Rattle.ct_main.specs.Claims.{HasEndCause, Plays};
-ghost use Rattle.ct_main.specs.Feeding.{Feeds, HasStopCause, Prints, TurnCause, Turns, end_at, end_of};
-ghost use Rattle.ct_main.specs.Text.{lines_text};
+ghost use Rattle.ct_main.specs.Feeding.{Feeds, Finishes, HasStopCause, Prints, TurnCause, Turns, end_of};
+ghost use Rattle.ct_main.specs.declared.player.End.TheVariants as ended;
 
-use crate::session::{PlayFault, Session, What};
-use crate::text::line_text;
 use ct_bytes::items::Items;
 use ct_bytes::memory::NoMemory;
-use ct_one_node::step::Line;
+use ct_call::table::CallTable;
+use ct_lines::line::LineKind;
 use ct_outside::fault::SinkFault;
 use ct_outside::sink::{Sink, write_all};
 use ct_outside::source::Source;
+use ct_play::session::Session;
+use ct_play::what::{PlayFault, What};
 use std::alloc::{AllocFailed, Global};
 
 /// Why playing stops before the input ends.
@@ -93,16 +96,12 @@ pub struct Player {
     pub count: u64,
 }
 
-/// Prints lines, each by one write where the sink takes it whole.
-fn print<K: Sink>(alloc: Global, lines: &[Line], out: &mut K) -> Result<(), Stop>
-    ensures prints { Prints result lines.now (K.held out.old) (K.held out.new) }
+/// Prints texts, each by one write where the sink takes it whole.
+fn print<K: Sink>(texts: &[Items<u8>], out: &mut K) -> Result<(), Stop>
+    ensures prints { Prints result texts.now (K.held out.old) (K.held out.new) }
     ensures cause { HasStopCause (K.faults out.old) (K.faults out.new) result }
 {
-    for line in lines {
-        let text = match line_text(alloc, line) {
-            Ok(text) => text,
-            Err(fault) => return Err(Stop::from(fault)),
-        };
+    for text in texts {
         if let Err(fault) = write_all(out, text.as_slice()) {
             return Err(Stop::from(fault));
         }
@@ -112,19 +111,19 @@ fn print<K: Sink>(alloc: Global, lines: &[Line], out: &mut K) -> Result<(), Stop
 
 impl Player {
     /// The line is whole.
-    fn end<K: Sink>(&mut self, alloc: Global, out: &mut K) -> Result<(), Stop>
+    fn end<K: Sink>(&mut self, alloc: Global, table: &CallTable, out: &mut K) -> Result<(), Stop>
         requires count { self.old.count + 1 < 2 ^ 64 }
         requires line { length self.old.line ≤ 65535 }
-        ensures feeds { Feeds result self.old (10 ∷ []) self.new (K.held out.old) (K.held out.new) }
+        ensures feeds { Feeds (rules_of table.now) result self.old (10 ∷ []) self.new (K.held out.old) (K.held out.new) }
         ensures cause { HasStopCause (K.faults out.old) (K.faults out.new) result }
         ensures count { self.new.count ≤ self.old.count + 1 }
         ensures line { length self.new.line ≤ 65535 }
     {
-        let lines = match self.session.play(alloc, self.line.as_slice()) {
-            Ok(lines) => lines,
+        let texts = match self.session.play(alloc, table, self.line.as_slice()) {
+            Ok(texts) => texts,
             Err(fault) => return Err(Stop::from(fault)),
         };
-        if let Err(stop) = print(alloc, lines.as_slice(), out) {
+        if let Err(stop) = print(texts.as_slice(), out) {
             return Err(stop);
         }
         self.line.truncate(0);
@@ -132,34 +131,34 @@ impl Player {
         Ok(())
     }
 
-    fn byte<K: Sink>(&mut self, alloc: Global, x: u8, out: &mut K) -> Result<(), Stop>
+    fn byte<K: Sink>(&mut self, alloc: Global, table: &CallTable, x: u8, out: &mut K) -> Result<(), Stop>
         requires count { self.old.count + 1 < 2 ^ 64 }
         requires line { length self.old.line ≤ 65535 }
-        ensures feeds { Feeds result self.old (x ∷ []) self.new (K.held out.old) (K.held out.new) }
+        ensures feeds { Feeds (rules_of table.now) result self.old (x ∷ []) self.new (K.held out.old) (K.held out.new) }
         ensures cause { HasStopCause (K.faults out.old) (K.faults out.new) result }
         ensures count { self.new.count ≤ self.old.count + 1 }
         ensures line { length self.new.line ≤ 65535 }
     {
         if x == b'\n' {
-            return self.end(alloc, out);
+            return self.end(alloc, table, out);
         }
         if self.line.len() >= 65535 {
-            return Err(Stop::Refused(What::Words));
+            return Err(Stop::Refused(What::Line(LineKind::Long)));
         }
         self.line.push(x)?;
         Ok(())
     }
 
-    fn feed<K: Sink>(&mut self, alloc: Global, bytes: &[u8], out: &mut K) -> Result<(), Stop>
+    fn feed<K: Sink>(&mut self, alloc: Global, table: &CallTable, bytes: &[u8], out: &mut K) -> Result<(), Stop>
         requires count { self.old.count + length bytes.now < 2 ^ 64 }
         requires line { length self.old.line ≤ 65535 }
-        ensures feeds { Feeds result self.old bytes.now self.new (K.held out.old) (K.held out.new) }
+        ensures feeds { Feeds (rules_of table.now) result self.old bytes.now self.new (K.held out.old) (K.held out.new) }
         ensures cause { HasStopCause (K.faults out.old) (K.faults out.new) result }
         ensures count { self.new.count ≤ self.old.count + length bytes.now }
         ensures line { length self.new.line ≤ 65535 }
     {
         for x in bytes {
-            match self.byte(alloc, *x, out) {
+            match self.byte(alloc, table, *x, out) {
                 Ok(()) => {}
                 Err(stop) => return Err(stop),
             }
@@ -167,17 +166,25 @@ impl Player {
         Ok(())
     }
 
-    /// The input has no more.
-    fn at_end(&self) -> End
+    /// The input has no more: after a line feed the calls that wait are told.
+    fn finish<K: Sink>(&self, alloc: Global, out: &mut K) -> End
         requires { self.now.count + 1 < 2 ^ 64 }
-        ensures { result ≡ end_at self.now.line self.now.count }
+        ensures ends { Finishes result self.now (K.held out.old) (K.held out.new) }
+        ensures later { K.faults out.old ≤ K.faults out.new }
+        ensures failed { result ≡ ended.WriteFault → Rose (K.faults out.old) (K.faults out.new) }
     {
-        if self.line.is_empty() {
-            End::Read
-        } else {
-            End::Unended {
+        if !self.line.is_empty() {
+            return End::Unended {
                 line: self.count + 1,
-            }
+            };
+        }
+        let texts = match self.session.pending(alloc) {
+            Ok(texts) => texts,
+            Err(_) => return End::NoMemory,
+        };
+        match print(texts.as_slice(), out) {
+            Ok(()) => End::Read,
+            Err(stop) => self.end_of(stop),
         }
     }
 
@@ -199,6 +206,7 @@ impl Player {
     fn turn<S: Source, K: Sink>(
         &mut self,
         alloc: Global,
+        table: &CallTable,
         buffer: &mut [u8],
         input: &mut S,
         out: &mut K,
@@ -206,7 +214,7 @@ impl Player {
         requires room { 0 < length buffer.old }
         requires count { self.old.count + length buffer.old + 1 < 2 ^ 64 }
         requires line { length self.old.line ≤ 65535 }
-        ensures turns { Turns result (length buffer.old) self.old self.new (S.left input.old) (S.left input.new) (K.held out.old) (K.held out.new) }
+        ensures turns { Turns (rules_of table.now) result (length buffer.old) self.old self.new (S.left input.old) (S.left input.new) (K.held out.old) (K.held out.new) }
         ensures cause { TurnCause result (S.faults input.old) (S.faults input.new) (K.faults out.old) (K.faults out.new) }
         ensures count { IfOk result (λ n. self.new.count ≤ self.old.count + n) }
         ensures line { length self.new.line ≤ 65535 }
@@ -216,9 +224,9 @@ impl Player {
             Err(_) => return Err(End::ReadFault),
         };
         if n == 0 {
-            return Err(self.at_end());
+            return Err(self.finish(alloc, out));
         }
-        match self.feed(alloc, &buffer[..n], out) {
+        match self.feed(alloc, table, &buffer[..n], out) {
             Ok(()) => Ok(n),
             Err(stop) => Err(self.end_of(stop)),
         }
@@ -229,16 +237,17 @@ impl Player {
 pub const MOST_BYTES: u64 = 1099511627776;
 
 /// Plays the input to its end, or as far as it goes.
-pub fn play<S: Source, K: Sink>(alloc: Global, input: &mut S, out: &mut K) -> End
-    ensures plays { Plays result (S.left input.old) (S.left input.new) (K.held out.old) (K.held out.new) }
+pub fn play<S: Source, K: Sink>(
+    alloc: Global,
+    table: &CallTable,
+    input: &mut S,
+    out: &mut K,
+) -> End
+    ensures plays { Plays (rules_of table.now) result (S.left input.old) (S.left input.new) (K.held out.old) (K.held out.new) }
     ensures cause { HasEndCause result (S.faults input.old) (S.faults input.new) (K.faults out.old) (K.faults out.new) }
 {
-    let session = match Session::new(alloc) {
-        Ok(session) => session,
-        Err(_) => return End::NoMemory,
-    };
     let mut player = Player {
-        session,
+        session: Session::new(alloc),
         line: Items::empty(alloc),
         count: 0,
     };
@@ -246,7 +255,7 @@ pub fn play<S: Source, K: Sink>(alloc: Global, input: &mut S, out: &mut K) -> En
     let mut taken = 0u64;
     while taken < MOST_BYTES {
         let room = (MOST_BYTES - taken).min(4096) as usize;
-        match player.turn(alloc, &mut buffer[..room], input, out) {
+        match player.turn(alloc, table, &mut buffer[..room], input, out) {
             Ok(n) => taken += n as u64,
             Err(end) => return end,
         }

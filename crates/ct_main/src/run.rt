@@ -1,14 +1,16 @@
 //! The top call.
 ghost use Rattle.std.specs.Prelude.{◌≡◌, ◌++◌, ◌↔◌, OnOk, IfOk, IsTrue};
+ghost use Rattle.ct_call.specs.Shown.{rules_of};
 ghost use Rattle.ct_main.specs.Claims.{HasEndCause, IsPlay, Plays, Reports, message, status, usage};
 ghost use Rattle.ct_main.specs.declared.player.End.{End as Ended};
 
 use crate::player::{End, play};
-use crate::text::push_what;
 use ct_bytes::memory::NoMemory;
+use ct_call::table::CallTable;
 use ct_outside::fault::SinkFault;
 use ct_outside::sink::{Sink, write_all};
 use ct_outside::source::Source;
+use ct_play::text::push_what;
 use ct_tool::words::{push, push_number};
 use std::alloc::Global;
 
@@ -87,13 +89,14 @@ fn is_play(words: &[String]) -> bool
 pub fn run<S: Source, K: Sink, E: Sink>(
     alloc: Global,
     words: &[String],
+    table: &CallTable,
     input: &mut S,
     out: &mut K,
     err: &mut E,
 ) -> u8
     // The words say `play`: bytes that came in were played, and err and the answer say how that ended.
     ensures play { IsPlay words.now → (e : Ended)
-        × Plays e (S.left input.old) (S.left input.new) (K.held out.old) (K.held out.new)
+        × Plays (rules_of table.now) e (S.left input.old) (S.left input.new) (K.held out.old) (K.held out.new)
         × HasEndCause e (S.faults input.old) (S.faults input.new) (K.faults out.old) (K.faults out.new)
         × Reports (message e) (status e) result (E.held err.old) (E.held err.new) (E.faults err.old) (E.faults err.new) }
     // The words have no other reading: nothing was read or printed, and err says so.
@@ -101,7 +104,7 @@ pub fn run<S: Source, K: Sink, E: Sink>(
         × (input.new ≡ input.old) × (out.new ≡ out.old) }
 {
     if is_play(words) {
-        let end = play(alloc, input, out);
+        let end = play(alloc, table, input, out);
         return report(alloc, end, err);
     }
     say(b"ctdbsim: usage\n", 1, err)

@@ -1,13 +1,8 @@
-//! Runs of the top call with ample memory, and the text of what is printed.
+//! Runs of the top call with ample memory.
 ghost use Rattle.std.specs.Prelude.{None};
 
 use crate::run::run;
-use crate::session::What;
-use crate::text::{line_text, push_what};
-use ct_bytes::items::Items;
-use ct_bytes::value::Value;
-use ct_msg::client::{Answer, Why};
-use ct_one_node::step::Line;
+use ct_call::table::CallTable;
 use ct_outside::fault::{Failed, SinkFault};
 use ct_outside::memory::{MemSink, MemSource};
 use ct_outside::sink::Sink;
@@ -83,13 +78,19 @@ const PLAY: &[&str] = &["play"];
 
 const NONE: [&[u64]; 3] = [&[], &[], &[]];
 
-const SCENARIOS: [Case; 15] = [
+const TWO: &str = "nodes 2\ndb t volatile\n";
+
+const MOVED: &str = "nodes 2\ndb t volatile\nlock 1 t b\nsettle 9\n";
+
+const MOVES: &str = "frame 1 1 0 1 call t b 1 lock\nframe 2 0 0 1 recall t b 0 1 1 lock\nframe 3 0 0 1 give t b 0 -\nframe 4 0 1 1 pass t b 1 0 -\nanswer 1 locked -\n";
+
+const SCENARIOS: [Case; 16] = [
     (PLAY, SESSION, NONE, (0, ANSWERS, "")),
     (PLAY, "", NONE, (0, "", "")),
     (PLAY, "nodes 1\n", NONE, (0, "", "")),
     (PLAY, "\n", NONE, (2, "", "ctdbsim: line 1: words\n")),
     (PLAY, "nodes 0\n", NONE, (2, "", "ctdbsim: line 1: words\n")),
-    (PLAY, "nodes 2\n", NONE, (2, "", "ctdbsim: line 1: words\n")),
+    (PLAY, TWO, NONE, (0, "", "")),
     (PLAY, "nodes 1", NONE, (2, "", "ctdbsim: line 1: unended\n")),
     (
         PLAY,
@@ -97,20 +98,25 @@ const SCENARIOS: [Case; 15] = [
         NONE,
         (2, "", "ctdbsim: line 2: unended\n"),
     ),
+    (PLAY, MOVED, NONE, (0, MOVES, "")),
     (
         PLAY,
-        "nodes 1\ndb t volatile\nlock 1 t k\n",
+        "nodes 2\ndb t volatile\nlock 1 t b\n",
         NONE,
-        (2, "", "ctdbsim: line 3: no-such-node 1\n"),
+        (
+            0,
+            "frame 1 1 0 1 call t b 1 lock\npending 1 1 lock t b\n",
+            "",
+        ),
     ),
     (
         PLAY,
-        "nodes 1\ndb t volatile\nlock 0 t k\nlock 1 t k\nread 0 t k\n",
+        "nodes 2\ndb t volatile\nlock 1 t b\nstop 2\n",
         NONE,
         (
             2,
-            "answer 1 locked -\n",
-            "ctdbsim: line 4: no-such-node 1\n",
+            "frame 1 1 0 1 call t b 1 lock\n",
+            "ctdbsim: line 4: no-such-node 2\n",
         ),
     ),
     (
@@ -125,27 +131,27 @@ const SCENARIOS: [Case; 15] = [
     ),
     (
         PLAY,
-        "nodes 1\ndb t volatile\ndb u volatile\n",
+        "db t volatile\n",
         NONE,
-        (2, "", "ctdbsim: line 3: words\n"),
+        (2, "", "ctdbsim: line 1: order\n"),
     ),
     (
         PLAY,
         "nodes 1\nnodes 1\n",
         NONE,
-        (2, "", "ctdbsim: line 2: words\n"),
+        (2, "", "ctdbsim: line 2: order\n"),
     ),
     (
         PLAY,
         "nodes 1\ndb g_lock volatile\n",
         NONE,
-        (2, "", "ctdbsim: line 2: words\n"),
+        (2, "", "ctdbsim: line 2: repeat\n"),
     ),
     (
         PLAY,
-        "nodes 1\ndb t persistent\n",
+        "nodes 1\ndeliver 1\n",
         NONE,
-        (2, "", "ctdbsim: line 2: words\n"),
+        (2, "", "ctdbsim: line 2: no-such-frame 1\n"),
     ),
 ];
 
@@ -163,7 +169,7 @@ const WORDS: [Case; 9] = [
     (&["x"], SESSION, [&[1], &[1], &[1]], (4, "", "")),
 ];
 
-const FAULTS: [Case; 6] = [
+const FAULTS: [Case; 8] = [
     (
         PLAY,
         SESSION,
@@ -188,7 +194,27 @@ const FAULTS: [Case; 6] = [
         (3, ANSWERS, "ctdbsim: read fault\n"),
     ),
     (PLAY, SESSION, [&[1], &[], &[1]], (4, "", "")),
-    (PLAY, "nodes 2\n", [&[], &[], &[1]], (4, "", "")),
+    (PLAY, "nodes 0\n", [&[], &[], &[1]], (4, "", "")),
+    (
+        PLAY,
+        "nodes 2\ndb t volatile\nlock 1 t b\n",
+        [&[], &[2], &[]],
+        (
+            4,
+            "frame 1 1 0 1 call t b 1 lock\n",
+            "ctdbsim: write fault\n",
+        ),
+    ),
+    (
+        PLAY,
+        MOVED,
+        [&[], &[5], &[]],
+        (
+            4,
+            "frame 1 1 0 1 call t b 1 lock\nframe 2 0 0 1 recall t b 0 1 1 lock\nframe 3 0 0 1 give t b 0 -\nframe 4 0 1 1 pass t b 1 0 -\n",
+            "ctdbsim: write fault\n",
+        ),
+    ),
 ];
 
 fn strings(alloc: Global, words: &[&str]) -> Result<Vec<String>, Fail> {
@@ -206,7 +232,15 @@ fn agrees(alloc: Global, case: &Case) -> Result<bool, Fail> {
     let mut source = MemSource::new(bytes, Vec::from_slice(alloc, input_fails)?);
     let mut held = MemSink::new(alloc, Vec::from_slice(alloc, out_fails)?);
     let mut said = MemSink::new(alloc, Vec::from_slice(alloc, err_fails)?);
-    let got = run(alloc, words.as_slice(), &mut source, &mut held, &mut said);
+    let table = CallTable::new(alloc);
+    let got = run(
+        alloc,
+        words.as_slice(),
+        &table,
+        &mut source,
+        &mut held,
+        &mut said,
+    );
     Ok(got == status && held.held() == out.as_bytes() && said.held() == err.as_bytes())
 }
 
@@ -226,6 +260,7 @@ fn runs(rt: HostRuntime) -> Result<(), Fail> {
 fn pieces(rt: HostRuntime) -> Result<(), Fail> {
     let alloc = rt.alloc();
     let words = strings(alloc, PLAY)?;
+    let table = CallTable::new(alloc);
     for (give, take, calls) in [(1, 1, 69), (1, 100, 4), (100, 1, 69), (3, 7, 12)] {
         let mut source = Slow {
             bytes: SESSION.as_bytes(),
@@ -234,7 +269,7 @@ fn pieces(rt: HostRuntime) -> Result<(), Fail> {
         let mut held = Narrow::new(alloc, take);
         let mut said = Narrow::new(alloc, take);
         assert_eq!(rt;
-            run(alloc, words.as_slice(), &mut source, &mut held, &mut said),
+            run(alloc, words.as_slice(), &table, &mut source, &mut held, &mut said),
             0
         );
         assert_eq!(rt; held.bytes.as_slice(), ANSWERS.as_bytes());
@@ -246,6 +281,7 @@ fn pieces(rt: HostRuntime) -> Result<(), Fail> {
 // What is said of an input of so many letters and this end, after its first line.
 fn said_of_letters(alloc: Global, letters: usize, end: &[u8]) -> Result<MemSink, Fail> {
     let words = strings(alloc, PLAY)?;
+    let table = CallTable::new(alloc);
     let mut bytes = Vec::from_slice(alloc, b"nodes 1\n")?;
     for _ in 0..letters {
         bytes.push(b'a')?;
@@ -254,7 +290,7 @@ fn said_of_letters(alloc: Global, letters: usize, end: &[u8]) -> Result<MemSink,
     let mut source = MemSource::new(bytes, Vec::new(alloc));
     let mut held = MemSink::new(alloc, Vec::new(alloc));
     let mut said = MemSink::new(alloc, Vec::new(alloc));
-    run(alloc, words.as_slice(), &mut source, &mut held, &mut said);
+    run(alloc, words.as_slice(), &table, &mut source, &mut held, &mut said);
     Ok(said)
 }
 
@@ -262,81 +298,13 @@ fn said_of_letters(alloc: Global, letters: usize, end: &[u8]) -> Result<MemSink,
 fn long_lines(rt: HostRuntime) -> Result<(), Fail> {
     let cases: [(usize, &[u8], &str); 4] = [
         (65535, b"", "ctdbsim: line 2: unended\n"),
-        (65536, b"", "ctdbsim: line 2: words\n"),
+        (65536, b"", "ctdbsim: line 2: long\n"),
         (65535, b"\n", "ctdbsim: line 2: words\n"),
-        (65536, b"\n", "ctdbsim: line 2: words\n"),
+        (65536, b"\n", "ctdbsim: line 2: long\n"),
     ];
     for (letters, end, err) in cases {
         let said = said_of_letters(rt.alloc(), letters, end)?;
         assert_eq!(rt; said.held(), err.as_bytes());
-    }
-    Ok(())
-}
-
-const REFUSED: [(Why, &str); 10] = [
-    (Why::NoSuchDb, "answer 1 refused no-such-db\n"),
-    (Why::WrongKind, "answer 1 refused wrong-kind\n"),
-    (Why::NotServing, "answer 1 refused not-serving\n"),
-    (Why::CallPending(4), "answer 1 refused call-pending 4\n"),
-    (Why::CommitPending, "answer 1 refused commit-pending\n"),
-    (Why::AlreadyLocked, "answer 1 refused already-locked\n"),
-    (Why::NotLocked, "answer 1 refused not-locked\n"),
-    (Why::NoSuchCall, "answer 1 refused no-such-call\n"),
-    (Why::Full, "answer 1 refused full\n"),
-    (Why::TooLong(1025), "answer 1 refused too-long 1025\n"),
-];
-
-fn shows(alloc: Global, call: u64, answer: Answer, text: &str) -> Result<bool, Fail> {
-    let shown = line_text(alloc, &Line::Answered { call, answer })?;
-    Ok(shown.as_slice() == text.as_bytes())
-}
-
-#[test]
-fn answers(rt: HostRuntime) -> Result<(), Fail> {
-    let alloc = rt.alloc();
-    for (why, text) in &REFUSED {
-        assert!(rt; shows(alloc, 1, Answer::Refused(*why), text)?, "at {text}");
-    }
-    let read = Value::new(alloc, b"v")?;
-    let applied = Value::new(alloc, b"a b")?;
-    let missing = Items::new(Vec::from_slice(alloc, &[1, 2])?);
-    let cases = [
-        (Answer::Locked(Value::empty(alloc)), "answer 10 locked -\n"),
-        (Answer::Read(read), "answer 10 read v\n"),
-        (Answer::Written, "answer 10 written\n"),
-        (Answer::Applied(applied), "answer 10 applied a%20b\n"),
-        (Answer::Stored, "answer 10 stored\n"),
-        (Answer::Unlocked, "answer 10 unlocked\n"),
-        (Answer::Committed(7), "answer 10 committed 7\n"),
-        (
-            Answer::Unsure { seq: 3, missing },
-            "answer 10 unsure 3 1,2\n",
-        ),
-        (
-            Answer::Unsure {
-                seq: 3,
-                missing: Items::empty(alloc),
-            },
-            "answer 10 unsure 3 -\n",
-        ),
-    ];
-    for (answer, text) in cases {
-        assert!(rt; shows(alloc, 10, answer, text)?, "at {text}");
-    }
-    Ok(())
-}
-
-#[test]
-fn refusals(rt: HostRuntime) -> Result<(), Fail> {
-    let cases = [
-        (What::Words, "words"),
-        (What::NoSuchNode(4294967295), "no-such-node 4294967295"),
-        (What::Exhausted, "exhausted"),
-    ];
-    for (what, wanted) in cases {
-        let mut text = Vec::new(rt.alloc());
-        push_what(&mut text, what)?;
-        assert_eq!(rt; text.as_slice(), wanted.as_bytes());
     }
     Ok(())
 }

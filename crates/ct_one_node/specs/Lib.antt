@@ -1,4 +1,0 @@
-pub mod Cluster
-pub mod Code
-pub mod Register
-pub mod Calls

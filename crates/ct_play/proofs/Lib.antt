@@ -1,0 +1,9 @@
+pub mod Allowed
+pub mod Ascending
+pub mod Made
+pub mod Numbers
+pub mod Reading
+pub mod Running
+pub mod Settling
+pub mod Telling
+pub mod Whole

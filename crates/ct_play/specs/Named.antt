@@ -1,0 +1,53 @@
+-- Which step a line or a command is, where it names a database.
+use Rattle.std.specs.Prelude.{ℕ, ◌+◌, min, true, false, if◌then◌else◌, List, [], ◌∷◌, filter, Option, None, Some}
+use Rattle.std.specs.Str.{bytes_eq}
+use Rattle.ct_cluster.specs.Cluster.{Cluster, everyone, is_up}
+use Rattle.ct_cluster.specs.declared.step.Step.{Step}
+use Rattle.ct_cluster.specs.declared.step.Step.TheVariants as step
+use Rattle.ct_lines.specs.declared.line.Command.{Command}
+use Rattle.ct_lines.specs.declared.line.Command.TheVariants as command
+use Rattle.ct_lines.specs.declared.line.NamedOp.{NamedOp}
+use Rattle.ct_lines.specs.declared.line.NamedOp.TheVariants as named
+use Rattle.ct_msg.specs.declared.client.ClientOp.TheVariants as op
+use Rattle.ct_msg.specs.declared.config.Config.{Config}
+use Rattle.ct_msg.specs.declared.config.DbDecl.{DbDecl}
+
+-- the number of a named database, where the first of these has number i; a name that none has gives 2^32 - 1
+abbrev pub number_from : ℕ → List ℕ → List DbDecl → ℕ
+number_from i name [] = 4294967295
+number_from i name (d ∷ ds) = if bytes_eq d.name name then min i 4294967295 else number_from (i + 1) name ds
+
+-- the number of the database that the configuration has by this name
+abbrev pub number_of_db : Config → List ℕ → ℕ
+number_of_db c name = number_from 0 name c.dbs
+
+-- what is asked at a node on the database of this number
+abbrev pub named_step : ℕ → ℕ → NamedOp → Step
+named_step n db (named.Lock key) = step.Client n (op.Lock db key)
+named_step n db (named.Read key) = step.Client n (op.Read db key)
+named_step n db (named.Unlock key) = step.Client n (op.Unlock db key)
+named_step n db (named.Store key value) = step.Client n (op.Store db key value)
+named_step n db (named.Apply key function arg) = step.Client n (op.Apply db key function arg)
+named_step n db (named.Commit pairs) = step.Client n (op.Commit db pairs)
+named_step n db named.Vacuum = step.Vacuum n db
+
+-- the nodes that run
+abbrev pub running_nodes : Config → Cluster → List ℕ
+running_nodes c w = filter (λ n. is_up n w) (everyone c)
+
+-- the step that a command is; the first seven print, and are none
+abbrev pub command_step : Config → Cluster → ℕ → Command → Option Step
+command_step c w n command.Pnn = None
+command_step c w n command.ListNodes = None
+command_step c w n command.Status = None
+command_step c w n command.Ip = None
+command_step c w n command.GetDbMap = None
+command_step c w n (command.CatTdb db) = None
+command_step c w n (command.GetDbSeqNum db) = None
+command_step c w n command.Disable = Some (step.Able n false)
+command_step c w n command.Enable = Some (step.Able n true)
+command_step c w n (command.ReadKey db key) = Some (step.Client n (op.Read (number_of_db c db) key))
+command_step c w n (command.WriteKey db key value) = Some (step.Client n (op.Write (number_of_db c db) key value))
+command_step c w n (command.DeleteKey db key) = Some (step.Client n (op.Write (number_of_db c db) key []))
+command_step c w n (command.PTrans db writes) = Some (step.Client n (op.Commit (number_of_db c db) writes))
+command_step c w n command.Recover = Some (step.Recover n (running_nodes c w))

@@ -1,0 +1,10 @@
+//! A scenario of a whole cluster, as it is played line by line.
+#![tactic(auto)]
+
+pub mod effect;
+pub mod laws;
+pub mod named;
+pub mod session;
+mod shown;
+pub mod text;
+pub mod what;

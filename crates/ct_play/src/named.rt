@@ -1,0 +1,114 @@
+//! Which step a line or a command is, where it names a database.
+ghost use Rattle.std.specs.Prelude.{◌≡◌, ◌∷◌, nat_eq, IfOk};
+ghost use Rattle.std.specs.Str.{bytes_eq};
+ghost use Rattle.ct_play.specs.Named.{command_step, named_step, number_from, number_of_db, running_nodes};
+
+use ct_bytes::copies::Duplicate;
+use ct_bytes::items::Items;
+use ct_bytes::memory::NoMemory;
+use ct_bytes::name::DbName;
+use ct_bytes::value::Value;
+use ct_cluster::step::Step;
+use ct_lines::line::{Command, NamedOp};
+use ct_msg::client::ClientOp;
+use ct_msg::config::{Config, DbDecl};
+use ct_world::world::World;
+use std::alloc::Global;
+
+/// The number of the database of this name among these, or 2^32 - 1.
+fn number_among(dbs: &[DbDecl], name: &DbName) -> u32
+    ensures { result ≡ number_from 0 name.now dbs.now }
+{
+    for (i, decl) in dbs.iter().enumerate() {
+        if decl.name == *name {
+            return i.min(4294967295) as u32;
+        }
+    }
+    4294967295
+}
+
+/// The number of the database that the configuration has by this name, or 2^32 - 1.
+pub fn number_of_db(config: &Config, name: &DbName) -> u32
+    ensures { result ≡ number_of_db config.now name.now }
+{
+    number_among(config.dbs.as_slice(), name)
+}
+
+/// What is asked at a node on the database of this number.
+pub fn named_step(node: u32, db: u32, op: NamedOp) -> Step
+    ensures { result ≡ named_step node db op }
+{
+    let op = match op {
+        NamedOp::Lock(key) => ClientOp::Lock { db, key },
+        NamedOp::Read(key) => ClientOp::Read { db, key },
+        NamedOp::Unlock(key) => ClientOp::Unlock { db, key },
+        NamedOp::Store(key, value) => ClientOp::Store { db, key, value },
+        NamedOp::Apply { key, function, arg } => ClientOp::Apply {
+            db,
+            key,
+            function,
+            arg,
+        },
+        NamedOp::Commit(writes) => ClientOp::Commit { db, writes },
+        NamedOp::Vacuum => return Step::Vacuum { node, db },
+    };
+    Step::Client { node, op }
+}
+
+/// The nodes that run.
+fn running_nodes(alloc: Global, world: &World) -> Result<Items<u32>, NoMemory>
+    ensures { IfOk result (λ nodes. nodes ≡ running_nodes world.now.config world.now.cluster) }
+{
+    let mut nodes = Items::empty(alloc);
+    for node in 0..world.config().nodes {
+        if world.is_up(node) {
+            nodes.push(node)?;
+        }
+    }
+    Ok(nodes)
+}
+
+/// The step that a command is. None are those that print.
+pub fn command_step(
+    alloc: Global,
+    world: &World,
+    node: u32,
+    command: &Command,
+) -> Result<Option<Step>, NoMemory>
+    ensures { IfOk result (λ step. step ≡ command_step world.now.config world.now.cluster node command.now) }
+{
+    let op = match command {
+        Command::Pnn
+        | Command::ListNodes
+        | Command::Status
+        | Command::Ip
+        | Command::GetDbMap
+        | Command::CatTdb(_)
+        | Command::GetDbSeqNum(_) => return Ok(None),
+        Command::Disable => return Ok(Some(Step::Able { node, able: false })),
+        Command::Enable => return Ok(Some(Step::Able { node, able: true })),
+        Command::ReadKey { db, key } => ClientOp::Read {
+            db: number_of_db(world.config(), db),
+            key: key.copy()?,
+        },
+        Command::WriteKey { db, key, value } => ClientOp::Write {
+            db: number_of_db(world.config(), db),
+            key: key.copy()?,
+            value: value.copy()?,
+        },
+        Command::DeleteKey { db, key } => ClientOp::Write {
+            db: number_of_db(world.config(), db),
+            key: key.copy()?,
+            value: Value::empty(alloc),
+        },
+        Command::PTrans { db, writes } => ClientOp::Commit {
+            db: number_of_db(world.config(), db),
+            writes: writes.duplicate()?,
+        },
+        Command::Recover => {
+            let members = running_nodes(alloc, world)?;
+            return Ok(Some(Step::Recover { node, members }));
+        }
+    };
+    Ok(Some(Step::Client { node, op }))
+}

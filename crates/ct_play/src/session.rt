@@ -1,0 +1,170 @@
+//! A scenario as it is played line by line.
+ghost use Rattle.std.specs.Prelude.{◌≡◌, IfOk, IsSome, map};
+ghost use Rattle.ct_call.specs.Shown.{rules_of};
+ghost use Rattle.ct_lines.specs.Places.{refusal};
+ghost use Rattle.ct_lines.specs.Spelled.{IsInRange};
+ghost use Rattle.ct_tool.specs.Line.{pending_text};
+ghost use Rattle.ct_play.specs.Effect.{line_effect};
+ghost use Rattle.ct_play.specs.Opening.{world_at};
+ghost use Rattle.ct_play.specs.Session.{Plays, in_its_place, is_config_line, line_played, pending_texts, placed, put, start};
+
+use crate::effect::line_effect;
+use crate::what::{PlayFault, What};
+use ct_bytes::items::Items;
+use ct_bytes::memory::NoMemory;
+use ct_call::table::CallTable;
+use ct_cluster::step::PendingCall;
+use ct_lines::line::{LineKindFault, ScenarioLine};
+use ct_lines::parse::parse_line;
+use ct_lines::places::Places;
+use ct_msg::config::Config;
+use ct_tool::line::pending_text;
+use ct_world::world::World;
+use std::alloc::Global;
+
+/// What the lines so far said, and the cluster, once a line opened it.
+#[derive(Drop)]
+pub struct Session {
+    pub places: Places,
+    pub world: Option<World>,
+}
+
+/// Does the line say what the cluster is?
+fn is_config_line(line: &ScenarioLine) -> bool
+    ensures { result ≡ is_config_line line.now }
+{
+    match line {
+        ScenarioLine::Config(_) => true,
+        ScenarioLine::Change(_)
+        | ScenarioLine::ByName { .. }
+        | ScenarioLine::Settle(_)
+        | ScenarioLine::Ctdb { .. } => false,
+    }
+}
+
+/// The cluster at a line that is no configuration line: the first such line opens it.
+fn world_at(alloc: Global, places: &Places, world: Option<World>) -> Result<World, NoMemory>
+    requires { IsSome places.now.nodes }
+    ensures { IfOk result (λ w. w ≡ world_at places.now world) }
+{
+    match world {
+        Some(world) => Ok(world),
+        None => {
+            let config = places.config(alloc)?;
+            World::new(alloc, &config)
+        }
+    }
+}
+
+/// The text of each of these calls.
+fn texts(alloc: Global, calls: &[PendingCall], config: &Config) -> Result<Vec<Items<u8>>, NoMemory>
+    ensures { IfOk result (λ v. v.items ≡ map (pending_text config.now) calls.now) }
+{
+    let mut texts = Vec::with_capacity(alloc, calls.len())?;
+    for call in calls {
+        texts.push(Items::new(pending_text(alloc, call, config)?))?;
+    }
+    Ok(texts)
+}
+
+impl Session {
+    /// Before the first line. It takes no memory.
+    pub fn new(alloc: Global) -> Session
+        ensures { result ≡ start }
+    {
+        Session {
+            places: Places::new(alloc),
+            world: None,
+        }
+    }
+
+    /// What a line does to the cluster, which it may open.
+    fn work(
+        &mut self,
+        alloc: Global,
+        table: &CallTable,
+        line: ScenarioLine,
+    ) -> Result<Vec<Items<u8>>, PlayFault>
+        requires range { IsInRange line }
+        requires nodes { IsSome self.old.places.nodes }
+        ensures { Plays result (put self.old.places (line_effect (rules_of table.now) (world_at self.old.places self.old.world) line)) self.new }
+    {
+        let before = self.world.take();
+        let mut world = match world_at(alloc, &self.places, before) {
+            Ok(world) => world,
+            Err(NoMemory) => return Err(PlayFault::NoMemory),
+        };
+        match line_effect(alloc, &mut world, table, line) {
+            Ok(texts) => {
+                self.world = Some(world);
+                Ok(texts)
+            }
+            Err(fault) => Err(fault),
+        }
+    }
+
+    /// A line in its place.
+    fn in_its_place(
+        &mut self,
+        alloc: Global,
+        table: &CallTable,
+        line: ScenarioLine,
+    ) -> Result<Vec<Items<u8>>, PlayFault>
+        requires range { IsInRange line }
+        requires nodes { IsSome self.old.places.nodes }
+        ensures { Plays result (in_its_place (rules_of table.now) line self.old.world self.old.places) self.new }
+    {
+        if is_config_line(&line) {
+            return Ok(Vec::new(alloc));
+        }
+        self.work(alloc, table, line)
+    }
+
+    /// A line of the grammar.
+    fn placed(
+        &mut self,
+        alloc: Global,
+        table: &CallTable,
+        line: ScenarioLine,
+    ) -> Result<Vec<Items<u8>>, PlayFault>
+        requires { IsInRange line }
+        ensures { Plays result (placed (rules_of table.now) line self.old (refusal line self.old.places)) self.new }
+    {
+        match self.places.check(&line) {
+            Ok(()) => self.in_its_place(alloc, table, line),
+            Err(LineKindFault::Kind(kind)) => Err(PlayFault::Refused(What::Line(kind))),
+            Err(LineKindFault::NoMemory) => Err(PlayFault::NoMemory),
+        }
+    }
+
+    /// Plays one line, without its line feed, and answers the lines of text that it prints. After a refusal, and after want
+    /// of memory, the session plays no more.
+    #[tactic(auto, using(crate::proofs::Reading::line_read, crate::proofs::Reading::line_unread))]
+    pub fn play(
+        &mut self,
+        alloc: Global,
+        table: &CallTable,
+        line: &[u8],
+    ) -> Result<Vec<Items<u8>>, PlayFault>
+        ensures { Plays result (line_played (rules_of table.now) line.now self.old) self.new }
+    {
+        match parse_line(alloc, line) {
+            Ok(item) => self.placed(alloc, table, item),
+            Err(LineKindFault::Kind(kind)) => Err(PlayFault::Refused(What::Line(kind))),
+            Err(LineKindFault::NoMemory) => Err(PlayFault::NoMemory),
+        }
+    }
+
+    /// The text of each client call that waits.
+    pub fn pending(&self, alloc: Global) -> Result<Vec<Items<u8>>, NoMemory>
+        ensures { IfOk result (λ v. v.items ≡ pending_texts self.now.world) }
+    {
+        match &self.world {
+            Some(world) => {
+                let calls = world.pending()?;
+                texts(alloc, calls.as_slice(), world.config())
+            }
+            None => Ok(Vec::new(alloc)),
+        }
+    }
+}

@@ -1,0 +1,84 @@
+//! What a command prints, and why one is refused.
+ghost use Rattle.std.specs.Prelude.{◌≡◌, [], true, IfOk};
+ghost use Rattle.ct_cluster.specs.Faults.{fault_of};
+ghost use Rattle.ct_cluster.specs.declared.step.Step.TheVariants as step;
+ghost use Rattle.ct_commands.specs.Command.{prints};
+ghost use Rattle.ct_play.specs.Effect.{Works, cut_after, refused_by, shown};
+
+use crate::what::{PlayFault, What};
+use ct_bytes::items::Items;
+use ct_bytes::memory::NoMemory;
+use ct_cluster::step::{Step, StepFault};
+use ct_commands::command::{TextFault, command_text};
+use ct_lines::line::Command;
+use ct_world::world::World;
+use std::alloc::Global;
+
+/// Why a step is refused, as why its line is.
+pub fn refused_by(fault: StepFault) -> PlayFault
+    ensures { result ≡ refused_by fault }
+{
+    let what = match fault {
+        StepFault::NoSuchNode(node) => What::NoSuchNode(node),
+        StepFault::NodeDown(node) => What::NodeDown(node),
+        StepFault::NodeUp(node) => What::NodeUp(node),
+        StepFault::NoSuchDb(_) => What::NoSuchDb,
+        StepFault::WrongKind(_) => What::WrongKind,
+        StepFault::NotServing(node) => What::NotServing(node),
+        StepFault::NotLeader(node) => What::NotLeader(node),
+        StepFault::NoSuchFrame(number) => What::NoSuchFrame(number),
+        StepFault::NotMember(node) => What::NotMember(node),
+        StepFault::LockHeld(node) => What::LockHeld(node),
+        StepFault::NotHolder(_) => What::NotHolder,
+        StepFault::Exhausted => What::Exhausted,
+        StepFault::NoMemory => return PlayFault::NoMemory,
+    };
+    PlayFault::Refused(what)
+}
+
+/// A text cut after each line feed.
+fn cut(alloc: Global, text: &[u8]) -> Result<Vec<Items<u8>>, NoMemory>
+    ensures { IfOk result (λ v. v.items ≡ cut_after [] text.now) }
+{
+    let mut lines = Vec::new(alloc);
+    let mut line = Items::empty(alloc);
+    for x in text {
+        line.push(*x)?;
+        if *x == b'\n' {
+            lines.push(line)?;
+            line = Items::empty(alloc);
+        }
+    }
+    if !line.is_empty() {
+        lines.push(line)?;
+    }
+    Ok(lines)
+}
+
+/// What a command prints at a node, each line by itself. It is refused as a step at a node that is not there, or is down.
+pub fn shown(
+    alloc: Global,
+    world: &World,
+    node: u32,
+    command: &Command,
+) -> Result<Vec<Items<u8>>, PlayFault>
+    requires { prints command.now ≡ true }
+    ensures { Works result (shown world.now node command.now (fault_of world.now.config world.now.cluster (step.Retry node))) world.now }
+{
+    let step = Step::Retry(node);
+    if let Some(fault) = world.fault(&step) {
+        return Err(refused_by(fault));
+    }
+    let Some(view) = world.view(node) else {
+        unreachable!()
+    };
+    match command_text(alloc, &view, command) {
+        Ok(text) => match cut(alloc, text.as_slice()) {
+            Ok(lines) => Ok(lines),
+            Err(NoMemory) => Err(PlayFault::NoMemory),
+        },
+        Err(TextFault::NoSuchDb) => Err(PlayFault::Refused(What::NoSuchDb)),
+        Err(TextFault::WrongKind) => Err(PlayFault::Refused(What::WrongKind)),
+        Err(TextFault::NoMemory) => Err(PlayFault::NoMemory),
+    }
+}

@@ -1,8 +1,0 @@
-//! The lines of a scenario: what they are, and how they are read.
-#![tactic(auto)]
-
-pub mod laws;
-pub mod line;
-pub mod parse;
-#[cfg(test)]
-mod tests;
