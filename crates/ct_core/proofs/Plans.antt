@@ -11,6 +11,7 @@ use Rattle.ct_node_placed.specs.Placed.{IsPlaced}
 use Rattle.ct_node_placed.proofs.Placed.{stays_placed}
 use Rattle.ct_node_steps.proofs.Whole.{steps_keep_form}
 use Rattle.ct_planned.specs.Changes.{CanChange, Plans, changed_by}
+use Rattle.ct_planned.specs.declared.change.Change.{Change}
 use Rattle.ct_planned.specs.declared.change.Planned.{Planned}
 use Rattle.ct_rules_node.specs.Coming.{may_come}
 use Rattle.ct_rules_node.specs.Node.{Node}
@@ -18,7 +19,7 @@ use Rattle.ct_rules_node.specs.Steps.{happens, unless_spent}
 use Rattle.ct_rules_node.specs.Turn.{Turn, begins}
 use Rattle.ct_turn.specs.declared.turn.CoreFault.{CoreFault}
 use Rattle.ct_turn.specs.declared.turn.CoreFault.TheVariants.{Exhausted, NoMemory}
-use Rattle.ct_core.specs.Core.{Core, CoreInForm, IsPlanOf, PlansStep, turn_of}
+use Rattle.ct_core.specs.Core.{Core, CoreInForm, IsChangeOf, IsPlanOf, PlansStep, turn_of}
 
 -- ---- plans
 
@@ -45,8 +46,12 @@ plan_sound x rules e (Err _) f may h = tt
 
 -- ---- what a plan leaves
 
-pub can_change : (x : Core) (p : Planned) → IsPlanOf x p → CanChange p.change x.node
-can_change x p h = h.can
+pub can_change : (x : Core) (change : Change) → IsChangeOf x change → CanChange change x.node
+can_change x change h = h.1.can
+
+-- what was planned has its change
+pub change_of : (x : Core) (p : Planned) → IsPlanOf x p → IsChangeOf x p.change
+change_of x p h = (p.outs, h)
 
 taken : (u t : Turn) → unless_spent u ≡ Some t → u ≡ t
 taken u t e = by u.spent e
@@ -62,9 +67,9 @@ stays_so x p f h = record {
 }
 
 -- the node as it was planned is in form
-pub stays_in_form : (c : Config) (n : ℕ) (old new : Node) (p : Planned) → CoreInForm (record { pnn = n; config = c; node = old }) → IsPlanOf (record { pnn = n; config = c; node = old }) p → new ≡ changed_by p.change old →
+pub stays_in_form : (c : Config) (n : ℕ) (old new : Node) (change : Change) → CoreInForm (record { pnn = n; config = c; node = old }) → IsChangeOf (record { pnn = n; config = c; node = old }) change → new ≡ changed_by change old →
     CoreInForm (record { pnn = n; config = c; node = new })
-stays_in_form c n old new p f h e = subst (λ (x : Node). CoreInForm (record { pnn = n; config = c; node = x })) (sym e) (stays_so (record { pnn = n; config = c; node = old }) p f h)
+stays_in_form c n old new change f h e = subst (λ (x : Node). CoreInForm (record { pnn = n; config = c; node = x })) (sym e) (stays_so (record { pnn = n; config = c; node = old }) (record { change = change; outs = h.0 }) f h.1)
 
 -- and as it was before
 pub stays_unchanged : (c : Config) (n : ℕ) (old new : Node) → CoreInForm (record { pnn = n; config = c; node = old }) → new ≡ old → CoreInForm (record { pnn = n; config = c; node = new })

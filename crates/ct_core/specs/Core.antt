@@ -7,6 +7,7 @@ use Rattle.ct_call.specs.Rules.{Rules}
 use Rattle.ct_node_form.specs.Whole.{NodeInForm}
 use Rattle.ct_node_placed.specs.Placed.{IsPlaced}
 use Rattle.ct_planned.specs.Changes.{CanChange, changed_by}
+use Rattle.ct_planned.specs.declared.change.Change.{Change}
 use Rattle.ct_planned.specs.declared.change.Planned.{Planned}
 use Rattle.ct_rules_node.specs.Coming.{may_come}
 use Rattle.ct_rules_node.specs.Node.{Node}
@@ -45,6 +46,10 @@ pub record IsPlanOf (x : Core) (p : Planned) : Type 0 where
   pub coming : may_come x.config x.pnn x.node event ≡ true
   pub steps : stepped x.config rules x.pnn event x.node ≡ Some (turn_of p x.node)
   pub can : CanChange p.change x.node
+
+-- a change is of the core as it stands: a plan of it has that change
+abbrev pub IsChangeOf : Core → Change → Type 0
+IsChangeOf x change = (outs : List Out) × IsPlanOf x (record { change = change; outs = outs })
 
 -- ---- steps
 

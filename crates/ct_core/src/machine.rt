@@ -3,7 +3,7 @@ ghost use Rattle.std.specs.Prelude.{◌≡◌, ◌<◌, true, IfOk, OnErr, OnOk}
 ghost use Rattle.std.specs.List.{list_all};
 ghost use Rattle.ct_call.specs.Shown.{rules_of};
 ghost use Rattle.ct_cluster.specs.Cluster.{everyone};
-ghost use Rattle.ct_core.specs.Core.{IsPlanOf, PlansStep, Steps};
+ghost use Rattle.ct_core.specs.Core.{IsChangeOf, IsPlanOf, PlansStep, Steps};
 ghost use Rattle.ct_node_form.specs.Whole.{HasLimits, is_sound_out};
 ghost use Rattle.ct_planned.specs.Changes.{changed_by};
 ghost use Rattle.ct_rules_node.specs.Coming.{may_come};
@@ -13,16 +13,22 @@ ghost use Rattle.ct_rules_node.specs.Steps.{stepped};
 use crate::opening::everyone;
 use ct_arrivals::events::happens;
 use ct_bytes::copies::Duplicate;
+use ct_bytes::items::Items;
 use ct_bytes::memory::NoMemory;
 use ct_call::table::CallTable;
 use ct_frame::event::{Event, Out};
+use ct_lead::lead::Lead;
 use ct_msg::config::Config;
+use ct_node_state::members::Members;
 use ct_node_state::node::Node;
-use ct_planned::change::Planned;
+use ct_planned::change::{Change, Planned};
 use ct_planned::commit::commit;
+use ct_round::member::Member;
+use ct_takeover::holder::Holder;
 use ct_turn::turn::CoreFault;
 use std::alloc::Global;
 use std::marker::Model;
+use std::mem;
 
 /// One node, with its number and its configuration.
 #[derive(Drop)]
@@ -40,6 +46,22 @@ impl Model for Core {
     ghost view = { λ c. record { pnn = c.pnn; config = c.config; node = c.node } };
 
     ghost invariant = { λ c. machine.CoreInForm (record { pnn = c.pnn; config = c.config; node = c.node }) };
+}
+
+/// A node that stands for one that is being changed. It takes no memory.
+fn blank(alloc: Global) -> Node {
+    Node {
+        alloc,
+        member: Member::new(0),
+        pbase: 0,
+        members: Members::none(alloc),
+        leader: None,
+        dbs: Items::empty(alloc),
+        placement: Items::empty(alloc),
+        holder: Holder::new(alloc),
+        next: 1,
+        lead: Lead::nothing(alloc),
+    }
 }
 
 impl Core {
@@ -68,18 +90,15 @@ impl Core {
         happens(&self.config, table, self.pnn, event, &self.node)
     }
 
-    /// Changes the node as it was planned, and answers what it does. The plan is of the node as it stands. Without memory
-    /// nothing changes.
+    /// Changes the node as it was planned. The plan is of the node as it stands. Without memory nothing changes.
     #[tactic(auto, using(crate::proofs::Plans::can_change, crate::proofs::Plans::stays_in_form, crate::proofs::Plans::stays_unchanged))]
-    pub fn commit(&mut self, planned: Planned) -> Result<Vec<Out>, NoMemory>
-        requires { IsPlanOf self.old planned }
-        ensures outs { IfOk result (λ outs. outs.items ≡ planned.outs) }
-        ensures ok { OnOk result (self.new ≡ record self.old { node = changed_by planned.change self.old.node }) }
+    pub fn commit(&mut self, change: Change) -> Result<(), NoMemory>
+        requires { IsChangeOf self.old change }
+        ensures ok { OnOk result (self.new ≡ record self.old { node = changed_by change self.old.node }) }
         ensures err { OnErr result (self.new ≡ self.old) }
     {
-        let Planned { change, outs } = planned;
         commit(&mut self.node, change)?;
-        Ok(outs.into_vec())
+        Ok(())
     }
 
     /// What comes of an event: the node changes, and what it does is answered, in order. An event that is dropped answers
@@ -90,9 +109,9 @@ impl Core {
         ensures step { Steps (λ outs. outs.items) result (stepped self.old.config (rules_of table.now) self.old.pnn event.now self.old.node) self.old self.new }
         ensures sound { IfOk result (λ outs. list_all (is_sound_out self.old.config self.old.pnn) outs.items ≡ true) }
     {
-        let planned = self.plan(table, event)?;
-        match self.commit(planned) {
-            Ok(outs) => Ok(outs),
+        let Planned { change, outs } = self.plan(table, event)?;
+        match self.commit(change) {
+            Ok(()) => Ok(outs.into_vec()),
             Err(NoMemory) => Err(CoreFault::NoMemory),
         }
     }
@@ -100,12 +119,12 @@ impl Core {
     /// What a stop leaves of the node: its number, the configuration, the promise, the persistent databases and their base.
     /// It takes no memory.
     #[tactic(auto, using(crate::proofs::Everyone::placed_so, crate::proofs::Everyone::restarts))]
-    pub fn restart(self) -> Core
-        ensures { result ≡ record self { node = restarted self.config self.node } }
+    pub fn restart(&mut self)
+        ensures { self.new ≡ record self.old { node = restarted self.old.config self.old.node } }
     {
-        let Core { pnn, config, node } = self;
-        let node = node.restarted(&config);
-        Core { pnn, config, node }
+        let blank = blank(self.node.alloc);
+        let node = mem::replace(&mut self.node, blank);
+        self.node = node.restarted(&self.config);
     }
 
     /// A copy that equals it.

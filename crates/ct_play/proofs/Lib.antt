@@ -4,6 +4,6 @@ pub mod Made
 pub mod Numbers
 pub mod Reading
 pub mod Running
+pub mod Runs
 pub mod Settling
 pub mod Telling
-pub mod Whole

@@ -6,5 +6,7 @@ pub mod laws;
 pub mod named;
 pub mod session;
 mod shown;
+#[cfg(test)]
+mod tests;
 pub mod text;
 pub mod what;

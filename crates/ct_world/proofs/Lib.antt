@@ -1,5 +1,11 @@
-mod Opened
-mod Numbers
+mod Asked
 mod Cores
+mod Fed
+mod Kept
+mod Messages
 mod Missing
+mod Numbers
+mod Opened
+mod Pending
+mod Given
 mod Seated

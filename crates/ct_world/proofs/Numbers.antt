@@ -3,7 +3,7 @@ use Rattle.std.proofs.Common.{◌≡◌, ℕ, zero, suc, List, refl, sym, ap, �
 use Rattle.ct_cluster.specs.Cluster.{Cluster, Sent, sent_at}
 use Rattle.ct_mail.specs.Mail.{numbered}
 
-numbered_so : (k : ℕ) (w : Cluster) → numbered k w.sent ≡ sent_at k w
+pub numbered_so : (k : ℕ) (w : Cluster) → numbered k w.sent ≡ sent_at k w
 unfolding numbered sent_at
 numbered_so zero w = refl
 numbered_so (suc k) w = grind arith

@@ -1,8 +1,11 @@
 -- A cluster at its opening.
-use Rattle.std.proofs.Common.{◌≡◌, ◌∙◌, ℕ, zero, suc, ◌+◌, Bool, true, List, [], ◌∷◌, ◌++◌, None, Some, refl, sym, ap, subst, arith}
+use Rattle.std.proofs.Common.{◌≡◌, ◌∙◌, ℕ, zero, suc, ◌+◌, Bool, true, List, [], ◌∷◌, ◌++◌, None, Ok, Some, refl, sym, ap, subst, arith}
 use Rattle.std.specs.Prelude.{map, replicate, slice_get}
 use Rattle.std.proofs.lemmas.List.{length-replicate}
+use Rattle.ct_bytes.specs.declared.address.Address.{Address}
+use Rattle.ct_msg.specs.Config.{Configures}
 use Rattle.ct_msg.specs.declared.config.Config.{Config}
+use Rattle.ct_msg.specs.declared.config.DbDecl.{DbDecl}
 use Rattle.ct_cluster.specs.Cluster as cluster
 use Rattle.ct_cluster.specs.Cluster.{Cluster, everyone, numbers}
 use Rattle.ct_cluster.specs.Steps.{is_counted}
@@ -41,6 +44,10 @@ seated c n x e = let h = seated_from c 0 c.nodes n x e in (ap (λ (y : Core). y.
 
 pub has_limits : (c : Config) → IsConfig c → HasLimits c
 has_limits c h = configs_have_limits c h.0 h.1 h.2
+
+-- what is made of databases and addresses is a configuration
+pub is_config : (c : Config) (n : ℕ) (dbs : List DbDecl) (addresses : List Address) → Configures (Ok c) n dbs addresses → IsConfig c
+is_config c n dbs addresses h = (dbs, addresses, subst (λ (k : ℕ). Configures (Ok c) k dbs addresses) (sym h.1) h)
 
 counted : (c : Config) → is_counted (cluster.opening c) ≡ true
 unfolding is_counted cluster.opening

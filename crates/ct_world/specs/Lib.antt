@@ -1,2 +1,3 @@
 pub mod World
+pub mod Feeding
 pub mod View

@@ -1,6 +1,6 @@
 //! Why a step is refused, apart from a number that would reach its limit. No call takes memory.
-ghost use Rattle.std.specs.Prelude.{◌≡◌, ◌∷◌, nat_lt, [], MatchOption};
-ghost use Rattle.ct_cluster.specs.Cluster.{absent, is_delivered, is_up, is_waiting, node_at, sent_at};
+ghost use Rattle.std.specs.Prelude.{◌≡◌, ◌∷◌, nat_lt, [], MatchOption, slice_get};
+ghost use Rattle.ct_cluster.specs.Cluster.{absent, is_delivered, is_true, is_up, is_waiting, node_at, sent_at};
 ghost use Rattle.ct_cluster.specs.Faults as rule;
 ghost use Rattle.ct_cluster.specs.declared.step.Step.TheVariants as step;
 ghost use Rattle.ct_rules_node.specs.Node.{is_among, is_serving};
@@ -19,13 +19,24 @@ fn is_among(node: u32, nodes: &[u32]) -> bool
     nodes.iter().any(|n| node == *n)
 }
 
+/// Is the node's mark there and set?
+#[tactic(auto, unfolding(ct_cluster::specs::Cluster::is_true))]
+pub(crate) fn is_marked(marks: &[bool], node: u32) -> bool
+    ensures { result ≡ is_true (slice_get marks.now node) }
+{
+    match marks.get(node as usize) {
+        Some(mark) => *mark,
+        None => false,
+    }
+}
+
 impl World {
     /// There is no node of this number.
     #[tactic(auto, unfolding(ct_cluster::specs::Faults::no_such_node, ct_rules_node::specs::Refusals::refused_if))]
     fn no_such_node(&self, node: u32) -> Option<StepFault>
         ensures { result ≡ rule.no_such_node self.now.config node }
     {
-        if node < self.config.nodes {
+        if node < self.parts.config.nodes {
             return None;
         }
         Some(StepFault::NoSuchNode(node))
@@ -35,7 +46,7 @@ impl World {
     fn is_node(&self, node: u32) -> bool
         ensures { result ≡ nat_lt node self.now.config.nodes }
     {
-        node < self.config.nodes
+        node < self.parts.config.nodes
     }
 
     /// The first of these numbers that is no node's.
@@ -52,14 +63,11 @@ impl World {
     }
 
     /// Does the node run?
-    #[tactic(auto, unfolding(ct_cluster::specs::Cluster::is_up, ct_cluster::specs::Cluster::is_true))]
+    #[tactic(auto, unfolding(ct_cluster::specs::Cluster::is_up))]
     pub fn is_up(&self, node: u32) -> bool
         ensures { result ≡ is_up node self.now.cluster }
     {
-        match self.running.as_slice().get(node as usize) {
-            Some(is_up) => *is_up,
-            None => false,
-        }
+        is_marked(self.parts.running.as_slice(), node)
     }
 
     /// The node does not run.
@@ -89,7 +97,7 @@ impl World {
     fn no_such_db(&self, db: u32) -> Option<StepFault>
         ensures { result ≡ rule.no_such_db self.now.config db }
     {
-        if kind_at(&self.config, db).is_some() {
+        if kind_at(&self.parts.config, db).is_some() {
             return None;
         }
         Some(StepFault::NoSuchDb(db))
@@ -100,7 +108,7 @@ impl World {
     fn wrong_kind(&self, db: u32) -> Option<StepFault>
         ensures { result ≡ rule.wrong_kind self.now.config db }
     {
-        if is_persistent(kind_at(&self.config, db)) {
+        if is_persistent(kind_at(&self.parts.config, db)) {
             return Some(StepFault::WrongKind(db));
         }
         None
@@ -108,10 +116,10 @@ impl World {
 
     /// The node of this number, where there is one.
     #[tactic(auto, using(crate::proofs::Cores::core_there, crate::proofs::Cores::core_gone), unfolding(ct_cluster::specs::Cluster::node_at, ct_cluster::specs::Cluster::or_absent))]
-    fn core(&self, node: u32) -> Option<&Core>
+    pub(crate) fn core(&self, node: u32) -> Option<&Core>
         ensures { MatchOption result (node_at node self.now.cluster ≡ absent) (λ x. node_at node self.now.cluster ≡ x.now.node) }
     {
-        self.cores.as_slice().get(node as usize)
+        self.parts.cores.as_slice().get(node as usize)
     }
 
     /// Does the node serve?
@@ -163,7 +171,7 @@ impl World {
     fn lock_held(&self, node: u32) -> Option<StepFault>
         ensures { result ≡ rule.lock_held node self.now.cluster.holder }
     {
-        match self.holder {
+        match self.parts.books.holder {
             Some(holder) => if holder == node {
                 None
             } else {
@@ -178,24 +186,24 @@ impl World {
     fn not_holder(&self, node: u32) -> Option<StepFault>
         ensures { result ≡ rule.not_holder self.now.cluster node }
     {
-        if self.holder == Some(node) {
+        if self.parts.books.holder == Some(node) {
             return None;
         }
-        Some(StepFault::NotHolder(self.holder))
+        Some(StepFault::NotHolder(self.parts.books.holder))
     }
 
     /// Does the message of this number wait?
     fn waits(&self, number: u64) -> bool
         ensures { result ≡ is_waiting (sent_at number self.now.cluster) }
     {
-        self.mail.is_waiting(number)
+        self.parts.mail.is_waiting(number)
     }
 
     /// Was the message of this number delivered?
     fn was_delivered(&self, number: u64) -> bool
         ensures { result ≡ is_delivered (sent_at number self.now.cluster) }
     {
-        self.mail.is_delivered(number)
+        self.parts.mail.is_delivered(number)
     }
 
     /// No message of this number waits.

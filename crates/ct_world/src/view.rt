@@ -26,11 +26,11 @@ impl World {
         if !self.is_up(node) {
             return None;
         }
-        let core = self.cores.as_slice().get(node as usize)?;
+        let core = self.parts.cores.as_slice().get(node as usize)?;
         Some(View {
             core,
-            running: self.running.as_slice(),
-            able: self.able.as_slice(),
+            running: self.parts.running.as_slice(),
+            able: self.parts.able.as_slice(),
         })
     }
 }

@@ -1,17 +1,25 @@
 //! The cluster.
 ghost use Rattle.std.specs.Prelude.{◌≡◌, true, IfOk, map, replicate};
 ghost use Rattle.ct_cluster.specs.Cluster as cluster;
-ghost use Rattle.ct_cluster.specs.Cluster.{numbers};
+ghost use Rattle.ct_call.specs.Shown.{rules_of};
+ghost use Rattle.ct_cluster.specs.Cluster.{numbers, pending, pending_from};
+ghost use Rattle.ct_cluster.specs.Faults.{is_allowed};
+ghost use Rattle.ct_cluster.specs.Steps.{applied};
 ghost use Rattle.ct_mail.specs.Mail.{next_waiting};
 ghost use Rattle.ct_node_form.specs.Whole.{HasLimits};
 ghost use Rattle.ct_promise.specs.Promises.{IsConfig};
-ghost use Rattle.ct_world.specs.World.{opened};
+ghost use Rattle.ct_rules_node.specs.Numbered.{by_number};
+ghost use Rattle.ct_world.specs.World.{Applies, AreNumbered, opened, states_of};
 
+use crate::parts::{Books, Parts};
 use ct_bytes::items::Items;
 use ct_bytes::memory::NoMemory;
+use ct_call::table::CallTable;
+use ct_cluster::step::{Line, PendingCall, Step, StepFault};
 use ct_core::machine::Core;
 use ct_mail::mail::Mail;
 use ct_msg::config::Config;
+use ct_pending::pending::by_number;
 use std::alloc::Global;
 use std::marker::Model;
 
@@ -19,15 +27,7 @@ use std::marker::Model;
 /// that were given to tickets and calls.
 #[derive(Drop)]
 pub struct World {
-    pub(crate) alloc: Global,
-    pub(crate) config: Config,
-    pub(crate) cores: Items<Core>,
-    pub(crate) running: Items<bool>,
-    pub(crate) able: Items<bool>,
-    pub(crate) mail: Mail,
-    pub(crate) holder: Option<u32>,
-    pub(crate) ticket: u64,
-    pub(crate) calls: u64,
+    pub(crate) parts: Parts,
 }
 
 impl Model for World {
@@ -35,9 +35,9 @@ impl Model for World {
 
     ghost Value = { world.World };
 
-    ghost view = { λ w. record { config = w.config; cluster = record { nodes = world.states_of w.cores; running = w.running; able = w.able; sent = w.mail; holder = w.holder; ticket = w.ticket; calls = w.calls } } };
+    ghost view = { λ w. world.world_of w.parts };
 
-    ghost invariant = { λ w. world.WorldInForm w.config w.cores (record { nodes = world.states_of w.cores; running = w.running; able = w.able; sent = w.mail; holder = w.holder; ticket = w.ticket; calls = w.calls }) };
+    ghost invariant = { λ w. world.PartsInForm w.parts };
 }
 
 /// So many marks that are set.
@@ -65,6 +65,19 @@ fn opened(alloc: Global, config: &Config) -> Result<Items<Core>, NoMemory>
     Ok(cores)
 }
 
+/// The client calls that wait at these nodes, by number.
+fn pending_at(alloc: Global, cores: &[Core]) -> Result<Vec<PendingCall>, NoMemory>
+    requires { AreNumbered cores.now }
+    ensures { IfOk result (λ calls. calls.items ≡ by_number (λ x. x.call) (pending_from 0 (states_of cores.now))) }
+{
+    let mut calls = Vec::new(alloc);
+    for core in cores {
+        core.add_pending(&mut calls)?;
+    }
+    by_number(&mut calls)?;
+    Ok(calls)
+}
+
 impl World {
     /// All nodes run and are able, the recovery lock is free, and ticket 1 is the last one.
     #[tactic(auto, using(crate::proofs::Opened::has_limits, crate::proofs::Opened::is_opening))]
@@ -72,16 +85,21 @@ impl World {
         requires { IsConfig config.now }
         ensures { IfOk result (λ w. w ≡ record { config = config.now; cluster = cluster.opening config.now }) }
     {
-        Ok(World {
-            alloc,
-            config: config.copy()?,
-            cores: opened(alloc, config)?,
-            running: marks(alloc, config.nodes)?,
-            able: marks(alloc, config.nodes)?,
-            mail: Mail::new(alloc),
+        let books = Books {
             holder: None,
             ticket: 1,
             calls: 0,
+        };
+        Ok(World {
+            parts: Parts {
+                alloc,
+                config: config.copy()?,
+                cores: opened(alloc, config)?,
+                running: marks(alloc, config.nodes)?,
+                able: marks(alloc, config.nodes)?,
+                mail: Mail::new(alloc),
+                books,
+            },
         })
     }
 
@@ -89,20 +107,40 @@ impl World {
     pub fn config(&self) -> &Config
         ensures { result.now ≡ self.now.config }
     {
-        &self.config
+        &self.parts.config
     }
 
     /// For each node, whether it runs.
     pub fn running(&self) -> &[bool]
         ensures { result.now ≡ self.now.cluster.running }
     {
-        self.running.as_slice()
+        self.parts.running.as_slice()
     }
 
     /// The least number of a message that waits. It takes no memory, and searches nothing.
     pub fn next_waiting(&self) -> Option<u64>
         ensures { result ≡ next_waiting self.now.cluster.sent }
     {
-        self.mail.next_waiting()
+        self.parts.mail.next_waiting()
+    }
+
+    /// The client calls that wait at all nodes, by number.
+    #[tactic(auto, using(crate::proofs::Pending::are_numbered), unfolding(ct_cluster::specs::Cluster::pending))]
+    pub fn pending(&self) -> Result<Vec<PendingCall>, NoMemory>
+        ensures { IfOk result (λ calls. calls.items ≡ pending self.now.cluster) }
+    {
+        pending_at(self.parts.alloc, self.parts.cores.as_slice())
+    }
+
+    /// Takes one step, and answers what it prints. A step that is refused changes nothing, and want of memory neither.
+    #[tactic(auto, using(crate::proofs::Kept::is_refused, crate::proofs::Kept::not_refused, crate::proofs::Kept::stays))]
+    pub fn apply(&mut self, table: &CallTable, step: &Step) -> Result<Vec<Line>, StepFault>
+        requires { is_allowed step.now ≡ true }
+        ensures { Applies (λ lines. lines.items) result (applied self.old.config (rules_of table.now) self.old.cluster step.now) self.old self.new }
+    {
+        if let Some(fault) = self.fault(step) {
+            return Err(fault);
+        }
+        self.parts.take(table, step)
     }
 }

@@ -1,5 +1,5 @@
-use Rattle.ct_play.proofs.Whole.{whole_run}
+use Rattle.ct_play.proofs.Runs.{runs_are_runs}
 use Rattle.ct_play.proofs.laws.runs_are_runs.Goals as goal
 
 pub returns : goal.returns
-returns c = whole_run
+returns c = runs_are_runs

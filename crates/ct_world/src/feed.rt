@@ -1,0 +1,127 @@
+//! An event is given to a node.
+ghost use Rattle.std.specs.Prelude.{◌≡◌, ◌<◌, ◌++◌, ◌&&◌, ◌^◌, true, OnOk, OnErr, Some, length, map, nat_lt, slice_get, slice_set};
+ghost use Rattle.ct_call.specs.Shown.{rules_of};
+ghost use Rattle.ct_cluster.specs.Cluster.{node_at};
+ghost use Rattle.ct_cluster.specs.Steps.{fed};
+ghost use Rattle.ct_core.specs.Core.{Core, IsChangeOf, IsPlanOf};
+ghost use Rattle.ct_mail.specs.Mail.{posted};
+ghost use Rattle.ct_planned.specs.Changes.{changed_by};
+ghost use Rattle.ct_rules_node.specs.Coming.{may_come};
+ghost use Rattle.ct_rules_node.specs.Steps.{stepped};
+ghost use Rattle.ct_world.specs.Feeding.{CarriesOut, PlansAt, booked};
+ghost use Rattle.ct_world.specs.World.{Applies, AreSeated, PartsInForm, cluster_of, world_of};
+
+use crate::lines::told;
+use crate::parts::{Books, Parts, Told};
+use ct_bytes::items::Items;
+use ct_bytes::memory::NoMemory;
+use ct_call::table::CallTable;
+use ct_cluster::step::{Line, StepFault};
+use ct_core::machine::Core;
+use ct_frame::event::Event;
+use ct_frame::frame::Frame;
+use ct_frame::header::LIMIT;
+use ct_planned::change::{Change, Planned};
+use ct_turn::turn::CoreFault;
+
+/// What comes of an event at the node of this number, as a plan.
+fn plan_at(
+    cores: &[Core],
+    table: &CallTable,
+    node: u32,
+    event: &Event,
+) -> Result<Planned, StepFault>
+    requires there { node < length cores.now }
+    requires coming { (x : Core) → slice_get cores.now node ≡ Some x → may_come x.config x.pnn x.node event.now ≡ true }
+    ensures { (x : Core) → slice_get cores.now node ≡ Some x → PlansAt result (stepped x.config (rules_of table.now) x.pnn event.now x.node) x }
+{
+    match cores[node as usize].plan(table, event) {
+        Ok(planned) => Ok(planned),
+        Err(CoreFault::Exhausted) => Err(StepFault::Exhausted),
+        Err(CoreFault::NoMemory) => Err(StepFault::NoMemory),
+    }
+}
+
+/// The node of this number changes as it was planned. Without memory nothing changes.
+#[tactic(auto, using(ct_node_state::proofs::Lists::same_item))]
+fn commit_at(cores: &mut Items<Core>, node: u32, change: Change) -> Result<(), NoMemory>
+    requires there { node < length cores.old }
+    requires planned { (x : Core) → slice_get cores.old node ≡ Some x → IsChangeOf x change }
+    ensures ok { OnOk result ((x : Core) → slice_get cores.old node ≡ Some x → cores.new ≡ slice_set cores.old node (record x { node = changed_by change x.node })) }
+    ensures err { OnErr result (cores.new ≡ cores.old) }
+{
+    cores.get_mut(node as usize).commit(change)
+}
+
+/// Do the ticket and the calls stay below their limit?
+fn are_counted(books: Books) -> bool
+    ensures { result ≡ (nat_lt books.ticket (2 ^ 62) && nat_lt books.calls (2 ^ 62)) }
+{
+    books.ticket < LIMIT && books.calls < LIMIT
+}
+
+impl Parts {
+    /// The node of this number changes as it was planned, and these messages are sent. Without memory nothing changes.
+    fn settle(&mut self, node: u32, change: Change, frames: Items<Frame>) -> Result<(), NoMemory>
+        requires there { node < length self.old.cores }
+        requires planned { (x : Core) → slice_get self.old.cores node ≡ Some x → IsChangeOf x change }
+        ensures ok { OnOk result ((x : Core) → slice_get self.old.cores node ≡ Some x → self.new ≡ record self.old { cores = slice_set self.old.cores node (record x { node = changed_by change x.node }); mail = self.old.mail ++ map posted frames }) }
+        ensures err { OnErr result (self.new ≡ self.old) }
+    {
+        let count = self.mail.len();
+        self.mail.post(self.alloc, frames)?;
+        if let Err(NoMemory) = commit_at(&mut self.cores, node, change) {
+            self.mail.truncate(count);
+            return Err(NoMemory);
+        }
+        Ok(())
+    }
+
+    /// What was planned of the node of this number is carried out, and the books become these. The step's own lines come
+    /// first. A step that is refused changes nothing.
+    fn carry_out(
+        &mut self,
+        node: u32,
+        planned: Planned,
+        own: Vec<Line>,
+        books: Books,
+    ) -> Result<Vec<Line>, StepFault>
+        requires sent { length self.old.mail < 2 ^ 62 }
+        requires seats { AreSeated self.old.config self.old.cores }
+        requires there { node < length self.old.cores }
+        requires counted { (nat_lt books.ticket (2 ^ 62) && nat_lt books.calls (2 ^ 62)) ≡ true }
+        requires planned { (x : Core) → slice_get self.old.cores node ≡ Some x → IsPlanOf x planned }
+        ensures step { CarriesOut (λ lines. lines.items) result node planned own.items books self.old self.new }
+        ensures seats { AreSeated self.new.config self.new.cores }
+    {
+        let first = self.mail.len() as u64 + 1;
+        let Planned { change, outs } = planned;
+        let Told { lines, frames } = told(self.alloc, node, first, own, outs)?;
+        self.settle(node, change, frames)?;
+        self.books = books;
+        Ok(lines)
+    }
+
+    /// An event that may come is given to the node of this number, and the books become these. The step's own lines come
+    /// first. A step that is refused changes nothing.
+    pub(crate) fn feed(
+        &mut self,
+        table: &CallTable,
+        node: u32,
+        event: &Event,
+        own: Vec<Line>,
+        books: Books,
+    ) -> Result<Vec<Line>, StepFault>
+        requires form { PartsInForm self.old }
+        requires there { node < self.old.config.nodes }
+        requires coming { may_come self.old.config node (node_at node (cluster_of self.old)) event.now ≡ true }
+        ensures step { Applies (λ lines. lines.items) result (fed self.old.config (rules_of table.now) node event.now own.items (booked books (cluster_of self.old))) (world_of self.old) (world_of self.new) }
+        ensures seats { AreSeated self.new.config self.new.cores }
+    {
+        let planned = plan_at(self.cores.as_slice(), table, node, event)?;
+        if !are_counted(books) {
+            return Err(StepFault::Exhausted);
+        }
+        self.carry_out(node, planned, own, books)
+    }
+}

@@ -1,0 +1,104 @@
+//! What a step prints, and the messages that it sends.
+ghost use Rattle.std.specs.Prelude.{◌≡◌, ◌∷◌, ◌++◌, ◌+◌, ◌^◌, ◌<◌, ◌≤◌, [], IfOk, OnOk, length, map};
+ghost use Rattle.ct_cluster.specs.Cluster.{able_from};
+ghost use Rattle.ct_cluster.specs.Steps.{frames_of, gone, lines_of};
+ghost use Rattle.ct_cluster.specs.declared.step.Line.TheVariants as line;
+ghost use Rattle.ct_mail.specs.Mail.{posted};
+ghost use Rattle.ct_world.specs.Feeding.{TellsAll};
+
+use crate::parts::Told;
+use ct_bytes::items::Items;
+use ct_bytes::memory::NoMemory;
+use ct_cluster::step::{Line, PendingCall, StepFault};
+use ct_frame::event::Out;
+use ct_frame::frame::Frame;
+use ct_frame::header::LIMIT;
+use std::alloc::Global;
+
+/// One line more. Without memory the call fails, and nothing is asked of the list any more.
+fn add(lines: &mut Vec<Line>, line: Line) -> Result<(), NoMemory>
+    ensures { OnOk result (lines.new.items ≡ lines.old.items ++ line ∷ []) }
+{
+    lines.push(line)?;
+    Ok(())
+}
+
+/// One message more, a copy of this one.
+fn post(frames: &mut Items<Frame>, frame: &Frame) -> Result<(), NoMemory>
+    ensures { OnOk result (frames.new ≡ frames.old ++ frame.now ∷ []) }
+{
+    frames.push(frame.copy()?)?;
+    Ok(())
+}
+
+/// A step that prints one line.
+pub(crate) fn one(alloc: Global, line: Line) -> Result<Vec<Line>, NoMemory>
+    ensures { IfOk result (λ lines. lines.items ≡ line ∷ []) }
+{
+    let mut lines = Vec::with_capacity(alloc, 1)?;
+    lines.push(line)?;
+    Ok(lines)
+}
+
+/// The lines of a stop, after which these calls are gone.
+#[tactic(auto, unfolding(ct_cluster::specs::Steps::gone))]
+pub(crate) fn stopped(
+    alloc: Global,
+    node: u32,
+    calls: Vec<PendingCall>,
+) -> Result<Vec<Line>, NoMemory>
+    ensures { IfOk result (λ lines. lines.items ≡ line.Stopped node ∷ gone calls.items) }
+{
+    let mut lines = one(alloc, Line::Stopped(node))?;
+    for pending in calls {
+        lines.push(Line::Gone(pending.call))?;
+    }
+    Ok(lines)
+}
+
+/// The nodes that are marked as able.
+#[tactic(auto, unfolding(ct_cluster::specs::Cluster::able_from))]
+pub(crate) fn able_nodes(alloc: Global, marks: &[bool], nodes: u32) -> Result<Items<u32>, NoMemory>
+    requires { length marks.now ≡ nodes }
+    ensures { IfOk result (λ able. able ≡ able_from 0 marks.now) }
+{
+    let mut able = Items::empty(alloc);
+    for node in 0..nodes {
+        if marks[node as usize] {
+            able.push(node)?;
+        }
+    }
+    Ok(able)
+}
+
+/// All that a node does, told. Its first message gets this number; none gets 2^62.
+#[tactic(auto, unfolding(ct_cluster::specs::Steps::frames_of, ct_cluster::specs::Steps::lines_of))]
+pub(crate) fn told(
+    alloc: Global,
+    node: u32,
+    first: u64,
+    own: Vec<Line>,
+    outs: Items<Out>,
+) -> Result<Told, StepFault>
+    requires { first ≤ 2 ^ 62 }
+    ensures { TellsAll result node first own.items outs }
+{
+    let mut lines = own;
+    let mut frames = Items::empty(alloc);
+    let mut number = first;
+    for out in outs.into_vec() {
+        match out {
+            Out::Send(frame) => {
+                if LIMIT <= number {
+                    return Err(StepFault::Exhausted);
+                }
+                post(&mut frames, &frame)?;
+                add(&mut lines, Line::Sent { number, frame })?;
+                number += 1;
+            }
+            Out::Answer { call, answer } => add(&mut lines, Line::Answered { call, answer })?,
+            Out::Note(note) => add(&mut lines, Line::Noted { node, note })?,
+        }
+    }
+    Ok(Told { lines, frames })
+}
