@@ -117,7 +117,7 @@ limit_ends rules q bytes left a c f h n =
 part_after : (rules : Rules) (q : Player) (b d : List ℕ) (a m c : Option (List ℕ)) → Fed rules first q b a m → AppendsPart m c (text_at (rest_after q.line d) (run_on rules q d)) → AppendsPart a c (text_at (rest (b ++ d)) (played rules (b ++ d)))
 part_after rules q b d a m c f (front, back, s, w) =
     let e : text_at (rest_after [] (b ++ d)) (run_on rules first (b ++ d)) ≡ f.text ++ text_at (rest_after q.line d) (run_on rules q d) =
-        ap (λ l. text_at l (run_on rules first (b ++ d))) (f.rests d) ∙ ap (text_at (rest_after q.line d)) (f.goes_on d) ∙ text_told (rest_after q.line d) f.text f.deeds f.count (run_on rules q d)
+    ap (λ l. text_at l (run_on rules first (b ++ d))) (f.rests d) ∙ ap (text_at (rest_after q.line d)) (f.goes_on d) ∙ text_told (rest_after q.line d) f.text f.deeds f.count (run_on rules q d)
     in
     (f.text ++ front, back, e ∙ ap (λ t. f.text ++ t) s ∙ sym (append_assoc f.text front back), Appends-trans a m c f.text front f.wrote w)
 

@@ -131,7 +131,13 @@ impl Player {
         Ok(())
     }
 
-    fn byte<K: Sink>(&mut self, alloc: Global, table: &CallTable, x: u8, out: &mut K) -> Result<(), Stop>
+    fn byte<K: Sink>(
+        &mut self,
+        alloc: Global,
+        table: &CallTable,
+        x: u8,
+        out: &mut K,
+    ) -> Result<(), Stop>
         requires count { self.old.count + 1 < 2 ^ 64 }
         requires line { length self.old.line ≤ 65535 }
         ensures feeds { Feeds (rules_of table.now) result self.old (x ∷ []) self.new (K.held out.old) (K.held out.new) }
@@ -149,7 +155,13 @@ impl Player {
         Ok(())
     }
 
-    fn feed<K: Sink>(&mut self, alloc: Global, table: &CallTable, bytes: &[u8], out: &mut K) -> Result<(), Stop>
+    fn feed<K: Sink>(
+        &mut self,
+        alloc: Global,
+        table: &CallTable,
+        bytes: &[u8],
+        out: &mut K,
+    ) -> Result<(), Stop>
         requires count { self.old.count + length bytes.now < 2 ^ 64 }
         requires line { length self.old.line ≤ 65535 }
         ensures feeds { Feeds (rules_of table.now) result self.old bytes.now self.new (K.held out.old) (K.held out.new) }
@@ -237,12 +249,7 @@ impl Player {
 pub const MOST_BYTES: u64 = 1099511627776;
 
 /// Plays the input to its end, or as far as it goes.
-pub fn play<S: Source, K: Sink>(
-    alloc: Global,
-    table: &CallTable,
-    input: &mut S,
-    out: &mut K,
-) -> End
+pub fn play<S: Source, K: Sink>(alloc: Global, table: &CallTable, input: &mut S, out: &mut K) -> End
     ensures plays { Plays (rules_of table.now) result (S.left input.old) (S.left input.new) (K.held out.old) (K.held out.new) }
     ensures cause { HasEndCause result (S.faults input.old) (S.faults input.new) (K.faults out.old) (K.faults out.new) }
 {

@@ -82,7 +82,8 @@ const TWO: &str = "nodes 2\ndb t volatile\n";
 
 const MOVED: &str = "nodes 2\ndb t volatile\nlock 1 t b\nsettle 9\n";
 
-const MOVES: &str = "frame 1 1 0 1 call t b 1 lock\nframe 2 0 0 1 recall t b 0 1 1 lock\nframe 3 0 0 1 give t b 0 -\nframe 4 0 1 1 pass t b 1 0 -\nanswer 1 locked -\n";
+const MOVES: &str =
+    "frame 1 1 0 1 call t b 1 lock\nframe 2 0 0 1 recall t b 0 1 1 lock\nframe 3 0 0 1 give t b 0 -\nframe 4 0 1 1 pass t b 1 0 -\nanswer 1 locked -\n";
 
 const SCENARIOS: [Case; 16] = [
     (PLAY, SESSION, NONE, (0, ANSWERS, "")),
@@ -269,7 +270,14 @@ fn pieces(rt: HostRuntime) -> Result<(), Fail> {
         let mut held = Narrow::new(alloc, take);
         let mut said = Narrow::new(alloc, take);
         assert_eq!(rt;
-            run(alloc, words.as_slice(), &table, &mut source, &mut held, &mut said),
+            run(
+                alloc,
+                words.as_slice(),
+                &table,
+                &mut source,
+                &mut held,
+                &mut said
+            ),
             0
         );
         assert_eq!(rt; held.bytes.as_slice(), ANSWERS.as_bytes());
@@ -290,7 +298,14 @@ fn said_of_letters(alloc: Global, letters: usize, end: &[u8]) -> Result<MemSink,
     let mut source = MemSource::new(bytes, Vec::new(alloc));
     let mut held = MemSink::new(alloc, Vec::new(alloc));
     let mut said = MemSink::new(alloc, Vec::new(alloc));
-    run(alloc, words.as_slice(), &table, &mut source, &mut held, &mut said);
+    run(
+        alloc,
+        words.as_slice(),
+        &table,
+        &mut source,
+        &mut held,
+        &mut said,
+    );
     Ok(said)
 }
 

@@ -137,9 +137,10 @@ module _ (rules : Rules) (k : ℕ) (s : Sent) (f : Frame) (old : Parts) (at : se
   delivered mid new lines up ok kept is =
       let there = fed_keeps old.config rules f.receiver (event.Arrive f) [] (cluster_of old) (record { cluster = cluster_of mid; lines = lines }) k s ok at in
       let c : mid.config ≡ old.config = ap (λ (v : World). v.config) kept in
-      subst (λ (q : Parts). (deliver old.config rules k (cluster_of old) (sent_at k (cluster_of old)) ≡ Ok (record { cluster = cluster_of q; lines = lines })) × (world_of q ≡ record (world_of old) { cluster = cluster_of q })) (sym is)
-      (up_rule up ∙ ap (then_by (fated k s Delivered)) ok ∙ ap (λ (v : Cluster). Ok (record { cluster = v; lines = lines })) (fated_parts k s s Delivered mid there),
-      (λ i. record { config = c i; cluster = cluster_of (record mid { mail = slice_set mid.mail (k - 1) (record s { fate = Delivered }) }) }))
+      subst (λ (q : Parts). (deliver old.config rules k (cluster_of old) (sent_at k (cluster_of old)) ≡ Ok (record { cluster = cluster_of q; lines = lines })) × (world_of q ≡ record (world_of old) { cluster = cluster_of q })) (sym is) (
+        up_rule up ∙ ap (then_by (fated k s Delivered)) ok ∙ ap (λ (v : Cluster). Ok (record { cluster = v; lines = lines })) (fated_parts k s s Delivered mid there),
+        (λ i. record { config = c i; cluster = cluster_of (record mid { mail = slice_set mid.mail (k - 1) (record s { fate = Delivered }) }) }),
+      )
 
   -- one that the node does not take
   pub undelivered : {X : Type 0} (lines : X → List Line) (e : StepFault) (new : Parts) → is_up f.receiver (cluster_of old) ≡ true → Applies lines (Err e) (fed old.config rules f.receiver (event.Arrive f) [] (cluster_of old)) (world_of old) (world_of new) →
@@ -152,10 +153,12 @@ module _ (rules : Rules) (k : ℕ) (s : Sent) (f : Frame) (old : Parts) (at : se
   unfolding deliver done
   lost down new is =
       let d : is_up s.frame.receiver (cluster_of old) ≡ false = ap (λ (g : Frame). is_up g.receiver (cluster_of old)) same ∙ down in
-      subst (λ (q : Parts). (deliver old.config rules k (cluster_of old) (sent_at k (cluster_of old)) ≡ Ok (record { cluster = cluster_of q; lines = line.Lost k ∷ [] })) × (world_of q ≡ record (world_of old) { cluster = cluster_of q })) (sym is)
-      (ap (deliver old.config rules k (cluster_of old)) at
-      ∙ ap (λ (b : Bool). cond b (fed old.config rules s.frame.receiver (event.Arrive s.frame) [] (with_fate k s Delivered (cluster_of old))) (done (line.Lost k ∷ []) (with_fate k s Dropped (cluster_of old)))) d
-      ∙ ap (λ (v : Cluster). Ok (record { cluster = v; lines = line.Lost k ∷ [] })) (fated_parts k s s Dropped old at), refl)
+      subst (λ (q : Parts). (deliver old.config rules k (cluster_of old) (sent_at k (cluster_of old)) ≡ Ok (record { cluster = cluster_of q; lines = line.Lost k ∷ [] })) × (world_of q ≡ record (world_of old) { cluster = cluster_of q })) (sym is) (
+        ap (deliver old.config rules k (cluster_of old)) at
+            ∙ ap (λ (b : Bool). cond b (fed old.config rules s.frame.receiver (event.Arrive s.frame) [] (with_fate k s Delivered (cluster_of old))) (done (line.Lost k ∷ []) (with_fate k s Dropped (cluster_of old)))) d
+            ∙ ap (λ (v : Cluster). Ok (record { cluster = v; lines = line.Lost k ∷ [] })) (fated_parts k s s Dropped old at),
+        refl,
+      )
 
   -- one that comes again
   pub again : is_up f.receiver (cluster_of old) ≡ true → repeat old.config rules k (cluster_of old) (sent_at k (cluster_of old)) ≡ fed old.config rules f.receiver (event.Arrive f) [] (cluster_of old)

@@ -57,17 +57,18 @@ module _ (old : Parts) (n : ℕ) (x : Core) (at : slice_get old.cores n ≡ Some
   unfolding stop done with_node
   stopped calls lines cores running holder c l e r h =
       let same : line.Stopped n ∷ gone (pending_at n (cluster_of old)) ≡ lines = ap (λ (cs : List PendingCall). line.Stopped n ∷ gone cs) (sym (c ∙ calls_are)) ∙ sym l in
-      let states : slice_set (states_of old.cores) n (restarted old.config (node_at n (cluster_of old))) ≡ states_of cores = sym (ap states_of e ∙ states_are) in
-      ((λ i. Ok (record {
-        cluster = record {
-          nodes = states i;
-          running = sym r i;
-          able = old.able;
-          sent = old.mail;
-          holder = sym h i;
-          ticket = old.books.ticket;
-          calls = old.books.calls;
-        };
-        lines = same i;
-      })),
-      subst (AreSeated old.config) (sym e) (seated_set old.config old.cores n x (restarted x.config x.node) at seats))
+      let states : slice_set (states_of old.cores) n (restarted old.config (node_at n (cluster_of old))) ≡ states_of cores = sym (ap states_of e ∙ states_are) in (
+        (λ i. Ok (record {
+          cluster = record {
+            nodes = states i;
+            running = sym r i;
+            able = old.able;
+            sent = old.mail;
+            holder = sym h i;
+            ticket = old.books.ticket;
+            calls = old.books.calls;
+          };
+          lines = same i;
+        })),
+        subst (AreSeated old.config) (sym e) (seated_set old.config old.cores n x (restarted x.config x.node) at seats),
+      )

@@ -55,11 +55,7 @@ fn restart_at(cores: &mut Items<Core>, node: u32)
 fn without_holder(node: u32, holder: Option<u32>) -> Option<u32>
     ensures { result ≡ without_holder node holder }
 {
-    if holder == Some(node) {
-        None
-    } else {
-        holder
-    }
+    if holder == Some(node) { None } else { holder }
 }
 
 impl Parts {
@@ -216,7 +212,13 @@ impl Parts {
         let ticket = books.ticket;
         let members = members.duplicate()?;
         let own = one(self.alloc, Line::Ticket { ticket, node })?;
-        self.feed(table, node, &Event::BeginRound { ticket, members }, own, books)
+        self.feed(
+            table,
+            node,
+            &Event::BeginRound { ticket, members },
+            own,
+            books,
+        )
     }
 
     /// A node gives the recovery lock back.

@@ -1,5 +1,6 @@
 //! Clusters, step by step, with ample memory.
-ghost use Rattle.std.specs.Prelude.{IfOk};
+ghost use Rattle.std.specs.Prelude.{◌≡◌, true, IfOk, nat_lt};
+ghost use Rattle.ct_frame.specs.Fields.{ascends};
 ghost use Rattle.ct_promise.specs.Promises.{IsConfig};
 
 use crate::world::World;
@@ -7,7 +8,7 @@ use ct_bytes::items::Items;
 use ct_bytes::key::Key;
 use ct_bytes::name::DbName;
 use ct_call::table::CallTable;
-use ct_cluster::step::{Step, StepFault};
+use ct_cluster::step::Step;
 use ct_msg::client::ClientOp;
 use ct_msg::config::{Config, DbDecl, DbKind};
 use ct_tool::line::line_text;
@@ -42,7 +43,17 @@ enum Turn {
     Yield(u32),
 }
 
-/// What the steps of a turn print.
+/// This node alone.
+#[tactic(auto, unfolding(ct_frame::specs::Fields::ascends, ct_frame::specs::Fields::ascends_after))]
+fn alone(alloc: Global, node: u32) -> Result<Items<u32>, Fail>
+    ensures { IfOk result (λ members. ascends nat_lt members ≡ true) }
+{
+    let mut members = Items::empty(alloc);
+    members.push(node)?;
+    Ok(members)
+}
+
+/// What a turn prints.
 #[tactic(auto, unfolding(ct_cluster::specs::Faults::is_allowed, ct_rules_node::specs::Coming::is_allowed_op))]
 fn printed(
     alloc: Global,
@@ -64,8 +75,7 @@ fn printed(
         Turn::Stop(node) => world.apply(table, &Step::Stop(node)),
         Turn::Start(node) => world.apply(table, &Step::Start(node)),
         Turn::Recover(node) => {
-            let mut members = Items::empty(alloc);
-            members.push(node)?;
+            let members = alone(alloc, node)?;
             world.apply(table, &Step::Recover { node, members })
         }
         Turn::Yield(node) => world.apply(table, &Step::Yield(node)),
@@ -75,10 +85,7 @@ fn printed(
         Ok(lines) => for line in &lines {
             text.extend_from_slice(line_text(alloc, line, world.config())?.as_slice())?;
         },
-        Err(fault) => {
-            text.extend_from_slice(b"refused\n")?;
-            let _fault = fault;
-        }
+        Err(_) => text.extend_from_slice(b"refused\n")?,
     }
     Ok(text)
 }

@@ -1,5 +1,6 @@
 //! The program: standard input, output and error in the place of what the top call reads and writes, and three call functions.
 #![tactic(auto)]
+
 ghost use Rattle.std.specs.Prelude.{◌≡◌, ◌++◌, IfOk, OnSome};
 ghost use Rattle.ct_call.specs.Rules.{Arg, Join, Old};
 ghost use Rattle.ct_call.specs.Seen.{seen};
@@ -55,7 +56,8 @@ fn functions(alloc: Global) -> Option<CallTable> {
     let mut table = CallTable::new(alloc);
     let both: Call = Box::new(alloc, move |old: &Value, arg: &Value| {
         joined(alloc, old, arg)
-    }).ok()?;
+    })
+    .ok()?;
     table.add(1, old_and_arg(alloc)?, both).ok()?;
     let second: Call = Box::new(alloc, move |_old: &Value, arg: &Value| same(alloc, arg)).ok()?;
     table.add(2, Rule::Arg, second).ok()?;
@@ -75,5 +77,12 @@ fn main(rt: HostRuntime) -> ExitCode {
     let mut input = StdSource::new(rt.stdin());
     let mut out = StdSink::new(rt.stdout());
     let mut err = StdSink::new(rt.stderr());
-    ExitCode::from(run(alloc, words.as_slice(), &table, &mut input, &mut out, &mut err))
+    ExitCode::from(run(
+        alloc,
+        words.as_slice(),
+        &table,
+        &mut input,
+        &mut out,
+        &mut err,
+    ))
 }
