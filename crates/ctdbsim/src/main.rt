@@ -1,7 +1,7 @@
 //! The program: standard input, output and error in the place of what the top call reads and writes, and three call functions.
 #![tactic(auto)]
 
-ghost use Rattle.std.specs.Prelude.{◌≡◌, ◌++◌, IfOk, OnSome};
+ghost use Rattle.std.specs.Prelude.{◌≡◌, ◌++◌, IfOk, IfSome};
 ghost use Rattle.ct_call.specs.Rules.{Arg, Join, Old};
 ghost use Rattle.ct_call.specs.Seen.{seen};
 
@@ -44,7 +44,7 @@ fn same(alloc: Global, value: &Value) -> Result<Vec<u8>, NoMemory>
 
 /// The rule of the old value with the argument behind it.
 fn old_and_arg(alloc: Global) -> Option<Rule>
-    ensures { OnSome result (λ r. seen r ≡ Join Old Arg) }
+    ensures { IfSome result (λ r. seen r ≡ Join Old Arg) }
 {
     let old = Box::new(alloc, Rule::Old).ok()?;
     let arg = Box::new(alloc, Rule::Arg).ok()?;
