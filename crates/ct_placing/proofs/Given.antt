@@ -74,7 +74,7 @@ stays_ascending x (y ∷ ys) k n = by (assigned_before x y) refl
         let q = or_parts (same_address x.address y.address) (is_there x.address ys) n in
         stays_after y x ys (address_after x.address y.address e q.0) k q.1
 
-one_more : (x : Assigned) (ys : List Assigned) → length (with_address x ys) ≡ suc (length ys)
+pub one_more : (x : Assigned) (ys : List Assigned) → length (with_address x ys) ≡ suc (length ys)
 unfolding with_address
 one_more x [] = refl
 one_more x (y ∷ ys) = by (assigned_before x y) (one_more x ys)

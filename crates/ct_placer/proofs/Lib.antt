@@ -1,0 +1,4 @@
+pub mod Ending
+pub mod Feeding
+pub mod Printing
+pub mod Room

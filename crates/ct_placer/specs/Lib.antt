@@ -1,0 +1,4 @@
+pub mod Claims
+pub mod Feeding
+pub mod Input
+pub mod Room
