@@ -1,18 +1,9 @@
-//! The program: standard input, output and error in the place of what the top call reads and writes, and three call functions.
+//! The program: standard input, output and error in the place of what the top call reads and writes, and no call function.
 #![tactic(auto)]
 
-ghost use Rattle.std.specs.Prelude.{◌≡◌, ◌++◌, IfOk, IfSome};
-ghost use Rattle.ct_call.specs.Rules.{Arg, Join, Old};
-ghost use Rattle.ct_call.specs.Seen.{seen};
-
-use ct_bytes::memory::NoMemory;
-use ct_bytes::value::Value;
-use ct_call::entry::Call;
-use ct_call::rule::Rule;
 use ct_call::table::CallTable;
 use ct_main::run::run;
 use ct_outside::adapters::{StdSink, StdSource};
-use std::alloc::Global;
 use std::env::{self, Env};
 use std::io;
 use std::process::ExitCode;
@@ -26,54 +17,12 @@ fn words(rt: &(impl Env + AllocGlobal)) -> io::Result<Vec<String>> {
     Ok(words)
 }
 
-/// The old value, and the argument behind it.
-fn joined(alloc: Global, old: &Value, arg: &Value) -> Result<Vec<u8>, NoMemory>
-    ensures { IfOk result (λ v. v.items ≡ old.now ++ arg.now) }
-{
-    let mut bytes = Vec::from_slice(alloc, old.bytes())?;
-    bytes.extend_from_slice(arg.bytes())?;
-    Ok(bytes)
-}
-
-/// One of the values.
-fn same(alloc: Global, value: &Value) -> Result<Vec<u8>, NoMemory>
-    ensures { IfOk result (λ v. v.items ≡ value.now) }
-{
-    Ok(Vec::from_slice(alloc, value.bytes())?)
-}
-
-/// The rule of the old value with the argument behind it.
-fn old_and_arg(alloc: Global) -> Option<Rule>
-    ensures { IfSome result (λ r. seen r ≡ Join Old Arg) }
-{
-    let old = Box::new(alloc, Rule::Old).ok()?;
-    let arg = Box::new(alloc, Rule::Arg).ok()?;
-    Some(Rule::Join(old, arg))
-}
-
-/// The call functions: 1 joins the old value and the argument, 2 gives the argument, 3 the old value. None is want of memory.
-fn functions(alloc: Global) -> Option<CallTable> {
-    let mut table = CallTable::new(alloc);
-    let both: Call = Box::new(alloc, move |old: &Value, arg: &Value| {
-        joined(alloc, old, arg)
-    })
-    .ok()?;
-    table.add(1, old_and_arg(alloc)?, both).ok()?;
-    let second: Call = Box::new(alloc, move |_old: &Value, arg: &Value| same(alloc, arg)).ok()?;
-    table.add(2, Rule::Arg, second).ok()?;
-    let first: Call = Box::new(alloc, move |old: &Value, _arg: &Value| same(alloc, old)).ok()?;
-    table.add(3, Rule::Old, first).ok()?;
-    Some(table)
-}
-
 fn main(rt: HostRuntime) -> ExitCode {
     let Ok(words) = words(&rt) else {
         return ExitCode::from(5);
     };
     let alloc = rt.alloc();
-    let Some(table) = functions(alloc) else {
-        return ExitCode::from(5);
-    };
+    let table = CallTable::new(alloc);
     let mut input = StdSource::new(rt.stdin());
     let mut out = StdSink::new(rt.stdout());
     let mut err = StdSink::new(rt.stderr());
