@@ -1,5 +1,6 @@
 pub mod Answers
 pub mod Laws
+pub mod Named
 pub mod Rules
 pub mod Seen
 pub mod Shown

@@ -10,6 +10,12 @@ use Rattle.ct_call.specs.declared.fault.CallFault.TheVariants as call
 abbrev pub with_rule : ℕ → Rule → Rules → Rules
 with_rule id rule rs = rs ++ (id, rule) ∷ []
 
+-- one more function is there, unless memory runs out; then all is as it was
+abbrev pub Pushes : Result (Unit {0}) AddFault → ℕ → Rule → Rules → Rules → Type 0
+Pushes (Ok u) id rule old new = new ≡ with_rule id rule old
+Pushes (Err (add.Repeated n)) id rule old new = ⊥
+Pushes (Err add.NoMemory) id rule old new = new ≡ old
+
 -- a function is added where no function has its number, unless memory runs out; else nothing changes
 abbrev pub Adds : Result (Unit {0}) AddFault → ℕ → Rule → Rules → Rules → Type 0
 Adds (Ok u) id rule old new = (rule_of id old ≡ None) × (new ≡ with_rule id rule old)

@@ -1,37 +1,60 @@
 //! What a table of call functions is told and answers.
 ghost use Rattle.std.specs.Prelude.{◌≡◌, IsTrue, IfOk, MatchOption, Some, None, []};
 ghost use Rattle.ct_call.specs.Answers.{AnswersBy, IsCallable};
+ghost use Rattle.ct_call.specs.Named.{id_of, named, rule_in};
 ghost use Rattle.ct_call.specs.Rules.{are_distinct, is_known, rule_of, value_of};
 ghost use Rattle.ct_call.specs.Seen.{seen};
-ghost use Rattle.ct_call.specs.Shown.{named, rules_of};
-ghost use Rattle.ct_call.specs.Table.{Adds, Applies, applied};
+ghost use Rattle.ct_call.specs.Shown.{rules_of};
+ghost use Rattle.ct_call.specs.Table.{Adds, Applies, Pushes, applied};
 
-use crate::entry::{Call, Entry};
+use crate::entry::{Entry, Plain};
 use crate::fault::{AddFault, CallFault};
+use crate::own::{Call, Own};
 use crate::rule::Rule;
 use crate::table::CallTable;
 use ct_bytes::memory::NoMemory;
 use ct_bytes::value::Value;
 use std::alloc::Global;
 
-/// The function's answer.
-fn answer(entry: &Entry, old: &Value, arg: &Value) -> Result<Vec<u8>, NoMemory>
-    ensures { IfOk result (λ bytes. bytes.items ≡ value_of (seen entry.now.rule) old.now arg.now) }
+/// The caller's function answers.
+fn own_answer(own: &Own, old: &Value, arg: &Value) -> Result<Vec<u8>, NoMemory>
+    ensures { IfOk result (λ bytes. bytes.items ≡ value_of (seen own.now.rule) old.now arg.now) }
 {
     let _in_range = old.bytes().len() + arg.bytes().len();
-    (entry.call)(old, arg)
+    (own.call)(old, arg)
+}
+
+/// The function's answer.
+fn answer(entry: &Entry, old: &Value, arg: &Value) -> Result<Vec<u8>, NoMemory>
+    ensures { IfOk result (λ bytes. bytes.items ≡ value_of (rule_in entry.now) old.now arg.now) }
+{
+    match entry {
+        Entry::Own(own) => own_answer(own, old, arg),
+        Entry::Plain(plain) => plain.rule.value(plain.alloc, old, arg),
+    }
 }
 
 /// The function with this number.
 fn find(calls: &[Entry], id: u32) -> Option<&Entry>
-    ensures { MatchOption result (rule_of id (named calls.now) ≡ None) (λ e. rule_of id (named calls.now) ≡ Some (seen e.now.rule)) }
+    ensures { MatchOption result (rule_of id (named calls.now) ≡ None) (λ e. rule_of id (named calls.now) ≡ Some (rule_in e.now)) }
 {
     for entry in calls {
-        if entry.id == id {
+        if entry.id() == id {
             return Some(entry);
         }
     }
     None
+}
+
+/// One more function after all others.
+#[tactic(auto, using(crate::proofs::Distinct::named_push))]
+fn push(calls: &mut Vec<Entry>, entry: Entry) -> Result<(), AddFault>
+    ensures { Pushes result (id_of entry) (rule_in entry) (named calls.old.items) (named calls.new.items) }
+{
+    match calls.push(entry) {
+        Ok(()) => Ok(()),
+        Err(_) => Err(AddFault::NoMemory),
+    }
 }
 
 impl CallTable {
@@ -46,19 +69,28 @@ impl CallTable {
 
     /// Adds a function after all others. It may be called at any two values, and each of its answers is the rule's value.
     /// `Repeated` comes exactly where a function has this number. Nothing changes at a fault, and the function is let go.
-    #[tactic(auto, using(crate::proofs::Distinct::distinct_push))]
+    #[tactic(auto, using(crate::proofs::Distinct::distinct_pushed))]
     pub fn add(&mut self, id: u32, rule: Rule, f: Call) -> Result<(), AddFault>
         requires callable { IsCallable (Call.pre f) }
         requires ruled { AnswersBy (Call.post f) (seen rule) }
         ensures { Adds result id (seen rule) (rules_of self.old) (rules_of self.new) }
     {
-        if find(self.calls.as_slice(), id).is_some() {
+        if self.knows(id) {
             return Err(AddFault::Repeated(id));
         }
-        match self.calls.push(Entry { id, rule, call: f }) {
-            Ok(()) => Ok(()),
-            Err(_) => Err(AddFault::NoMemory),
+        push(&mut self.calls, Entry::Own(Own { id, rule, call: f }))
+    }
+
+    /// Adds a function that computes its rule after all others. `Repeated` comes exactly where a function has this
+    /// number. Nothing changes at a fault.
+    #[tactic(auto, using(crate::proofs::Distinct::distinct_pushed))]
+    pub fn add_rule(&mut self, alloc: Global, id: u32, rule: Rule) -> Result<(), AddFault>
+        ensures { Adds result id (seen rule) (rules_of self.old) (rules_of self.new) }
+    {
+        if self.knows(id) {
+            return Err(AddFault::Repeated(id));
         }
+        push(&mut self.calls, Entry::Plain(Plain { id, rule, alloc }))
     }
 
     /// Has a function this number? No number stands twice. It takes no memory.
@@ -74,7 +106,7 @@ impl CallTable {
         ensures { MatchOption result (rule_of id (rules_of self.now) ≡ None) (λ r. rule_of id (rules_of self.now) ≡ Some (seen r.now)) }
     {
         match find(self.calls.as_slice(), id) {
-            Some(entry) => Some(&entry.rule),
+            Some(entry) => Some(entry.rule()),
             None => None,
         }
     }

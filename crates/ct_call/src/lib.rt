@@ -5,6 +5,7 @@ pub mod calls;
 pub mod entry;
 pub mod fault;
 pub mod laws;
+pub mod own;
 pub mod rule;
 pub mod table;
 #[cfg(test)]

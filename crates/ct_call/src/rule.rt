@@ -1,8 +1,10 @@
 //! What the answer of a call function is.
 ghost use Rattle.std.specs.Prelude.{◌≡◌, IfOk};
+ghost use Rattle.ct_call.specs.Rules.{value_of};
 ghost use Rattle.ct_call.specs.Seen.{seen};
 
 use ct_bytes::memory::NoMemory;
+use ct_bytes::value::Value;
 use std::alloc::Global;
 
 /// What the answer is, from the old value of the record and the call's argument.
@@ -34,6 +36,27 @@ impl Rule {
             Rule::Cut(count, of) => {
                 let inner = Box::new(alloc, of.copy(alloc)?)?;
                 Ok(Rule::Cut(*count, inner))
+            }
+        }
+    }
+
+    /// The rule's value.
+    pub fn value(&self, alloc: Global, old: &Value, arg: &Value) -> Result<Vec<u8>, NoMemory>
+        ensures { IfOk result (λ bytes. bytes.items ≡ value_of (seen self.now) old.now arg.now) }
+    {
+        match self {
+            Rule::Old => Ok(Vec::from_slice(alloc, old.bytes())?),
+            Rule::Arg => Ok(Vec::from_slice(alloc, arg.bytes())?),
+            Rule::Join(first, second) => {
+                let mut bytes = first.value(alloc, old, arg)?;
+                let rest = second.value(alloc, old, arg)?;
+                bytes.extend_from_slice(rest.as_slice())?;
+                Ok(bytes)
+            }
+            Rule::Cut(count, of) => {
+                let mut bytes = of.value(alloc, old, arg)?;
+                bytes.truncate(*count as usize);
+                Ok(bytes)
             }
         }
     }

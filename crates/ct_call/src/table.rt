@@ -1,7 +1,7 @@
 //! The call functions of a cluster.
-ghost use Rattle.std.specs.Prelude.{IsTrue, map};
+ghost use Rattle.std.specs.Prelude.{IsTrue};
 ghost use Rattle.ct_call.specs.Rules.{are_distinct};
-ghost use Rattle.ct_call.specs.Seen.{seen};
+ghost use Rattle.ct_call.specs.Named.{named};
 
 use crate::entry::Entry;
 
@@ -9,5 +9,5 @@ use crate::entry::Entry;
 #[derive(Drop)]
 pub struct CallTable {
     pub(crate) calls: Vec<Entry>,
-    ghost distinct: { IsTrue (are_distinct (map (λ e. (e.id, seen e.rule)) calls.items)) },
+    ghost distinct: { IsTrue (are_distinct (named calls.items)) },
 }

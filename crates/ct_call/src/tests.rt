@@ -3,8 +3,8 @@ ghost use Rattle.std.specs.Prelude.{◌≡◌, ◌++◌, IfOk, take};
 ghost use Rattle.ct_call.specs.Rules.{Arg, Join, Old};
 ghost use Rattle.ct_call.specs.Seen.{seen};
 
-use crate::entry::Call;
 use crate::fault::{AddFault, CallFault};
+use crate::own::Call;
 use crate::rule::Rule;
 use crate::table::CallTable;
 use ct_bytes::memory::NoMemory;

@@ -1,6 +1,6 @@
 use Rattle.std.proofs.Common.{◌≡◌, drop}
 use Rattle.ct_call.specs.Rules.{rule_of}
-use Rattle.ct_call.specs.Shown.{named}
+use Rattle.ct_call.specs.Named.{named}
 use Rattle.ct_call.proofs.calls.find.Given as goal
 
 abbrev pub invariant-loop-entry : goal.invariant-loop-entry
