@@ -1,9 +1,16 @@
-//! The program: standard input, output and error in the place of what the top call reads and writes, and no call function.
+//! The program: standard input, output and error in the place of what the top call reads and writes, and three call functions.
 #![tactic(auto)]
 
+ghost use Rattle.std.specs.Prelude.{◌≡◌, ◌∷◌, [], IfSome};
+ghost use Rattle.ct_call.specs.Rules.{Arg, Join, Old};
+ghost use Rattle.ct_call.specs.Seen.{seen};
+ghost use Rattle.ct_call.specs.Shown.{rules_of};
+
+use ct_call::rule::Rule;
 use ct_call::table::CallTable;
 use ct_main::run::run;
 use ct_outside::adapters::{StdSink, StdSource};
+use std::alloc::Global;
 use std::env::{self, Env};
 use std::io;
 use std::process::ExitCode;
@@ -17,12 +24,34 @@ fn words(rt: &(impl Env + AllocGlobal)) -> io::Result<Vec<String>> {
     Ok(words)
 }
 
+/// The rule of the old value with the argument behind it.
+fn old_and_arg(alloc: Global) -> Option<Rule>
+    ensures { IfSome result (λ r. seen r ≡ Join Old Arg) }
+{
+    let old = Box::new(alloc, Rule::Old).ok()?;
+    let arg = Box::new(alloc, Rule::Arg).ok()?;
+    Some(Rule::Join(old, arg))
+}
+
+/// The call functions: 1 joins the old value and the argument, 2 gives the argument, 3 the old value. None is want of memory.
+fn functions(alloc: Global) -> Option<CallTable>
+    ensures { IfSome result (λ t. rules_of t ≡ (1, Join Old Arg) ∷ (2, Arg) ∷ (3, Old) ∷ []) }
+{
+    let mut table = CallTable::new(alloc);
+    table.add_rule(alloc, 1, old_and_arg(alloc)?).ok()?;
+    table.add_rule(alloc, 2, Rule::Arg).ok()?;
+    table.add_rule(alloc, 3, Rule::Old).ok()?;
+    Some(table)
+}
+
 fn main(rt: HostRuntime) -> ExitCode {
     let Ok(words) = words(&rt) else {
         return ExitCode::from(5);
     };
     let alloc = rt.alloc();
-    let table = CallTable::new(alloc);
+    let Some(table) = functions(alloc) else {
+        return ExitCode::from(5);
+    };
     let mut input = StdSource::new(rt.stdin());
     let mut out = StdSink::new(rt.stdout());
     let mut err = StdSink::new(rt.stderr());
