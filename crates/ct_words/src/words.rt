@@ -1,0 +1,95 @@
+//! The program's words, and what they ask for.
+ghost use Rattle.std.specs.Prelude.{◌≡◌, map, string_bytes};
+ghost use Rattle.clap.specs.Words.{found_of, rows_of, subcommand_rows_of};
+ghost use Rattle.ct_bytes.specs.Number.{number_of};
+ghost use Rattle.ct_words.specs.Matched.{matched, soak_in};
+ghost use Rattle.ct_words.specs.Reading.{Reads, reading, soak_of};
+
+use crate::command::program;
+use clap::ArgMatches;
+use clap::error::ErrorKind;
+use ct_bytes::memory::NoMemory;
+use ct_bytes::number::parse_decimal;
+use std::alloc::{AllocError, Global};
+use thiserror::Error;
+
+/// What the program is to do.
+#[derive(Clone, Copy, Debug, PartialEq, Eq)]
+pub enum Word {
+    /// Plays the scenario that is read.
+    Play,
+    /// Places the addresses that are read.
+    Lcp2,
+    /// Plays so many steps that a generator makes from the seed.
+    Soak { seed: u64, steps: u32 },
+}
+
+/// Why words are not read.
+#[derive(Clone, Copy, Debug, PartialEq, Eq, Error)]
+pub enum WordsFault {
+    /// The words have no reading.
+    #[error("usage")]
+    Usage,
+    #[error("want of memory")]
+    NoMemory,
+}
+
+impl From<AllocError> for WordsFault {
+    ghost use Rattle.std.specs.Prelude.{◌≡◌};
+    ghost use Rattle.ct_words.specs.declared.words.WordsFault.TheVariants.{NoMemory as Want};
+
+    ghost from_gives = { λ _ e. e ≡ Want };
+
+    fn from(_e: AllocError) -> WordsFault {
+        WordsFault::NoMemory
+    }
+}
+
+/// A soak from the texts of its numbers.
+fn soak_word(seed: &str, steps: &str) -> Option<Word>
+    ensures { result ≡ soak_of (number_of seed.now) (number_of steps.now) }
+{
+    let seed = parse_decimal(seed.as_bytes())?;
+    let steps = parse_decimal(steps.as_bytes())?;
+    if steps < 1 || steps > 100_000 {
+        return None;
+    }
+    Some(Word::Soak {
+        seed,
+        steps: steps as u32,
+    })
+}
+
+/// A soak, by what was found after its name.
+#[tactic(auto, using(crate::proofs::Found::text_found))]
+fn soak_found(given: &ArgMatches) -> Option<Word>
+    ensures { result ≡ soak_in (rows_of (found_of given.now)) }
+{
+    soak_word(given.get_str("seed")?, given.get_str("steps")?)
+}
+
+/// What is asked for where the words match.
+fn word_of(matches: &ArgMatches) -> Option<Word>
+    ensures { result ≡ matched (subcommand_rows_of matches.now) }
+{
+    let (name, given) = matches.subcommand()?;
+    match name {
+        "play" => Some(Word::Play),
+        "lcp2" => Some(Word::Lcp2),
+        "soak" => soak_found(given),
+        _ => None,
+    }
+}
+
+/// Reads the words after the program's name. `Usage` comes exactly where they have no reading.
+pub fn read_words(alloc: Global, words: &[String]) -> Result<Word, WordsFault>
+    ensures reads { Reads result (reading (map string_bytes words.now)) }
+{
+    match program(alloc)?.try_get_matches_from(words) {
+        Ok(matches) => word_of(&matches).ok_or(WordsFault::Usage),
+        Err(error) => match error.kind() {
+            ErrorKind::OutOfMemory => Err(WordsFault::NoMemory),
+            _ => Err(WordsFault::Usage),
+        },
+    }
+}
