@@ -1,9 +1,15 @@
-//! The outside: where bytes come from and go to, in memory and over std's readers and writers.
+//! The outside: where bytes come from and go to, in memory and over std's readers and writers; pieces between nodes; the
+//! recovery lock; and gates.
 #![tactic(auto)]
 
 pub mod adapters;
 pub mod fault;
+pub mod gate;
+pub mod link;
+pub mod lock;
 pub mod memory;
+pub mod memory_link;
+pub mod memory_lock;
 pub mod sink;
 pub mod source;
 #[cfg(test)]

@@ -13,7 +13,7 @@ use std::marker::Model;
 
 /// The calls so far. Both counts stop at 2^64 - 1.
 #[derive(Debug, Drop)]
-struct Counter {
+pub(crate) struct Counter {
     made: u64,
     faults: u64,
     fail_at: Vec<u64>,
@@ -28,7 +28,7 @@ impl Model for Counter {
 }
 
 impl Counter {
-    fn new(fail_at: Vec<u64>) -> Counter
+    pub(crate) fn new(fail_at: Vec<u64>) -> Counter
         ensures { result ≡ no_calls fail_at.items }
     {
         Counter {
@@ -39,7 +39,7 @@ impl Counter {
     }
 
     /// Counts a call. Is it one that fails?
-    fn fails(&mut self) -> bool
+    pub(crate) fn fails(&mut self) -> bool
         ensures answer { result ≡ next_fails self.old }
         ensures counted { self.new ≡ called self.old }
         ensures later { self.old.faults ≤ self.new.faults }

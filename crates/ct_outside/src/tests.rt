@@ -1,7 +1,12 @@
-//! The answers of sources and sinks, call by call.
+//! The answers of sources, sinks, links and locks, call by call.
 use crate::adapters::{StdSink, StdSource};
-use crate::fault::{Failed, SinkFault};
+use crate::fault::{Failed, LinkFault, ReleaseFault, SinkFault, TakeFault};
+use crate::gate::{Gate, OpenGate};
+use crate::link::{Link, Piece, Received};
+use crate::lock::RecLock;
 use crate::memory::{MemSink, MemSource};
+use crate::memory_link::MemLink;
+use crate::memory_lock::MemLock;
 use crate::sink::{Sink, write_all};
 use crate::source::Source;
 use std::io;
@@ -152,4 +157,121 @@ fn a_writer_of_std_answers(rt: HostRuntime) {
     assert_eq!(rt; write_all(&mut sink, b"ghi"), Ok(()));
     drop(sink);
     assert_eq!(rt; narrow.got.as_slice(), b"abdeghi".as_slice());
+}
+
+// What a call of a link gives, or is to give.
+#[derive(Clone, Copy, Debug, PartialEq, Eq)]
+enum Heard<'a> {
+    Piece(u32, &'a [u8]),
+    Nothing,
+    Closed,
+    Sent,
+    Failed,
+    NoMemory,
+}
+
+fn heard_as(answer: &Result<Received, LinkFault>) -> Heard<'_> {
+    match answer {
+        Ok(Received::Piece { sender, bytes }) => Heard::Piece(*sender, bytes.as_slice()),
+        Ok(Received::Nothing) => Heard::Nothing,
+        Ok(Received::Closed) => Heard::Closed,
+        Err(LinkFault::Failed) => Heard::Failed,
+        Err(LinkFault::NoMemory) => Heard::NoMemory,
+    }
+}
+
+// Two sends, and then five looks, of which the third and the fifth may wait.
+#[test]
+fn a_link_in_memory_answers(rt: HostRuntime) -> Result<(), Fail> {
+    let first = Heard::Piece(7, b"ab");
+    let second = Heard::Piece(2, b"");
+    let failed = Heard::Failed;
+    let nothing = Heard::Nothing;
+    let closed = Heard::Closed;
+    let cases: [(&[u64], [Heard<'static>; 7], usize); 4] = [
+        (
+            &[],
+            [
+                Heard::Sent,
+                Heard::Sent,
+                first,
+                second,
+                closed,
+                nothing,
+                closed,
+            ],
+            2,
+        ),
+        (
+            &[1, 3, 7],
+            [failed, Heard::Sent, failed, first, second, nothing, failed],
+            1,
+        ),
+        (
+            &[2, 5],
+            [Heard::Sent, failed, first, second, failed, nothing, closed],
+            1,
+        ),
+        (
+            &[1, 2, 4, 6],
+            [failed, failed, first, failed, second, failed, closed],
+            0,
+        ),
+    ];
+    for (fail_at, answers, sent) in cases {
+        let mut waiting = Vec::new(rt.alloc());
+        waiting.push(Piece {
+            node: 7,
+            bytes: Vec::from_slice(rt.alloc(), b"ab")?,
+        })?;
+        waiting.push(Piece {
+            node: 2,
+            bytes: Vec::new(rt.alloc()),
+        })?;
+        let fail_at = Vec::from_slice(rt.alloc(), fail_at)?;
+        let mut link = MemLink::new(rt.alloc(), waiting, fail_at);
+        for (number, want) in answers.iter().enumerate() {
+            if number < 2 {
+                let got = match link.send(5, b"xyz") {
+                    Ok(()) => Heard::Sent,
+                    Err(LinkFault::Failed) => Heard::Failed,
+                    Err(LinkFault::NoMemory) => Heard::NoMemory,
+                };
+                assert_eq!(rt; got, *want, "call {number}");
+            } else {
+                let answer = link.receive(number == 4 || number == 6);
+                assert_eq!(rt; heard_as(&answer), *want, "call {number}");
+            }
+        }
+        assert_eq!(rt; link.sent().len(), sent);
+        for piece in link.sent() {
+            assert_eq!(rt; piece.node, 5);
+            assert_eq!(rt; piece.bytes.as_slice(), b"xyz".as_slice());
+        }
+    }
+    Ok(())
+}
+
+#[test]
+fn a_lock_in_memory_answers(rt: HostRuntime) {
+    let mut lock = MemLock::new();
+    assert_eq!(rt; lock.release(0), Err(ReleaseFault::NotHolder(None)));
+    let takes = [
+        (0, Ok(2)),
+        (
+            1,
+            Err(TakeFault::Held {
+                holder: 0,
+                ticket: 2,
+            }),
+        ),
+        (0, Ok(3)),
+    ];
+    for (node, want) in takes {
+        assert_eq!(rt; lock.take(node), want);
+    }
+    assert_eq!(rt; lock.release(1), Err(ReleaseFault::NotHolder(Some(0))));
+    assert_eq!(rt; lock.release(0), Ok(()));
+    assert_eq!(rt; lock.take(1), Ok(4));
+    OpenGate.pass(1, 0);
 }
