@@ -1,0 +1,4 @@
+mod Counting
+mod Making
+mod Settling
+mod Words
