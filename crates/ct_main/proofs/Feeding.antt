@@ -6,7 +6,6 @@ use Rattle.std.proofs.lemmas.Bool.{lt-ltb}
 use Rattle.ct_call.specs.Rules.{Rules}
 use Rattle.ct_lines.specs.Grammar.{line_of}
 use Rattle.ct_lines.specs.declared.line.LineKind.TheVariants.{Long}
-use Rattle.ct_outside.specs.Causes.{AppendsPart}
 use Rattle.std.proofs.lemmas.List.{take_more, take-append-drop}
 use Rattle.ct_play.specs.Course.{Deed}
 use Rattle.ct_main.specs.Feeding.{Fed, FedPart, FedRefused, Feeds, Prints, run_on, stop_at}

@@ -1,4 +1,6 @@
+pub mod Complete
 pub mod Ending
 pub mod Feeding
 pub mod Printing
 pub mod Promised
+mod Unread

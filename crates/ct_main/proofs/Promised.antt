@@ -1,5 +1,5 @@
 -- Every run of the bytes of a scenario keeps the promise.
-use Rattle.std.proofs.Common.{◌≡◌, ℕ, List, Option, None, Some}
+use Rattle.std.proofs.Common.{ℕ, List, Option, None, Some}
 use Rattle.ct_call.specs.Rules.{Rules}
 use Rattle.ct_world.specs.World.{World}
 use Rattle.ct_law_promise.proofs.Running.{law_of_marks, promise}

@@ -1,5 +1,5 @@
 -- What is claimed of the top call.
-use Rattle.std.specs.Prelude.{◌≡◌, ◌≢◌, ◌≤◌, ◌<◌, ◌+◌, ℕ, List, [], ◌∷◌, ◌++◌, length, codes, Option, None, Some, Result, Ok, Err, String, string_bytes}
+use Rattle.std.specs.Prelude.{◌≡◌, ◌≢◌, ◌≤◌, ◌<◌, ◌+◌, ◌⊎◌, ℕ, List, [], ◌∷◌, ◌++◌, map, length, codes, Option, None, Some, Result, Ok, Err, String, string_bytes}
 use Rattle.std.specs.declared.alloc.Global.{Global}
 use Rattle.std.specs.Fmt.{decimal}
 use Rattle.std.specs.Io.KnownBytes.{Appends, Consumes, IsAtEnd}
@@ -17,6 +17,12 @@ use Rattle.ct_play.specs.Course.{Deed, printed, steps_of}
 use Rattle.ct_play.specs.Play.{Run, pending_text_of, played, rest}
 use Rattle.ct_play.specs.Text.{what_text}
 use Rattle.ct_play.specs.declared.what.What.{What}
+use Rattle.ct_play.specs.declared.what.What.TheVariants.{Line}
+use Rattle.ct_placer.specs.declared.placer.End.{End as PlacingEnd}
+use Rattle.ct_placer.specs.declared.placer.End.TheVariants as placing
+use Rattle.ct_soak_run.specs.Soaking.{soak_text}
+use Rattle.ct_words.specs.Reading.{reading}
+use Rattle.ct_words.specs.declared.words.Word.{Word}
 use Rattle.ct_main.specs.declared.player.End.{End}
 use Rattle.ct_main.specs.declared.player.End.TheVariants as end
 
@@ -119,9 +125,31 @@ Says (Err sink.NoMemory) line wanted status before now faults_before faults_now 
 abbrev pub Reports : List ℕ → ℕ → ℕ → Option (List ℕ) → Option (List ℕ) → ℕ → ℕ → Type 0
 Reports line wanted status before now faults_before faults_now = (w : Result (Unit {0}) SinkFault) × Says w line wanted status before now faults_before faults_now
 
--- the words that are read: `play`, and perhaps `--` after it
-abbrev pub IsPlay : List (String Global) → Type 0
-IsPlay [] = ⊥
-IsPlay (w ∷ []) = string_bytes w ≡ codes "play"
-IsPlay (w ∷ v ∷ []) = (string_bytes w ≡ codes "play") × (string_bytes v ≡ codes "--")
-IsPlay (w ∷ v ∷ u ∷ ws) = ⊥
+-- what the words after the program's name ask for
+abbrev pub asked : List (String Global) → Option Word
+asked words = reading (map string_bytes words)
+
+-- the words have no reading, and err gained the line that says so, unless err failed; or memory ran out before
+abbrev pub Refuses : ℕ → Option (List ℕ) → Option (List ℕ) → ℕ → ℕ → Type 0
+Refuses status before now faults_before faults_now =
+    Reports usage 1 status before now faults_before faults_now ⊎ Reports (message end.NoMemory) 5 status before now faults_before faults_now
+
+-- an end of a placement as the program's
+abbrev pub placed_end : PlacingEnd → End
+placed_end placing.Read = end.Read
+placed_end (placing.Unended line) = end.Unended line
+placed_end (placing.Refused line kind) = end.Refused line (Line kind)
+placed_end placing.ReadFault = end.ReadFault
+placed_end placing.WriteFault = end.WriteFault
+placed_end placing.NoMemory = end.NoMemory
+
+-- How an end of a soak, of a seed and so many steps, and what out held before and holds now go together: out gained the line
+-- that counts the steps, or a front of it.
+abbrev pub SoakEnds : Rules → ℕ × ℕ → End → Option (List ℕ) → Option (List ℕ) → Type 0
+SoakEnds rules s end.Read before now = Appends before now (soak_text rules s.0 s.1)
+SoakEnds rules s end.WriteFault before now = AppendsPart before now (soak_text rules s.0 s.1)
+SoakEnds rules s end.NoMemory before now = AppendsPart before now (soak_text rules s.0 s.1)
+SoakEnds rules s (end.Unended line) before now = ⊥
+SoakEnds rules s (end.Refused line what) before now = ⊥
+SoakEnds rules s end.ReadFault before now = ⊥
+SoakEnds rules s end.TooLong before now = ⊥

@@ -1,2 +1,3 @@
 pub mod Claims
+pub mod Complete
 pub mod Feeding

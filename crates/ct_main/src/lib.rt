@@ -1,6 +1,7 @@
 //! The top call: what the program does with its words, its input and its outputs.
 #![tactic(auto)]
 
+pub mod laws;
 pub mod player;
 pub mod run;
 #[cfg(test)]

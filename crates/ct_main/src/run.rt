@@ -1,8 +1,13 @@
 //! The top call.
-ghost use Rattle.std.specs.Prelude.{◌≡◌, ◌++◌, ◌↔◌, OnOk, IfOk, IsTrue};
+ghost use Rattle.std.specs.Prelude.{◌≡◌, ◌≤◌, ℕ, IfOk, None, Some};
 ghost use Rattle.ct_call.specs.Shown.{rules_of};
-ghost use Rattle.ct_main.specs.Claims.{HasEndCause, IsPlay, Plays, Reports, message, status, usage};
+ghost use Rattle.ct_outside.specs.Causes.{Rose};
+ghost use Rattle.ct_placer.specs.Claims.{Places};
+ghost use Rattle.ct_placer.specs.declared.placer.End.{End as PlacingEnd};
+ghost use Rattle.ct_words.specs.declared.words.Word.TheVariants as word;
+ghost use Rattle.ct_main.specs.Claims.{HasEndCause, Plays, Refuses, Reports, SoakEnds, asked, message, placed_end, status};
 ghost use Rattle.ct_main.specs.declared.player.End.{End as Ended};
+ghost use Rattle.ct_main.specs.declared.player.End.TheVariants as ended;
 
 use crate::player::{End, play};
 use ct_bytes::memory::NoMemory;
@@ -10,8 +15,12 @@ use ct_call::table::CallTable;
 use ct_outside::fault::SinkFault;
 use ct_outside::sink::{Sink, write_all};
 use ct_outside::source::Source;
+use ct_placer::placer::{End as PlacerEnd, place};
 use ct_play::text::push_what;
+use ct_play::what::What;
+use ct_soak_run::soaking::soak;
 use ct_tool::words::{push, push_number};
+use ct_words::words::{Word, WordsFault, read_words};
 use std::alloc::Global;
 
 /// The line that err gets.
@@ -73,19 +82,44 @@ fn report<E: Sink>(alloc: Global, end: End, err: &mut E) -> u8
     }
 }
 
-fn is_play(words: &[String]) -> bool
-    ensures { IsTrue result ↔ IsPlay words.now }
+/// The end of a placement as the program's.
+fn placed_end(end: PlacerEnd) -> End
+    ensures { result ≡ placed_end end }
 {
-    match words {
-        [word] => word.as_str() == "play",
-        [word, end] => word.as_str() == "play" && end.as_str() == "--",
-        _ => false,
+    match end {
+        PlacerEnd::Read => End::Read,
+        PlacerEnd::Unended { line } => End::Unended { line },
+        PlacerEnd::Refused { line, kind } => End::Refused {
+            line,
+            what: What::Line(kind),
+        },
+        PlacerEnd::ReadFault => End::ReadFault,
+        PlacerEnd::WriteFault => End::WriteFault,
+        PlacerEnd::NoMemory => End::NoMemory,
+    }
+}
+
+/// Takes the steps of a soak, and prints the line that counts them.
+fn soak_end<K: Sink>(alloc: Global, table: &CallTable, seed: u64, steps: u32, out: &mut K) -> End
+    ensures ends { SoakEnds (rules_of table.now) (seed, steps) result (K.held out.old) (K.held out.new) }
+    ensures later { K.faults out.old ≤ K.faults out.new }
+    ensures failed { result ≡ ended.WriteFault → Rose (K.faults out.old) (K.faults out.new) }
+{
+    let line = match soak(alloc, table, seed, steps) {
+        Ok(line) => line,
+        Err(_) => return End::NoMemory,
+    };
+    match write_all(out, line.as_slice()) {
+        Ok(()) => End::Read,
+        Err(SinkFault::Failed) => End::WriteFault,
+        Err(SinkFault::NoMemory) => End::NoMemory,
     }
 }
 
 /// All that the program does. `words` are the words after its name. The answer is the program's status: 0 where the
 /// input was read to its end, 1 where the words have no reading, 2 where a line is refused or the input ends inside
 /// one, 3 where a read failed, 4 where a write failed, 5 for want of memory, and 8 where 2^40 bytes were taken.
+#[tactic(auto, using(crate::proofs::Unread::nothing_played, crate::proofs::Unread::nothing_placed, crate::proofs::Unread::nothing_soaked, crate::proofs::Unread::no_cause))]
 pub fn run<S: Source, K: Sink, E: Sink>(
     alloc: Global,
     words: &[String],
@@ -95,17 +129,39 @@ pub fn run<S: Source, K: Sink, E: Sink>(
     err: &mut E,
 ) -> u8
     // The words say `play`: bytes that came in were played, and err and the answer say how that ended.
-    ensures play { IsPlay words.now → (e : Ended)
+    ensures play { asked words.now ≡ Some word.Play → (e : Ended)
         × Plays (rules_of table.now) e (S.left input.old) (S.left input.new) (K.held out.old) (K.held out.new)
         × HasEndCause e (S.faults input.old) (S.faults input.new) (K.faults out.old) (K.faults out.new)
         × Reports (message e) (status e) result (E.held err.old) (E.held err.new) (E.faults err.old) (E.faults err.new) }
-    // The words have no other reading: nothing was read or printed, and err says so.
-    ensures usage { ¬ (IsPlay words.now) → Reports usage 1 result (E.held err.old) (E.held err.new) (E.faults err.old) (E.faults err.new)
+    // The words say `lcp2`: the input's lines were read, and the placement printed.
+    ensures lcp2 { asked words.now ≡ Some word.Lcp2 → (e : PlacingEnd)
+        × Places e (S.left input.old) (S.left input.new) (K.held out.old) (K.held out.new)
+        × HasEndCause (placed_end e) (S.faults input.old) (S.faults input.new) (K.faults out.old) (K.faults out.new)
+        × Reports (message (placed_end e)) (status (placed_end e)) result (E.held err.old) (E.held err.new) (E.faults err.old) (E.faults err.new) }
+    // The words say `soak`, with a seed and a number of steps: nothing was read, and the line that counts them printed.
+    ensures soak { (seed steps : ℕ) → asked words.now ≡ Some (word.Soak seed steps) → (e : Ended)
+        × SoakEnds (rules_of table.now) (seed, steps) e (K.held out.old) (K.held out.new)
+        × HasEndCause e (S.faults input.old) (S.faults input.new) (K.faults out.old) (K.faults out.new)
+        × Reports (message e) (status e) result (E.held err.old) (E.held err.new) (E.faults err.old) (E.faults err.new)
+        × (input.new ≡ input.old) }
+    // The words have no reading: nothing was read or printed, and err says so, or that memory was wanting.
+    ensures usage { asked words.now ≡ None → Refuses result (E.held err.old) (E.held err.new) (E.faults err.old) (E.faults err.new)
         × (input.new ≡ input.old) × (out.new ≡ out.old) }
 {
-    if is_play(words) {
-        let end = play(alloc, table, input, out);
-        return report(alloc, end, err);
+    match read_words(alloc, words) {
+        Ok(Word::Play) => {
+            let end = play(alloc, table, input, out);
+            report(alloc, end, err)
+        }
+        Ok(Word::Lcp2) => {
+            let end = place(alloc, input, out);
+            report(alloc, placed_end(end), err)
+        }
+        Ok(Word::Soak { seed, steps }) => {
+            let end = soak_end(alloc, table, seed, steps, out);
+            report(alloc, end, err)
+        }
+        Err(WordsFault::Usage) => say(b"ctdbsim: usage\n", 1, err),
+        Err(WordsFault::NoMemory) => report(alloc, End::NoMemory, err),
     }
-    say(b"ctdbsim: usage\n", 1, err)
 }

@@ -131,8 +131,23 @@ const REFUSED: [Case; 6] = [
 
 const USAGE: &str = "ctdbsim: usage\n";
 
-const WORDS: [Case; 9] = [
+const LCP2: &[&str] = &["lcp2"];
+
+const SOAK: &[&str] = &["soak", "1", "2000"];
+
+const SOAKED: &str = "soak 2000 skipped 356 frames 641 calls 972 pending 24 ticket 4\n";
+
+const ADDRESSES: &str =
+    "nodes 2\naddress 192.168.1.1\naddress 192.168.1.2\naddress 192.168.1.3\naddress 192.168.1.4\n";
+
+const PLACED: &str =
+    "192.168.1.1 0\n192.168.1.2 1\n192.168.1.3 1\n192.168.1.4 0\nimbalance 0 841\nimbalance 1 961\n";
+
+const WORDS: [Case; 12] = [
     (&["play", "--"], SESSION, NONE, (0, ANSWERS, "")),
+    (&["soak", "--", "1", "2000"], SESSION, NONE, (0, SOAKED, "")),
+    (&["soak", "1", "0"], SESSION, NONE, (1, "", USAGE)),
+    (&["soak", "0", "100001"], SESSION, NONE, (1, "", USAGE)),
     (&[], SESSION, NONE, (1, "", USAGE)),
     (&["play", "x"], SESSION, NONE, (1, "", USAGE)),
     (&["--help"], SESSION, NONE, (1, "", USAGE)),
@@ -141,6 +156,48 @@ const WORDS: [Case; 9] = [
     (&["--", "play"], SESSION, NONE, (1, "", USAGE)),
     (&["play", "--", "--"], SESSION, NONE, (1, "", USAGE)),
     (&["x"], SESSION, [&[1], &[1], &[1]], (4, "", "")),
+];
+
+const PLACINGS: [Case; 8] = [
+    (LCP2, ADDRESSES, NONE, (0, PLACED, "")),
+    (LCP2, "", NONE, (0, "", "")),
+    (
+        LCP2,
+        "nodes 1\ndisabled 0\naddress 10.0.0.1\n",
+        NONE,
+        (0, "10.0.0.1 -1\nimbalance 0 0\n", ""),
+    ),
+    (
+        LCP2,
+        "nodes 2\nnodes 2\n",
+        NONE,
+        (2, "", "ctdbsim: line 2: order\n"),
+    ),
+    (LCP2, "nodes 2", NONE, (2, "", "ctdbsim: line 1: unended\n")),
+    (
+        LCP2,
+        ADDRESSES,
+        [&[1], &[], &[]],
+        (3, "", "ctdbsim: read fault\n"),
+    ),
+    (
+        LCP2,
+        ADDRESSES,
+        [&[], &[2], &[]],
+        (4, "192.168.1.1 0\n", "ctdbsim: write fault\n"),
+    ),
+    (LCP2, "nodes 0\n", [&[], &[], &[1]], (4, "", "")),
+];
+
+const SOAKS: [Case; 3] = [
+    (SOAK, "", NONE, (0, SOAKED, "")),
+    (SOAK, SESSION, [&[1], &[], &[1]], (0, SOAKED, "")),
+    (
+        SOAK,
+        SESSION,
+        [&[], &[1], &[]],
+        (4, "", "ctdbsim: write fault\n"),
+    ),
 ];
 
 const FAULTS: [Case; 7] = [
@@ -229,6 +286,18 @@ fn what_is_refused(rt: HostRuntime) -> Result<(), Fail> {
 #[test]
 fn words(rt: HostRuntime) -> Result<(), Fail> {
     assert_eq!(rt; odd_row(rt.alloc(), &WORDS)?, None);
+    Ok(())
+}
+
+#[test]
+fn what_is_placed(rt: HostRuntime) -> Result<(), Fail> {
+    assert_eq!(rt; odd_row(rt.alloc(), &PLACINGS)?, None);
+    Ok(())
+}
+
+#[test]
+fn what_is_soaked(rt: HostRuntime) -> Result<(), Fail> {
+    assert_eq!(rt; odd_row(rt.alloc(), &SOAKS)?, None);
     Ok(())
 }
 

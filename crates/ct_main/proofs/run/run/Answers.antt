@@ -1,0 +1,11 @@
+use Rattle.std.proofs.Common.{refl}
+use Rattle.ct_call.specs.Shown.{rules_of}
+use Rattle.ct_main.proofs.Unread.{nothing_played, nothing_soaked, no_cause}
+use Rattle.ct_main.specs.declared.player.End.TheVariants as end
+use Rattle.ct_main.proofs.run.run.Goals as goal
+
+pub returns-in-Err-NoMemory-clause-play : goal.returns-in-Err-NoMemory-clause-play
+returns-in-Err-NoMemory-clause-play g c = λ w. (end.NoMemory, nothing_played (rules_of c.args.table.now) _ _, no_cause _ _, c.report-in-Err-NoMemory.ensures)
+
+pub returns-in-Err-NoMemory-clause-soak : goal.returns-in-Err-NoMemory-clause-soak
+returns-in-Err-NoMemory-clause-soak g c = λ seed steps w. (end.NoMemory, nothing_soaked (rules_of c.args.table.now) (seed, steps) _, no_cause _ _, c.report-in-Err-NoMemory.ensures, refl)
