@@ -307,6 +307,59 @@ fn faults(rt: HostRuntime) -> Result<(), Fail> {
     Ok(())
 }
 
+/// So many first lines of a text.
+fn first_lines(text: &[u8], count: u64) -> &[u8] {
+    let mut left = count;
+    for (at, byte) in text.iter().enumerate() {
+        if left == 0 {
+            return &text[..at];
+        }
+        if *byte == b'\n' {
+            left -= 1;
+        }
+    }
+    text
+}
+
+/// The status, and what out gained, of a lock that moves between two nodes, where one call of the input and one of out fail.
+fn moved(alloc: Global, input_fails: u64, out_fails: u64) -> Result<(u8, MemSink), Fail> {
+    let words = strings(alloc, PLAY)?;
+    let table = CallTable::new(alloc);
+    let bytes = Vec::from_slice(alloc, MOVED.as_bytes())?;
+    let mut source = MemSource::new(bytes, Vec::from_slice(alloc, &[input_fails])?);
+    let mut held = MemSink::new(alloc, Vec::from_slice(alloc, &[out_fails])?);
+    let mut said = MemSink::new(alloc, Vec::new(alloc));
+    let status = run(
+        alloc,
+        words.as_slice(),
+        &table,
+        &mut source,
+        &mut held,
+        &mut said,
+    );
+    Ok((status, held))
+}
+
+// Each of the first 20 calls of the input fails in turn, and each of out.
+#[test]
+fn a_call_that_fails(rt: HostRuntime) -> Result<(), Fail> {
+    let alloc = rt.alloc();
+    for call in 1..=20u64 {
+        let (status, held) = moved(alloc, call, 0)?;
+        let (wanted, text) = match call {
+            1 => (3u8, ""),
+            2 => (3, MOVES),
+            _ => (0, MOVES),
+        };
+        assert_eq!(rt; status, wanted);
+        assert_eq!(rt; held.held(), text.as_bytes());
+        let (status, held) = moved(alloc, 0, call)?;
+        assert_eq!(rt; status, if call <= 5 { 4 } else { 0 });
+        assert_eq!(rt; held.held(), first_lines(MOVES.as_bytes(), call - 1));
+    }
+    Ok(())
+}
+
 // A line that is printed is one write, where the sink takes it whole.
 #[test]
 fn pieces(rt: HostRuntime) -> Result<(), Fail> {
