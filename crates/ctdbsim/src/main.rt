@@ -33,15 +33,15 @@ fn old_and_arg(alloc: Global) -> Option<Rule>
     Some(Rule::Join(old, arg))
 }
 
-/// The call functions: 1 joins the old value and the argument, 2 gives the argument, 3 the old value. None is want of memory.
-fn functions(alloc: Global) -> Option<CallTable>
-    ensures { IfSome result (λ t. rules_of t ≡ (1, Join Old Arg) ∷ (2, Arg) ∷ (3, Old) ∷ []) }
+/// Adds the call functions: 1 joins the old value and the argument, 2 gives the argument, 3 the old value. None is want of
+/// memory.
+fn add_functions(alloc: Global, table: &mut CallTable) -> Option<()>
+    requires { rules_of table.old ≡ [] }
+    ensures { IfSome result (λ _. rules_of table.new ≡ (1, Join Old Arg) ∷ (2, Arg) ∷ (3, Old) ∷ []) }
 {
-    let mut table = CallTable::new(alloc);
     table.add_rule(alloc, 1, old_and_arg(alloc)?).ok()?;
     table.add_rule(alloc, 2, Rule::Arg).ok()?;
-    table.add_rule(alloc, 3, Rule::Old).ok()?;
-    Some(table)
+    table.add_rule(alloc, 3, Rule::Old).ok()
 }
 
 fn main(rt: HostRuntime) -> ExitCode {
@@ -49,9 +49,10 @@ fn main(rt: HostRuntime) -> ExitCode {
         return ExitCode::from(5);
     };
     let alloc = rt.alloc();
-    let Some(table) = functions(alloc) else {
+    let mut table = CallTable::new(alloc);
+    if add_functions(alloc, &mut table).is_none() {
         return ExitCode::from(5);
-    };
+    }
     let mut input = StdSource::new(rt.stdin());
     let mut out = StdSink::new(rt.stdout());
     let mut err = StdSink::new(rt.stderr());
