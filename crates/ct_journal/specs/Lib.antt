@@ -1,0 +1,5 @@
+pub mod Runs
+pub mod Order
+pub mod Going
+pub mod Schedules
+pub mod Worked
