@@ -136,6 +136,9 @@ squared_symmetric a b = ap (λ d. d * d) (distance_symmetric a b)
 square_within : (d : ℕ) → d ≤ 128 → d * d ≤ 16384
 square_within d h = grind arith
 
+pub squared_within : (a b : Address) → squared a b ≤ 16384
+squared_within a b = square_within (distance a b) (distance_within a b)
+
 pub sum_within : (a : Address) (bs : List Address) → sum_to a bs ≤ 16384 * length bs
 unfolding sum_to
 sum_within a [] = omega arith

@@ -5,3 +5,4 @@ pub mod Orders
 pub mod Repeats
 pub mod Standing
 pub mod Steps
+pub mod Tallies

@@ -4,36 +4,55 @@ use Rattle.std.specs.Prelude.{if◌then◌else◌, map, not, ◌||◌, ◌==◌}
 use Rattle.std.specs.List.Sorted.{IsStrictlySortedBy}
 use Rattle.std.proofs.lemmas.List.{take-append-drop}
 use Rattle.std.proofs.lemmas.Bool.{and_right, and_left, and_from, le-ltb, lt-ltb}
-use Rattle.ct_bytes.specs.Address.{address_cmp}
+use Rattle.ct_bytes.specs.Address.{address_cmp, same_address}
 use Rattle.ct_bytes.specs.declared.address.Address.{Address}
-use Rattle.ct_bytes.specs.declared.address.Address.TheVariants.{V4}
+use Rattle.ct_bytes.specs.Words.{is_this_node}
+use Rattle.ct_bytes.proofs.Words.{this_node_is}
 use Rattle.ct_frame.specs.declared.frame.Assigned.{Assigned}
-use Rattle.ct_lcp2.specs.Distance.{sum_to, imbalance}
+use Rattle.ct_lcp2.specs.Distance.{squared, sum_to, imbalance}
 use Rattle.ct_lcp2.specs.Best.{better, best_from, best}
-use Rattle.ct_lcp2.specs.Placing.{held, others, may_fail_back, failbacks_of, failbacks, choice_before, source_before, source_of, sources, with_source, is_behind}
+use Rattle.ct_lcp2.specs.Placing.{Ascend, held, others, may_fail_back, failbacks_of, failbacks, choice_before, source_before, source_of, sources, with_source, is_behind}
 use Rattle.ct_lcp2.specs.declared.choice.Choice.{Choice}
 use Rattle.ct_lcp2.specs.declared.choice.Source.{Source}
 use Rattle.ct_lcp2.proofs.Choices.{best_from_append}
-use Rattle.ct_lcp2.proofs.Standing.{left_behind}
+use Rattle.ct_lcp2.specs.Tallies.{Stands, nodes}
+use Rattle.ct_lcp2.specs.declared.tally.Tally.{Tally}
+use Rattle.ct_lcp2.proofs.Standing.{left_behind, all_held, away_from, held_ascends, others_split, sum_to_insert}
+use Rattle.ct_lcp2.proofs.Tallies.{held_with, at_some}
 
--- the address at a place
-abbrev pub at : List Address → ℕ → Address
-at here i = get_or here i (V4 0)
+-- of an address at a node: its sum to the others there, and what it leaves behind
+module _ (xs : List Assigned) (s i : ℕ) (d : Assigned) (asc : Ascend xs) (within : i < length xs) (is : is_this_node s (get_or xs i d).node ≡ true) where
+  abbrev here : Address
+  here = (get_or xs i d).address
 
-pub left_at : (here : List Address) (i : ℕ) → i < length here → IsStrictlySortedBy address_cmp here
-    → imbalance (others (at here i) here) + sum_to (at here i) (others (at here i) here) ≡ imbalance here
-left_at here i h asc =
-    let a = at here i in
-    let e : here ≡ take i here ++ a ∷ drop (suc i) here = sym (take-append-drop i here) ∙ ap (λ l. take i here ++ l) (drop-cons here i (V4 0) h) in
-    subst (λ l. imbalance (others a l) + sum_to a (others a l) ≡ imbalance l) (sym e) (left_behind a (take i here) (drop (suc i) here) (subst (IsStrictlySortedBy address_cmp) e asc))
+  stands_at : Stands xs here (Some s)
+  stands_at =
+      (take i xs, drop (suc i) xs,
+      sym (take-append-drop i xs) ∙ ap (λ l. take i xs ++ l) (drop-cons xs i d within) ∙ ap (λ o. take i xs ++ record { address = here; node = o } ∷ drop (suc i) xs) (this_node_is s (get_or xs i d).node is))
 
-mapped_at : (f : Address → ℕ) (here : List Address) (i : ℕ) → i < length here → get_or (map f here) i 0 ≡ f (at here i)
-mapped_at f [] i h = absurd (omega arith)
-mapped_at f (a ∷ here) zero h = refl
-mapped_at f (a ∷ here) (suc i) h = mapped_at f here i (omega arith)
+  split : held s xs ≡ held s (take i xs) ++ here ∷ held s (drop (suc i) xs)
+  unfolding stands_at
+  split = ap (held s) stands_at.2 ∙ held_with s here (Some s) (take i xs) (drop (suc i) xs) (at_some s s true (grind arith))
 
-pub own_at : (here : List Address) (sums : List ℕ) (i : ℕ) → sums ≡ map (λ a. sum_to a (others a here)) here → i < length here → get_or sums i 0 ≡ sum_to (at here i) (others (at here i) here)
-own_at here sums i e h = ap (λ l. get_or l i 0) e ∙ mapped_at (λ a. sum_to a (others a here)) here i h
+  pub own_at : sum_to here (held s xs) ≡ squared here here + sum_to here (others here (held s xs))
+  unfolding stands_at
+  own_at =
+      let away = away_from here (Some s) (take i xs) (drop (suc i) xs) (subst Ascend stands_at.2 asc) in
+      let o = ap (λ l. sum_to here (others here l)) split ∙ ap (sum_to here) (others_split here (held s (take i xs)) (held s (drop (suc i) xs)) (all_held (λ b. same_address here b ≡ false) s (take i xs) away.0) (all_held (λ b. same_address here b ≡ false) s (drop (suc i) xs) away.1)) in
+      let w = ap (sum_to here) split ∙ sum_to_insert here here (held s (take i xs)) (held s (drop (suc i) xs)) in
+      omega (arith, o, w)
+
+  pub own_is : (own sum square : ℕ) → own ≡ sum - square → sum ≡ sum_to here (held s xs) → square ≡ squared here here → own ≡ sum_to here (others here (held s xs))
+  own_is own sum square e f g = let o = own_at in omega (arith, e, f, g, o)
+
+  pub left_at : imbalance (others here (held s xs)) + sum_to here (others here (held s xs)) ≡ imbalance (held s xs)
+  left_at =
+      subst (λ l. imbalance (others here l) + sum_to here (others here l) ≡ imbalance l) (sym split)
+      (left_behind here (held s (take i xs)) (held s (drop (suc i) xs)) (subst (IsStrictlySortedBy address_cmp) split (held_ascends s xs asc)))
+
+  held_at : held s (drop i xs) ≡ here ∷ held s (drop (suc i) xs)
+  unfolding held
+  held_at = ap (held s) (drop-cons xs i d within) ∙ ap (λ b. if b then here ∷ held s (drop (suc i) xs) else held s (drop (suc i) xs)) is
 
 module _ (a : Address) (here there : List Address) (sum weight_there weight own : ℕ) where
   pub may : sum ≡ sum_to a there → weight_there ≡ imbalance there → weight ≡ imbalance here → own ≡ sum_to a (others a here) → sum + weight_there < weight → sum < own → may_fail_back a here there ≡ true
@@ -58,57 +77,77 @@ module _ (a : Address) (here there : List Address) (sum weight_there weight own 
 abbrev pub back : ℕ → List Address → List Address → Address → Choice
 back target here there a = record { sum = imbalance (others a here) + imbalance (a ∷ there); address = a; node = target }
 
-pub address_more : (target : ℕ) (here there : List Address) (i : ℕ) (b new whole : Option Choice) (t : Bool) → i < length here → may_fail_back (at here i) here there ≡ t
-    → new ≡ (if t then better choice_before b (back target here there (at here i)) else b)
-    → best_from choice_before b (failbacks_of target here there (drop i here)) ≡ whole → best_from choice_before new (failbacks_of target here there (drop (i + 1) here)) ≡ whole
+pub address_more : (target s : ℕ) (here there : List Address) (xs : List Assigned) (i : ℕ) (d : Assigned) (asc : Ascend xs) (b new whole : Option Choice) (t : Bool) → i < length xs → is_this_node s (get_or xs i d).node ≡ true
+    → may_fail_back (get_or xs i d).address here there ≡ t → new ≡ (if t then better choice_before b (back target here there (get_or xs i d).address) else b)
+    → best_from choice_before b (failbacks_of target here there (held s (drop i xs))) ≡ whole → best_from choice_before new (failbacks_of target here there (held s (drop (i + 1) xs))) ≡ whole
 unfolding failbacks_of best_from
-address_more target here there i b new whole t h m is k =
-    ap (λ j. best_from choice_before new (failbacks_of target here there (drop j here))) (add-one i)
+address_more target s here there xs i d asc b new whole t h e m is k =
+    ap (λ j. best_from choice_before new (failbacks_of target here there (held s (drop j xs)))) (add-one i)
     ∙ by t m is
-    ∙ ap (λ l. best_from choice_before b (failbacks_of target here there l)) (sym (drop-cons here i (V4 0) h))
+    ∙ ap (λ l. best_from choice_before b (failbacks_of target here there l)) (sym (held_at xs s i d asc h e))
     ∙ k
   where
-    by : (s : Bool) → may_fail_back (at here i) here there ≡ s → new ≡ (if s then better choice_before b (back target here there (at here i)) else b)
-        → best_from choice_before new (failbacks_of target here there (drop (suc i) here)) ≡ best_from choice_before b (if may_fail_back (at here i) here there then back target here there (at here i) ∷ failbacks_of target here there (drop (suc i) here) else failbacks_of target here there (drop (suc i) here))
-    by true e n = ap (λ c. best_from choice_before c (failbacks_of target here there (drop (suc i) here))) n ∙ sym (ap (λ s. best_from choice_before b (if s then back target here there (at here i) ∷ failbacks_of target here there (drop (suc i) here) else failbacks_of target here there (drop (suc i) here))) e)
-    by false e n = ap (λ c. best_from choice_before c (failbacks_of target here there (drop (suc i) here))) n ∙ sym (ap (λ s. best_from choice_before b (if s then back target here there (at here i) ∷ failbacks_of target here there (drop (suc i) here) else failbacks_of target here there (drop (suc i) here))) e)
-
-pub target_more : (source : ℕ) (targets : List ℕ) (i : ℕ) (xs : List Assigned) (b new whole : Option Choice) (t : Bool) → i < length targets → nat_eq (get_or targets i 0) source ≡ t
-    → new ≡ (if t then b else best_from choice_before b (failbacks_of (get_or targets i 0) (held source xs) (held (get_or targets i 0) xs) (held source xs)))
-    → best_from choice_before b (failbacks source (drop i targets) xs) ≡ whole → best_from choice_before new (failbacks source (drop (i + 1) targets) xs) ≡ whole
-unfolding failbacks
-target_more source targets i xs b new whole t h m is k =
-    ap (λ j. best_from choice_before new (failbacks source (drop j targets) xs)) (add-one i)
-    ∙ by t m is
-    ∙ ap (λ l. best_from choice_before b (failbacks source l xs)) (sym (drop-cons targets i 0 h))
-    ∙ k
-  where
-    one : List Choice
-    one = failbacks_of (get_or targets i 0) (held source xs) (held (get_or targets i 0) xs) (held source xs)
+    a : Address
+    a = (get_or xs i d).address
 
     rest : List Choice
-    rest = failbacks source (drop (suc i) targets) xs
+    rest = failbacks_of target here there (held s (drop (suc i) xs))
 
-    by : (s : Bool) → nat_eq (get_or targets i 0) source ≡ s → new ≡ (if s then b else best_from choice_before b one) → best_from choice_before new rest ≡ best_from choice_before b (if nat_eq (get_or targets i 0) source then rest else one ++ rest)
-    by true e n = ap (λ c. best_from choice_before c rest) n ∙ sym (ap (λ s. best_from choice_before b (if s then rest else one ++ rest)) e)
-    by false e n = ap (λ c. best_from choice_before c rest) n ∙ sym (best_from_append choice_before b one rest) ∙ sym (ap (λ s. best_from choice_before b (if s then rest else one ++ rest)) e)
+    by : (u : Bool) → may_fail_back a here there ≡ u → new ≡ (if u then better choice_before b (back target here there a) else b)
+        → best_from choice_before new rest ≡ best_from choice_before b (if may_fail_back a here there then back target here there a ∷ rest else rest)
+    by true e n = ap (λ c. best_from choice_before c rest) n ∙ sym (ap (λ u. best_from choice_before b (if u then back target here there a ∷ rest else rest)) e)
+    by false e n = ap (λ c. best_from choice_before c rest) n ∙ sym (ap (λ u. best_from choice_before b (if u then back target here there a ∷ rest else rest)) e)
+
+-- an address that is not at the source has no move
+pub address_passed : (target s : ℕ) (here there : List Address) (xs : List Assigned) (i : ℕ) (d : Assigned) (b new whole : Option Choice) → i < length xs → is_this_node s (get_or xs i d).node ≡ false → new ≡ b
+    → best_from choice_before b (failbacks_of target here there (held s (drop i xs))) ≡ whole → best_from choice_before new (failbacks_of target here there (held s (drop (i + 1) xs))) ≡ whole
+unfolding held
+address_passed target s here there xs i d b new whole h e is k =
+    ap (λ j. best_from choice_before new (failbacks_of target here there (held s (drop j xs)))) (add-one i)
+    ∙ ap (λ c. best_from choice_before c (failbacks_of target here there (held s (drop (suc i) xs)))) is
+    ∙ sym (ap (λ l. best_from choice_before b (failbacks_of target here there l))
+    (ap (held s) (drop-cons xs i d h) ∙ ap (λ u. if u then (get_or xs i d).address ∷ held s (drop (suc i) xs) else held s (drop (suc i) xs)) e))
+    ∙ k
+
+item_rest : {X : Type 0} (xs : List X) (i : ℕ) (one : X) → i < length xs → one ≡ get_or xs i one → drop i xs ≡ one ∷ drop (suc i) xs
+item_rest xs i one h at = drop-cons xs i one h ∙ ap (λ x. x ∷ drop (suc i) xs) (sym at)
+
+pub target_more : (source : ℕ) (targets : List Tally) (i : ℕ) (one : Tally) (xs : List Assigned) (b new whole : Option Choice) (t : Bool) → i < length targets → one ≡ get_or targets i one → nat_eq (one.node) source ≡ t
+    → new ≡ (if t then b else best_from choice_before b (failbacks_of (one.node) (held source xs) (held (one.node) xs) (held source xs)))
+    → best_from choice_before b (failbacks source (nodes (drop i targets)) xs) ≡ whole → best_from choice_before new (failbacks source (nodes (drop (i + 1) targets)) xs) ≡ whole
+unfolding failbacks
+target_more source targets i one xs b new whole t h at m is k =
+    ap (λ j. best_from choice_before new (failbacks source (nodes (drop j targets)) xs)) (add-one i)
+    ∙ by t m is
+    ∙ ap (λ l. best_from choice_before b (failbacks source (nodes l) xs)) (sym (item_rest targets i one h at))
+    ∙ k
+  where
+    moves : List Choice
+    moves = failbacks_of (one.node) (held source xs) (held (one.node) xs) (held source xs)
+
+    rest : List Choice
+    rest = failbacks source (nodes (drop (suc i) targets)) xs
+
+    by : (s : Bool) → nat_eq (one.node) source ≡ s → new ≡ (if s then b else best_from choice_before b moves) → best_from choice_before new rest ≡ best_from choice_before b (if nat_eq (one.node) source then rest else moves ++ rest)
+    by true e n = ap (λ c. best_from choice_before c rest) n ∙ sym (ap (λ s. best_from choice_before b (if s then rest else moves ++ rest)) e)
+    by false e n = ap (λ c. best_from choice_before c rest) n ∙ sym (best_from_append choice_before b moves rest) ∙ sym (ap (λ s. best_from choice_before b (if s then rest else moves ++ rest)) e)
 
 source_added : (node weight : ℕ) (o : Option Choice) (b : Option Source) → best_from source_before b (source_of node weight o) ≡ with_source node weight o b
 unfolding best_from
 source_added node weight None b = refl
 source_added node weight (Some c) b = refl
 
-pub node_more : (able targets : List ℕ) (i : ℕ) (xs : List Assigned) (b new whole : Option Source) (weight : ℕ) (o : Option Choice) → i < length able
-    → weight ≡ imbalance (held (get_or able i 0) xs) → o ≡ best choice_before (failbacks (get_or able i 0) targets xs) → new ≡ with_source (get_or able i 0) weight o b
-    → best_from source_before b (sources (drop i able) targets xs) ≡ whole → best_from source_before new (sources (drop (i + 1) able) targets xs) ≡ whole
+pub node_more : (able : List Tally) (targets : List ℕ) (i : ℕ) (one : Tally) (xs : List Assigned) (b new whole : Option Source) (weight : ℕ) (o : Option Choice) → i < length able → one ≡ get_or able i one
+    → weight ≡ imbalance (held (one.node) xs) → o ≡ best choice_before (failbacks (one.node) targets xs) → new ≡ with_source (one.node) weight o b
+    → best_from source_before b (sources (nodes (drop i able)) targets xs) ≡ whole → best_from source_before new (sources (nodes (drop (i + 1) able)) targets xs) ≡ whole
 unfolding sources
-node_more able targets i xs b new whole weight o h w found is k =
-    let node = get_or able i 0 in
-    let rest = sources (drop (suc i) able) targets xs in
-    ap (λ j. best_from source_before new (sources (drop j able) targets xs)) (add-one i)
+node_more able targets i one xs b new whole weight o h at w found is k =
+    let node = one.node in
+    let rest = sources (nodes (drop (suc i) able)) targets xs in
+    ap (λ j. best_from source_before new (sources (nodes (drop j able)) targets xs)) (add-one i)
     ∙ ap (λ c. best_from source_before c rest) (is ∙ sym (source_added node weight o b) ∙ ap (λ v. best_from source_before b (source_of node v o)) w ∙ ap (λ p. best_from source_before b (source_of node (imbalance (held node xs)) p)) found)
     ∙ sym (best_from_append source_before b (source_of node (imbalance (held node xs)) (best choice_before (failbacks node targets xs))) rest)
-    ∙ ap (λ l. best_from source_before b (sources l targets xs)) (sym (drop-cons able i 0 h))
+    ∙ ap (λ l. best_from source_before b (sources (nodes l) targets xs)) (sym (item_rest able i one h at))
     ∙ k
 
 -- a node that comes after the best source so far adds nothing

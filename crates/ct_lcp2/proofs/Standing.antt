@@ -94,7 +94,7 @@ held_length n (x ∷ xs) = by (is_this_node n x.node) (held_length n xs)
     by true h = omega arith
     by false h = omega arith
 
-all_held : (P : Address → Type 0) (n : ℕ) (xs : List Assigned) → AllByRecursion P (addresses xs) → AllByRecursion P (held n xs)
+pub all_held : (P : Address → Type 0) (n : ℕ) (xs : List Assigned) → AllByRecursion P (addresses xs) → AllByRecursion P (held n xs)
 unfolding held
 all_held P n [] h = tt
 all_held P n (x ∷ xs) h = by (is_this_node n x.node) (all_held P n xs h.1)
@@ -224,7 +224,7 @@ total_insert (y ∷ pre) x post =
 abbrev pub Away : Address → List Assigned → Type 0
 Away a xs = Absent a (addresses xs)
 
-sent_away : (a : Address) (t : ℕ) (xs : List Assigned) → Away a xs → sent a t xs ≡ xs
+pub sent_away : (a : Address) (t : ℕ) (xs : List Assigned) → Away a xs → sent a t xs ≡ xs
 sent_away a t [] h = refl
 sent_away a t (x ∷ xs) h = ap (λ b. (if b then record { address = x.address; node = Some t } else x) ∷ sent a t xs) h.0 ∙ ap (λ ys. x ∷ ys) (sent_away a t xs h.1)
 
@@ -235,7 +235,7 @@ sent_split a s t [] post hp hq =
 sent_split a s t (x ∷ pre) post hp hq =
     ap (λ b. (if b then record { address = x.address; node = Some t } else x) ∷ sent a t (pre ++ record { address = a; node = Some s } ∷ post)) hp.0 ∙ ap (λ ys. x ∷ ys) (sent_split a s t pre post hp.1 hq)
 
-held_append : (m : ℕ) (xs ys : List Assigned) → held m (xs ++ ys) ≡ held m xs ++ held m ys
+pub held_append : (m : ℕ) (xs ys : List Assigned) → held m (xs ++ ys) ≡ held m xs ++ held m ys
 unfolding held
 held_append m [] ys = refl
 held_append m (x ∷ xs) ys = by (is_this_node m x.node) (held_append m xs ys)
@@ -272,7 +272,7 @@ addresses_append : (xs ys : List Assigned) → addresses (xs ++ ys) ≡ addresse
 addresses_append [] ys = refl
 addresses_append (x ∷ xs) ys = ap (λ cs. x.address ∷ cs) (addresses_append xs ys)
 
-away_from : (a : Address) (o : Option ℕ) (pre post : List Assigned) → Ascend (pre ++ record { address = a; node = o } ∷ post) → Away a pre × Away a post
+pub away_from : (a : Address) (o : Option ℕ) (pre post : List Assigned) → Ascend (pre ++ record { address = a; node = o } ∷ post) → Away a pre × Away a post
 away_from a o pre post h = middle_differs a (addresses pre) (addresses post) (subst (IsStrictlySortedBy address_cmp) (addresses_append pre (record { address = a; node = o } ∷ post)) h)
 
 -- a place of the address at the node among all

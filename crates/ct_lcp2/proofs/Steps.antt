@@ -67,6 +67,17 @@ failback_less able targets xs s asc e =
     (held node xs) (all_split node xs))))
     e
 
+-- the address that is picked stands at the source, and the target is another node
+pub failback_stands : (able targets : List ℕ) (xs : List Assigned) (s : Source) → next_failback able targets xs ≡ Some s → Splits xs s.node s.choice.address × (nat_eq s.choice.node s.node ≡ false)
+failback_stands able targets xs s e =
+    holds_of (λ r. Splits xs r.node r.choice.address × (nat_eq r.choice.node r.node ≡ false)) source_before (sources able targets xs) s
+    (all_sources (λ r. Splits xs r.node r.choice.address × (nat_eq r.choice.node r.node ≡ false)) able targets xs (λ node.
+    all_failbacks (λ c. Splits xs node c.address × (nat_eq c.node node ≡ false)) node targets xs (λ target apart.
+    all_weaken (Splits xs node) (λ a. may_fail_back a (held node xs) (held target xs) ≡ true → (n : ℕ) → Splits xs node a × (nat_eq target node ≡ false))
+    (λ a split may n. (split, apart))
+    (held node xs) (all_split node xs))))
+    e
+
 pub still_ascends : (a : Address) (n : ℕ) (xs : List Assigned) → Ascend xs → Ascend (sent a n xs)
 still_ascends a n xs h = subst (IsStrictlySortedBy address_cmp) (sym (addresses_sent a n xs)) h
 

@@ -1,3 +1,4 @@
 pub mod Distance
 pub mod Best
 pub mod Placing
+pub mod Tallies

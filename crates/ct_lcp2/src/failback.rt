@@ -1,107 +1,69 @@
 //! Addresses fail back to nodes that held none.
-ghost use Rattle.std.specs.Prelude.{ℕ, ◌≡◌, ◌≤◌, IfOk, OnOk, length, map};
-ghost use Rattle.std.specs.List.Sorted.{IsStrictlySortedBy};
-ghost use Rattle.ct_bytes.specs.Address.{address_cmp};
+ghost use Rattle.std.specs.Prelude.{ℕ, ◌≡◌, ◌≤◌, OnOk, false, length, nat_eq};
 ghost use Rattle.ct_lcp2.specs.Best.{best, best_from};
-ghost use Rattle.ct_lcp2.specs.Distance.{imbalance, sum_to};
-ghost use Rattle.ct_lcp2.specs.Placing.{Ascend, choice_before, failbacks, failbacks_of, failed_back, held, is_behind, next_failback, others, with_source};
+ghost use Rattle.ct_lcp2.specs.Placing.{Ascend, choice_before, failbacks, failbacks_of, failed_back, held, is_behind, next_failback, with_source};
+ghost use Rattle.ct_lcp2.specs.Tallies.{nodes, tallied, tally};
 
 use crate::choice::{Choice, Source};
-use crate::distance::{distance, imbalance, sum_to};
 use crate::placement::Placement;
-use crate::start::held;
-use ct_bytes::address::Address;
+use crate::start::is_this_node;
+use crate::tally::{Tally, all_after, squared, tallies};
 use ct_bytes::memory::NoMemory;
 use ct_frame::frame::Assigned;
 use std::alloc::Global;
 
-/// The sum of squared distances of an address to the others of these.
-#[tactic(auto, unfolding(crate::specs::Distance::sum_to), using(crate::proofs::Standing::others_within))]
-fn sum_to_others(address: Address, here: &[Address]) -> u64
-    requires { length here.now ≤ 256 }
-    ensures { result ≡ sum_to address (others address here.now) }
-{
-    let mut sum = 0;
-    for other in here {
-        if address != *other {
-            let d = u64::from(distance(address, *other));
-            sum += d * d;
-        }
-    }
-    sum
-}
-
-/// That sum for each of these.
-fn sums_to_others(alloc: Global, here: &[Address]) -> Result<Vec<u64>, NoMemory>
-    requires { length here.now ≤ 256 }
-    ensures { IfOk result (λ v. v.items ≡ map (λ a. sum_to a (others a here.now)) here.now) }
-{
-    let mut sums = Vec::with_capacity(alloc, here.len())?;
-    for address in here {
-        sums.push(sum_to_others(*address, here))?;
-    }
-    Ok(sums)
-}
-
-/// The best so far, and the moves from a node that holds the first list to a target that holds the second.
-#[tactic(auto, unfolding(crate::specs::Placing::failbacks_of, crate::specs::Best::best_from, crate::specs::Distance::imbalance), using(crate::proofs::Distances::sum_within, crate::proofs::Distances::imbalance_within))]
+/// The best so far, and the moves from a node to a target.
+#[tactic(auto, unfolding(crate::specs::Placing::failbacks_of, crate::specs::Placing::held, crate::specs::Best::best_from))]
 fn best_failback_to(
-    target: u32,
-    here: &[Address],
-    sums: &[u64],
-    weight: u64,
-    there: &[Address],
+    source: &Tally,
+    target: &Tally,
+    at: &[Assigned],
     best: Option<Choice>,
 ) -> Option<Choice>
-    requires few { length here.now ≤ 256 }
-    requires few_there { length there.now ≤ 256 }
-    requires ascending { IsStrictlySortedBy address_cmp here.now }
-    requires sums { sums.now ≡ map (λ a. sum_to a (others a here.now)) here.now }
-    requires weight { weight ≡ imbalance here.now }
-    ensures { result ≡ best_from choice_before best (failbacks_of target here.now there.now here.now) }
+    requires few { length at.now ≤ 256 }
+    requires ascending { Ascend at.now }
+    requires source { source.now ≡ tally at.now source.now.node }
+    requires target { target.now ≡ tally at.now target.now.node }
+    ensures { result ≡ best_from choice_before best (failbacks_of target.now.node (held source.now.node at.now) (held target.now.node at.now) (held source.now.node at.now)) }
 {
     let mut best = best;
-    let weight_there = imbalance(there);
-    for (i, address) in here.iter().enumerate() {
-        let own = sums[i];
-        let sum = sum_to(*address, there);
-        if sum + weight_there < weight && sum < own {
-            let choice = Choice {
-                sum: weight - own + (sum + weight_there),
-                address: *address,
-                node: target,
-            };
-            best = choice.or_better(best);
+    let weight = source.imbalance;
+    let weight_there = target.imbalance;
+    let sums = source.sums.as_slice();
+    let sums_there = target.sums.as_slice();
+    for (i, x) in at.iter().enumerate() {
+        if is_this_node(source.node, x.node) {
+            let own = sums[i].saturating_sub(squared(x.address, x.address));
+            let sum = sums_there[i];
+            if sum + weight_there < weight && sum < own {
+                let choice = Choice {
+                    sum: weight - own + (sum + weight_there),
+                    address: x.address,
+                    node: target.node,
+                };
+                best = choice.or_better(best);
+            }
         }
     }
     best
 }
 
 /// The best move from a node to another of the targets.
-#[tactic(auto, unfolding(crate::specs::Best::best_from, crate::specs::Placing::failbacks), using(crate::proofs::Standing::held_length, crate::proofs::Standing::held_ascends))]
-fn best_failback(
-    alloc: Global,
-    source: u32,
-    here: &[Address],
-    weight: u64,
-    targets: &[u32],
-    at: &[Assigned],
-) -> Result<Option<Choice>, NoMemory>
+#[tactic(auto, unfolding(crate::specs::Best::best_from, crate::specs::Placing::failbacks))]
+fn best_failback(source: &Tally, targets: &[Tally], at: &[Assigned]) -> Option<Choice>
     requires few { length at.now ≤ 256 }
     requires ascending { Ascend at.now }
-    requires here { here.now ≡ held source at.now }
-    requires weight { weight ≡ imbalance here.now }
-    ensures { IfOk result (λ c. c ≡ best choice_before (failbacks source targets.now at.now)) }
+    requires source { source.now ≡ tally at.now source.now.node }
+    requires targets { targets.now ≡ tallied at.now targets.now }
+    ensures { result ≡ best choice_before (failbacks source.now.node (nodes targets.now) at.now) }
 {
-    let sums = sums_to_others(alloc, here)?;
     let mut best = None;
     for target in targets {
-        if *target != source {
-            let there = held(alloc, *target, at)?;
-            best = best_failback_to(*target, here, &sums, weight, &there, best);
+        if target.node != source.node {
+            best = best_failback_to(source, target, at, best);
         }
     }
-    Ok(best)
+    best
 }
 
 /// Does a node with this imbalance come after the best source so far, whatever its moves are?
@@ -116,53 +78,49 @@ fn is_behind(node: u32, weight: u64, so_far: Option<Source>) -> bool
 }
 
 /// The first of the best source so far and a node, if that has a move.
-#[tactic(auto, using(crate::proofs::Standing::held_length, crate::proofs::Loops::behind))]
+#[tactic(auto, using(crate::proofs::Loops::behind))]
 fn with_source(
-    alloc: Global,
-    node: u32,
-    targets: &[u32],
+    one: &Tally,
+    targets: &[Tally],
     at: &[Assigned],
     so_far: Option<Source>,
-) -> Result<Option<Source>, NoMemory>
+) -> Option<Source>
     requires few { length at.now ≤ 256 }
     requires ascending { Ascend at.now }
-    ensures { IfOk result (λ s. s ≡ with_source node (imbalance (held node at.now)) (best choice_before (failbacks node targets.now at.now)) so_far) }
+    requires one { one.now ≡ tally at.now one.now.node }
+    requires targets { targets.now ≡ tallied at.now targets.now }
+    ensures { result ≡ with_source one.now.node one.now.imbalance (best choice_before (failbacks one.now.node (nodes targets.now) at.now)) so_far }
 {
-    let here = held(alloc, node, at)?;
-    let weight = imbalance(&here);
-    if is_behind(node, weight, so_far) {
-        return Ok(so_far);
+    if is_behind(one.node, one.imbalance, so_far) {
+        return so_far;
     }
-    match best_failback(alloc, node, &here, weight, targets, at)? {
-        None => Ok(so_far),
+    match best_failback(one, targets, at) {
+        None => so_far,
         Some(choice) => {
             let source = Source {
-                imbalance: weight,
-                node,
+                imbalance: one.imbalance,
+                node: one.node,
                 choice,
             };
-            Ok(source.or_better(so_far))
+            source.or_better(so_far)
         }
     }
 }
 
 /// The first source that has a move, and its best move.
 #[tactic(auto, unfolding(crate::specs::Best::best_from, crate::specs::Placing::sources))]
-fn next_failback(
-    alloc: Global,
-    able: &[u32],
-    targets: &[u32],
-    at: &[Assigned],
-) -> Result<Option<Source>, NoMemory>
+fn next_failback(sources: &[Tally], targets: &[Tally], at: &[Assigned]) -> Option<Source>
     requires few { length at.now ≤ 256 }
     requires ascending { Ascend at.now }
-    ensures { IfOk result (λ s. s ≡ next_failback able.now targets.now at.now) }
+    requires sources { sources.now ≡ tallied at.now sources.now }
+    requires targets { targets.now ≡ tallied at.now targets.now }
+    ensures { result ≡ next_failback (nodes sources.now) (nodes targets.now) at.now }
 {
     let mut best = None;
-    for node in able {
-        best = with_source(alloc, *node, targets, at, best)?;
+    for one in sources {
+        best = with_source(one, targets, at, best);
     }
-    Ok(best)
+    best
 }
 
 /// While a source has a move, the best move of the first such source is made.
@@ -177,15 +135,17 @@ pub fn fail_back(
     requires ascending { Ascend placement.old.at }
     ensures { OnOk result (placement.new ≡ failed_back able.now targets.now placement.old) }
 {
+    let mut from = tallies(alloc, able, placement.at.as_slice())?;
+    let mut to = tallies(alloc, targets, placement.at.as_slice())?;
     loop {
-        let Some(source) = next_failback(alloc, able, targets, placement.at.as_slice())? else {
+        let at = placement.at.as_slice();
+        let Some(source) = next_failback(&from, &to, at) else {
             return Ok(());
         };
-        placement.carry_out(
-            alloc,
-            source.choice.address,
-            Some(source.node),
-            source.choice.node,
-        )?;
+        let address = source.choice.address;
+        let target = source.choice.node;
+        from = all_after(from, alloc, address, Some(source.node), target, at)?;
+        to = all_after(to, alloc, address, Some(source.node), target, at)?;
+        placement.carry_out(alloc, address, Some(source.node), target)?;
     }
 }

@@ -7,6 +7,7 @@ mod failback;
 pub mod laws;
 pub mod placement;
 mod start;
+mod tally;
 #[cfg(test)]
 mod tests;
 mod vacant;

@@ -11,7 +11,7 @@ use ct_frame::frame::Assigned;
 use std::alloc::Global;
 
 #[tactic(auto, unfolding(ct_bytes::specs::Words::is_this_node))]
-fn is_this_node(node: u32, at: Option<u32>) -> bool
+pub fn is_this_node(node: u32, at: Option<u32>) -> bool
     ensures { result ≡ is_this_node node at }
 {
     match at {

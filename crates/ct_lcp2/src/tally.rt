@@ -1,0 +1,188 @@
+//! Running sums: what is kept of each node, so that a move changes only what it must.
+ghost use Rattle.std.specs.Prelude.{ℕ, ◌≡◌, ◌≤◌, ◌-◌, ◌∷◌, IfOk, Some, false, length, map};
+ghost use Rattle.ct_bytes.specs.Words.{is_this_node};
+ghost use Rattle.ct_lcp2.specs.Distance.{imbalance, squared, sum_to};
+ghost use Rattle.ct_lcp2.specs.Placing.{Ascend, held, sent};
+
+use crate::distance::{distance, imbalance, sum_to};
+use crate::start::{held, is_this_node};
+use ct_bytes::address::Address;
+use ct_bytes::items::Items;
+use ct_bytes::memory::NoMemory;
+use ct_frame::frame::Assigned;
+use std::alloc::Global;
+
+/// A node, its imbalance, and the sum of squared distances of each placed address to those at the node.
+#[derive(Debug, Drop, PartialEq, Eq)]
+pub struct Tally {
+    pub node: u32,
+    pub imbalance: u64,
+    pub sums: Items<u64>,
+}
+
+/// The square of a distance.
+pub fn squared(a: Address, b: Address) -> u64
+    ensures { result ≡ squared a b }
+{
+    let d = u64::from(distance(a, b));
+    d * d
+}
+
+/// The sum of an address to those at a node.
+#[tactic(auto, unfolding(crate::specs::Placing::held, crate::specs::Distance::sum_to), using(crate::proofs::Distances::sum_within, crate::proofs::Standing::held_length))]
+fn sum_to_held(address: Address, node: u32, at: &[Assigned]) -> u64
+    requires { length at.now ≤ 256 }
+    ensures { result ≡ sum_to address (held node at.now) }
+{
+    let mut sum = 0;
+    for x in at {
+        if is_this_node(node, x.node) {
+            sum += squared(address, x.address);
+        }
+    }
+    sum
+}
+
+/// The sums of all to these addresses.
+fn sums_to(
+    alloc: Global,
+    there: &[Address],
+    at: &[Assigned],
+) -> Result<Vec<u64>, NoMemory>
+    requires { length there.now ≤ 256 }
+    ensures { IfOk result (λ v. v.items ≡ sums_to there.now at.now) }
+{
+    let mut sums = Vec::with_capacity(alloc, at.len())?;
+    for x in at {
+        sums.push(sum_to(x.address, there))?;
+    }
+    Ok(sums)
+}
+
+/// The sums with one address more at the node.
+fn sums_with(
+    alloc: Global,
+    sums: &[u64],
+    node: u32,
+    address: Address,
+    at: &[Assigned],
+) -> Result<Vec<u64>, NoMemory>
+    requires few { length at.now ≤ 256 }
+    requires sums { sums.now ≡ sums_to (held node at.now) at.now }
+    ensures { IfOk result (λ v. v.items ≡ sums_to (address ∷ held node at.now) at.now) }
+{
+    let mut after = Vec::with_capacity(alloc, at.len())?;
+    for (i, x) in at.iter().enumerate() {
+        after.push(squared(x.address, address) + sums[i])?;
+    }
+    Ok(after)
+}
+
+/// The sums less those to one address.
+fn sums_less(
+    alloc: Global,
+    sums: &[u64],
+    node: u32,
+    address: Address,
+    at: &[Assigned],
+) -> Result<Vec<u64>, NoMemory>
+    requires sums { sums.now ≡ sums_to (held node at.now) at.now }
+    ensures { IfOk result (λ v. v.items ≡ sums_less address (held node at.now) at.now) }
+{
+    let mut after = Vec::with_capacity(alloc, at.len())?;
+    for (i, x) in at.iter().enumerate() {
+        after.push(sums[i].saturating_sub(squared(x.address, address)))?;
+    }
+    Ok(after)
+}
+
+ghost use Rattle.ct_lcp2.specs.Tallies.{Stands, sums_less, sums_to, tallied, tally};
+
+impl Tally {
+    #[tactic(auto, using(crate::proofs::Standing::held_length))]
+    fn new(alloc: Global, node: u32, at: &[Assigned]) -> Result<Tally, NoMemory>
+        requires { length at.now ≤ 256 }
+        ensures { IfOk result (λ t. t ≡ tally at.now node) }
+    {
+        let there = held(alloc, node, at)?;
+        let sums = sums_to(alloc, &there, at)?;
+        Ok(Tally {
+            node,
+            imbalance: imbalance(&there),
+            sums: Items::new(sums),
+        })
+    }
+
+    /// What it is once an address has gone from its source to a target.
+    fn after(
+        self,
+        alloc: Global,
+        address: Address,
+        source: Option<u32>,
+        target: u32,
+        at: &[Assigned],
+    ) -> Result<Tally, NoMemory>
+        requires few { length at.now ≤ 256 }
+        requires ascending { Ascend at.now }
+        requires stands { Stands at.now address source }
+        requires apart { is_this_node target source ≡ false }
+        requires now { self ≡ tally at.now self.node }
+        ensures { IfOk result (λ t. t ≡ tally (sent address target at.now) self.node) }
+    {
+        let node = self.node;
+        let weight = self.imbalance;
+        if node == target {
+            let sums = sums_with(alloc, self.sums.as_slice(), node, address, at)?;
+            return Ok(Tally {
+                node,
+                imbalance: sum_to_held(address, node, at) + weight,
+                sums: Items::new(sums),
+            });
+        }
+        if is_this_node(node, source) {
+            let sums = sums_less(alloc, self.sums.as_slice(), node, address, at)?;
+            let own = sum_to_held(address, node, at).saturating_sub(squared(address, address));
+            return Ok(Tally {
+                node,
+                imbalance: weight.saturating_sub(own),
+                sums: Items::new(sums),
+            });
+        }
+        Ok(self)
+    }
+}
+
+/// The tallies of these nodes.
+pub fn tallies(alloc: Global, nodes: &[u32], at: &[Assigned]) -> Result<Vec<Tally>, NoMemory>
+    requires { length at.now ≤ 256 }
+    ensures { IfOk result (λ v. v.items ≡ map (tally at.now) nodes.now) }
+{
+    let mut all = Vec::with_capacity(alloc, nodes.len())?;
+    for node in nodes {
+        all.push(Tally::new(alloc, *node, at)?)?;
+    }
+    Ok(all)
+}
+
+/// What these tallies are once an address has gone from its source to a target.
+pub fn all_after(
+    all: Vec<Tally>,
+    alloc: Global,
+    address: Address,
+    source: Option<u32>,
+    target: u32,
+    at: &[Assigned],
+) -> Result<Vec<Tally>, NoMemory>
+    requires few { length at.now ≤ 256 }
+    requires ascending { Ascend at.now }
+    requires stands { Stands at.now address source }
+    requires apart { is_this_node target source ≡ false }
+    requires now { all.items ≡ tallied at.now all.items }
+    ensures { IfOk result (λ v. v.items ≡ tallied (sent address target at.now) all.items) }
+{
+    let mut after = Vec::with_capacity(alloc, all.len())?;
+    for one in all {
+        after.push(one.after(alloc, address, source, target, at)?)?;
+    }
+    Ok(after)
+}
