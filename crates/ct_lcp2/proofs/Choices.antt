@@ -1,5 +1,5 @@
 -- The first of a list in an order, and what holds of each item of the lists of choices.
-use Rattle.std.proofs.Common.{◌≡◌, ℕ, suc, ◌+◌, ◌<◌, Bool, true, false, nat_eq, List, [], ◌∷◌, ◌++◌, length, get_or, drop, drop-cons, Option, Some, None, refl, sym, ap, ◌∙◌, subst, add-one}
+use Rattle.std.proofs.Common.{◌≡◌, ℕ, ◌+◌, Bool, true, false, nat_eq, List, [], ◌∷◌, ◌++◌, Option, Some, None, refl, subst}
 use Rattle.std.specs.Prelude.{if◌then◌else◌, is_some}
 use Rattle.std.specs.List.{AllByRecursion}
 use Rattle.std.specs.Option.{IfSome}
@@ -95,16 +95,3 @@ all_sources P (n ∷ ns) targets xs h =
     by : (o : Option Choice) → best choice_before (failbacks n targets xs) ≡ o → AllByRecursion P (source_of n (imbalance (held n xs)) o)
     by None e = tt
     by (Some c) e = (holds_of (λ c. P (record { imbalance = imbalance (held n xs); node = n; choice = c })) choice_before (failbacks n targets xs) c (h n) e, tt)
-
--- the places at one node more
-pub places_more : (able : List ℕ) (i : ℕ) (xs : List Assigned) (b new whole : Option Choice) (there : List Address) → i < length able
-    → there ≡ held (get_or able i 0) xs → new ≡ best_from choice_before b (places_at (get_or able i 0) there xs)
-    → best_from choice_before b (places (drop i able) xs) ≡ whole → best_from choice_before new (places (drop (i + 1) able) xs) ≡ whole
-unfolding places
-places_more able i xs b new whole there h e is k =
-    let node = get_or able i 0 in
-    ap (λ l. best_from choice_before new (places l xs)) (ap (λ j. drop j able) (add-one i))
-    ∙ ap (λ c. best_from choice_before c (places (drop (suc i) able) xs)) (is ∙ ap (λ cs. best_from choice_before b (places_at node cs xs)) e)
-    ∙ sym (best_from_append choice_before b (places_at node (held node xs) xs) (places (drop (suc i) able) xs))
-    ∙ ap (λ l. best_from choice_before b (places l xs)) (sym (drop-cons able i 0 h))
-    ∙ k

@@ -1,6 +1,6 @@
 -- One more address, target or node in the loops of failback.
-use Rattle.std.proofs.Common.{◌≡◌, ℕ, zero, suc, ◌+◌, ◌-◌, ◌<◌, ◌≤◌, Bool, true, false, nat_eq, nat_lt, ◌&&◌, List, [], ◌∷◌, ◌++◌, length, get_or, take, drop, drop-cons, add-one, Option, Some, None, refl, sym, ap, ◌∙◌, subst, arith}
-use Rattle.std.specs.Prelude.{if◌then◌else◌, map, not, ◌||◌, ◌==◌}
+use Rattle.std.proofs.Common.{◌≡◌, ℕ, suc, ◌+◌, ◌-◌, ◌<◌, ◌≤◌, Bool, true, false, nat_eq, nat_lt, ◌&&◌, List, ◌∷◌, ◌++◌, length, get_or, take, drop, drop-cons, add-one, Option, Some, None, refl, sym, ap, ◌∙◌, subst, arith}
+use Rattle.std.specs.Prelude.{if◌then◌else◌, not, ◌||◌, ◌==◌, is_some}
 use Rattle.std.specs.List.Sorted.{IsStrictlySortedBy}
 use Rattle.std.proofs.lemmas.List.{take-append-drop}
 use Rattle.std.proofs.lemmas.Bool.{and_right, and_left, and_from, le-ltb, lt-ltb}
@@ -11,14 +11,14 @@ use Rattle.ct_bytes.proofs.Words.{this_node_is}
 use Rattle.ct_frame.specs.declared.frame.Assigned.{Assigned}
 use Rattle.ct_lcp2.specs.Distance.{squared, sum_to, imbalance}
 use Rattle.ct_lcp2.specs.Best.{better, best_from, best}
-use Rattle.ct_lcp2.specs.Placing.{Ascend, held, others, may_fail_back, failbacks_of, failbacks, choice_before, source_before, source_of, sources, with_source, is_behind}
+use Rattle.ct_lcp2.specs.Placing.{Ascend, held, places, places_at, others, may_fail_back, failbacks_of, failbacks, choice_before, source_before, source_of, sources, with_source, is_behind}
 use Rattle.ct_lcp2.specs.declared.choice.Choice.{Choice}
 use Rattle.ct_lcp2.specs.declared.choice.Source.{Source}
 use Rattle.ct_lcp2.proofs.Choices.{best_from_append}
 use Rattle.ct_lcp2.specs.Tallies.{Stands, nodes}
 use Rattle.ct_lcp2.specs.declared.tally.Tally.{Tally}
 use Rattle.ct_lcp2.proofs.Standing.{left_behind, all_held, away_from, held_ascends, others_split, sum_to_insert}
-use Rattle.ct_lcp2.proofs.Tallies.{held_with, at_some}
+use Rattle.ct_lcp2.proofs.Tallies.{blank, held_with, at_some}
 
 -- of an address at a node: its sum to the others there, and what it leaves behind
 module _ (xs : List Assigned) (s i : ℕ) (d : Assigned) (asc : Ascend xs) (within : i < length xs) (is : is_this_node s (get_or xs i d).node ≡ true) where
@@ -26,9 +26,11 @@ module _ (xs : List Assigned) (s i : ℕ) (d : Assigned) (asc : Ascend xs) (with
   here = (get_or xs i d).address
 
   stands_at : Stands xs here (Some s)
-  stands_at =
-      (take i xs, drop (suc i) xs,
-      sym (take-append-drop i xs) ∙ ap (λ l. take i xs ++ l) (drop-cons xs i d within) ∙ ap (λ o. take i xs ++ record { address = here; node = o } ∷ drop (suc i) xs) (this_node_is s (get_or xs i d).node is))
+  stands_at = (
+    take i xs,
+    drop (suc i) xs,
+    sym (take-append-drop i xs) ∙ ap (λ l. take i xs ++ l) (drop-cons xs i d within) ∙ ap (λ o. take i xs ++ record { address = here; node = o } ∷ drop (suc i) xs) (this_node_is s (get_or xs i d).node is),
+  )
 
   split : held s xs ≡ held s (take i xs) ++ here ∷ held s (drop (suc i) xs)
   unfolding stands_at
@@ -131,6 +133,41 @@ target_more source targets i one xs b new whole t h at m is k =
     by : (s : Bool) → nat_eq (one.node) source ≡ s → new ≡ (if s then b else best_from choice_before b moves) → best_from choice_before new rest ≡ best_from choice_before b (if nat_eq (one.node) source then rest else moves ++ rest)
     by true e n = ap (λ c. best_from choice_before c rest) n ∙ sym (ap (λ s. best_from choice_before b (if s then rest else moves ++ rest)) e)
     by false e n = ap (λ c. best_from choice_before c rest) n ∙ sym (best_from_append choice_before b moves rest) ∙ sym (ap (λ s. best_from choice_before b (if s then rest else moves ++ rest)) e)
+
+-- the places at one node more
+pub places_more : (able : List Tally) (i : ℕ) (one : Tally) (xs : List Assigned) (b new whole : Option Choice) → i < length able → one ≡ get_or able i one
+    → new ≡ best_from choice_before b (places_at one.node (held one.node xs) xs) → best_from choice_before b (places (nodes (drop i able)) xs) ≡ whole → best_from choice_before new (places (nodes (drop (i + 1) able)) xs) ≡ whole
+unfolding places
+places_more able i one xs b new whole h at is k =
+    ap (λ j. best_from choice_before new (places (nodes (drop j able)) xs)) (add-one i)
+    ∙ ap (λ c. best_from choice_before c (places (nodes (drop (suc i) able)) xs)) is
+    ∙ sym (best_from_append choice_before b (places_at one.node (held one.node xs) xs) (places (nodes (drop (suc i) able)) xs))
+    ∙ ap (λ l. best_from choice_before b (places (nodes l) xs)) (sym (item_rest able i one h at))
+    ∙ k
+
+-- one address more that may be placed, where it has no node
+pub place_added : (node : ℕ) (there : List Address) (xs : List Assigned) (i : ℕ) (b new whole : Option Choice) (sum : ℕ) (t : Bool) → i < length xs → is_some (get_or xs i blank).node ≡ t → sum ≡ sum_to (get_or xs i blank).address there
+    → new ≡ (if t then b else better choice_before b (record { sum = sum; address = (get_or xs i blank).address; node = node }))
+    → best_from choice_before b (places_at node there (drop i xs)) ≡ whole → best_from choice_before new (places_at node there (drop (i + 1) xs)) ≡ whole
+unfolding places_at best_from
+place_added node there xs i b new whole sum t h e s is k =
+    ap (λ j. best_from choice_before new (places_at node there (drop j xs))) (add-one i)
+    ∙ by t e is
+    ∙ ap (λ l. best_from choice_before b (places_at node there l)) (sym (drop-cons xs i blank h))
+    ∙ k
+  where
+    rest : List Choice
+    rest = places_at node there (drop (suc i) xs)
+
+    place : ℕ → Choice
+    place n = record { sum = n; address = (get_or xs i blank).address; node = node }
+
+    by : (u : Bool) → is_some (get_or xs i blank).node ≡ u → new ≡ (if u then b else better choice_before b (place sum))
+        → best_from choice_before new rest ≡ best_from choice_before b (if is_some (get_or xs i blank).node then rest else place (sum_to (get_or xs i blank).address there) ∷ rest)
+    by true f n = ap (λ c. best_from choice_before c rest) n ∙ sym (ap (λ u. best_from choice_before b (if u then rest else place (sum_to (get_or xs i blank).address there) ∷ rest)) f)
+    by false f n =
+        ap (λ c. best_from choice_before c rest) n ∙ ap (λ m. best_from choice_before (better choice_before b (place m)) rest) s
+        ∙ sym (ap (λ u. best_from choice_before b (if u then rest else place (sum_to (get_or xs i blank).address there) ∷ rest)) f)
 
 source_added : (node weight : ℕ) (o : Option Choice) (b : Option Source) → best_from source_before b (source_of node weight o) ≡ with_source node weight o b
 unfolding best_from

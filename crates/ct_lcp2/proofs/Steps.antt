@@ -11,6 +11,7 @@ use Rattle.ct_frame.specs.declared.frame.Assigned.{Assigned}
 use Rattle.ct_lcp2.specs.Distance.{sum_to, imbalance}
 use Rattle.ct_lcp2.specs.Best.{best, best_from}
 use Rattle.ct_lcp2.specs.Placing.{Ascend, sent, moved, homeless, total, held, others, may_fail_back, failbacks, choice_before, source_before, places, sources, next_place, next_failback, one_placed, one_failed_back, filled, failed_back, repeated, if_some, vacated, targets_of, placement, placed, source_of, addresses, is_able, must_leave, freed, places_at, failbacks_of}
+use Rattle.ct_lcp2.specs.Tallies.{Stands}
 use Rattle.ct_lcp2.specs.declared.choice.Choice.{Choice}
 use Rattle.ct_lcp2.specs.declared.choice.Source.{Source}
 use Rattle.ct_lcp2.specs.declared.placement.Placement.{Placement}
@@ -28,6 +29,23 @@ place_less able xs c e =
     holds_of (λ d. homeless (sent d.address d.node xs) < homeless xs) choice_before (places able xs) c
     (all_places (λ d. homeless (sent d.address d.node xs) < homeless xs) able xs
     (all_weaken (λ x. is_some x.node ≡ false → (n : ℕ) → homeless (sent x.address n xs) < homeless xs) (λ x. is_some x.node ≡ false → (s n : ℕ) → homeless (sent x.address n xs) < homeless xs) (λ x h f s n. h f n) xs (homeless_falls xs)))
+    e
+
+-- each address stands where it stands
+all_stand : (xs : List Assigned) → AllByRecursion (λ x. Stands xs x.address x.node) xs
+all_stand [] = tt
+all_stand (x ∷ xs) = (([], xs, refl), all_weaken (λ y. Stands xs y.address y.node) (λ y. Stands (x ∷ xs) y.address y.node) (λ y h. (x ∷ h.0, h.1, ap (λ ys. x ∷ ys) h.2)) xs (all_stand xs))
+
+no_node : (o : Option ℕ) → is_some o ≡ false → o ≡ None
+no_node None e = refl
+no_node (Some n) e = absurd (cc)
+
+-- the address that is picked has no node
+pub place_stands : (able : List ℕ) (xs : List Assigned) (c : Choice) → next_place able xs ≡ Some c → Stands xs c.address None
+place_stands able xs c e =
+    holds_of (λ d. Stands xs d.address None) choice_before (places able xs) c
+    (all_places (λ d. Stands xs d.address None) able xs
+    (all_weaken (λ x. Stands xs x.address x.node) (λ x. is_some x.node ≡ false → (s n : ℕ) → Stands xs x.address None) (λ x h f s n. subst (Stands xs x.address) (no_node x.node f) h) xs (all_stand xs)))
     e
 
 pub places_end : (able : List ℕ) → Falls (λ p. homeless p.at) (λ p. Unit {0}) (one_placed able)

@@ -1,22 +1,22 @@
 -- Running sums before and after a move.
-use Rattle.std.proofs.Common.{◌≡◌, ℕ, suc, ◌+◌, ◌-◌, ◌*◌, ◌<◌, ◌≤◌, Bool, true, false, nat_eq, List, [], ◌∷◌, ◌++◌, length, get_or, Option, Some, None, Fits, w64, take, drop, drop-cons, add-one, refl, sym, ap, ◌∙◌, subst, arith}
+use Rattle.std.proofs.Common.{◌≡◌, ℕ, suc, ◌+◌, ◌-◌, ◌<◌, ◌≤◌, Bool, true, false, nat_eq, List, [], ◌∷◌, ◌++◌, length, get_or, Option, Some, None, Fits, w64, drop, drop-cons, add-one, refl, sym, ap, ◌∙◌, subst, arith}
 use Rattle.std.specs.Prelude.{if◌then◌else◌, map}
 use Rattle.std.proofs.lemmas.List.{get_or-map}
 use Rattle.std.proofs.lemmas.List.{append_assoc}
-use Rattle.std.specs.List.Sorted.{IsStrictlySortedBy}
 use Rattle.ct_bytes.proofs.AddressOrder.{same_itself}
 use Rattle.ct_bytes.specs.Words.{is_this_node}
-use Rattle.ct_bytes.specs.Address.{address_cmp, same_address}
+use Rattle.ct_bytes.specs.Address.{same_address}
 use Rattle.ct_bytes.specs.declared.address.Address.{Address}
 use Rattle.ct_bytes.specs.declared.address.Address.TheVariants.{V4}
 use Rattle.ct_frame.specs.declared.frame.Assigned.{Assigned}
 use Rattle.ct_lcp2.specs.Distance.{squared, sum_to, imbalance}
-use Rattle.ct_lcp2.specs.Placing.{Ascend, held, next_failback, sent}
+use Rattle.ct_lcp2.specs.Placing.{Ascend, held, next_failback, next_place, sent}
 use Rattle.ct_lcp2.specs.Tallies.{sums_to, sums_less, tally, tallied, nodes, Stands}
+use Rattle.ct_lcp2.specs.declared.choice.Choice.{Choice}
 use Rattle.ct_lcp2.specs.declared.choice.Source.{Source}
 use Rattle.ct_lcp2.specs.declared.tally.Tally.{Tally}
 use Rattle.ct_lcp2.proofs.Distances.{sum_within, imbalance_within, squared_within}
-use Rattle.ct_lcp2.proofs.Standing.{Absent, Away, others_absent, others_split, sum_to_insert, imbalance_insert, held_length, held_append, sent_away, away_from}
+use Rattle.ct_lcp2.proofs.Standing.{Away, sum_to_insert, imbalance_insert, held_length, held_append, sent_away, away_from}
 
 -- ---- who is at a node, before and after an address went
 
@@ -38,6 +38,10 @@ held_without m a o pre post e = held_append m pre (record { address = a; node = 
 pub at_some : (m n : ℕ) (t : Bool) → nat_eq n m ≡ t → is_this_node m (Some n) ≡ t
 unfolding is_this_node
 at_some m n t e = e
+
+pub at_none : (m : ℕ) → is_this_node m None ≡ false
+unfolding is_this_node
+at_none m = refl
 
 pub at_other : (m n : ℕ) → nat_eq m n ≡ false → is_this_node m (Some n) ≡ false
 at_other m n e = at_some m n false (grind arith)
@@ -178,6 +182,10 @@ true_tallies xs at ns ts h e = e ∙ ap (λ ys. map (tally ys) ns) (sym h) ∙ s
 -- what they are after a move are those of the placement after it
 pub next_tallies : (xs at ys : List Assigned) (ns : List ℕ) (ts us : List Tally) (a : Address) (t : ℕ) → ts ≡ map (tally xs) ns → at ≡ xs → us ≡ tallied (sent a t at) ts → ys ≡ sent a t xs → us ≡ map (tally ys) ns
 next_tallies xs at ys ns ts us a t e h is moved = is ∙ ap (tallied (sent a t at)) e ∙ tallied_again xs (sent a t at) ns ∙ ap (λ l. map (tally (sent a t l)) ns) h ∙ ap (λ l. map (tally l) ns) (sym moved)
+
+-- the first place by the tallies is that by the nodes
+pub first_place : (able : List ℕ) (xs at : List Assigned) (ts : List Tally) (o : Option Choice) → at ≡ xs → ts ≡ map (tally xs) able → o ≡ next_place (nodes ts) at → next_place able xs ≡ o
+first_place able xs at ts o h e is = sym (ap (λ l. next_place l xs) (ap nodes e ∙ nodes_tallied xs able)) ∙ ap (next_place (nodes ts)) (sym h) ∙ sym is
 
 -- the first source by the tallies is that by the nodes
 pub first_source : (able targets : List ℕ) (xs at : List Assigned) (f t : List Tally) (o : Option Source) → at ≡ xs → f ≡ map (tally xs) able → t ≡ map (tally xs) targets

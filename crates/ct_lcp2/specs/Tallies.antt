@@ -1,12 +1,12 @@
 -- Running sums: what is kept of each node, so that a move changes only what it must.
-use Rattle.std.specs.Prelude.{◌≡◌, ℕ, ◌-◌, List, [], ◌∷◌, ◌++◌, map, Option}
+use Rattle.std.specs.Prelude.{◌≡◌, ℕ, ◌-◌, List, ◌∷◌, ◌++◌, map, Option}
 use Rattle.ct_bytes.specs.declared.address.Address.{Address}
 use Rattle.ct_frame.specs.declared.frame.Assigned.{Assigned}
 use Rattle.ct_lcp2.specs.Distance.{squared, sum_to, imbalance}
 use Rattle.ct_lcp2.specs.Placing.{held}
 use Rattle.ct_lcp2.specs.declared.tally.Tally.{Tally}
 
--- the sum of each placed address to these addresses
+-- the sum of each address of a placement to these addresses
 abbrev pub sums_to : List Address → List Assigned → List ℕ
 sums_to there xs = map (λ x. sum_to x.address there) xs
 
@@ -14,7 +14,7 @@ sums_to there xs = map (λ x. sum_to x.address there) xs
 abbrev pub sums_less : Address → List Address → List Assigned → List ℕ
 sums_less a there xs = map (λ x. sum_to x.address there - squared x.address a) xs
 
--- a node, its imbalance, and the sum of each placed address to those at the node
+-- a node, its imbalance, and the sum of each address of a placement to those at the node
 abbrev pub tally : List Assigned → ℕ → Tally
 tally xs node = record { node = node; imbalance = imbalance (held node xs); sums = sums_to (held node xs) xs }
 

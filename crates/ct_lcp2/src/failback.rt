@@ -1,5 +1,5 @@
 //! Addresses fail back to nodes that held none.
-ghost use Rattle.std.specs.Prelude.{ℕ, ◌≡◌, ◌≤◌, OnOk, false, length, nat_eq};
+ghost use Rattle.std.specs.Prelude.{◌≡◌, ◌≤◌, OnOk, length};
 ghost use Rattle.ct_lcp2.specs.Best.{best, best_from};
 ghost use Rattle.ct_lcp2.specs.Placing.{Ascend, choice_before, failbacks, failbacks_of, failed_back, held, is_behind, next_failback, with_source};
 ghost use Rattle.ct_lcp2.specs.Tallies.{nodes, tallied, tally};

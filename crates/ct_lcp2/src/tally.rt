@@ -1,8 +1,9 @@
 //! Running sums: what is kept of each node, so that a move changes only what it must.
-ghost use Rattle.std.specs.Prelude.{ℕ, ◌≡◌, ◌≤◌, ◌-◌, ◌∷◌, IfOk, Some, false, length, map};
+ghost use Rattle.std.specs.Prelude.{◌≡◌, ◌≤◌, ◌∷◌, IfOk, false, length, map};
 ghost use Rattle.ct_bytes.specs.Words.{is_this_node};
-ghost use Rattle.ct_lcp2.specs.Distance.{imbalance, squared, sum_to};
+ghost use Rattle.ct_lcp2.specs.Distance.{squared, sum_to};
 ghost use Rattle.ct_lcp2.specs.Placing.{Ascend, held, sent};
+ghost use Rattle.ct_lcp2.specs.Tallies.{Stands, sums_less, sums_to, tallied, tally};
 
 use crate::distance::{distance, imbalance, sum_to};
 use crate::start::{held, is_this_node};
@@ -12,7 +13,7 @@ use ct_bytes::memory::NoMemory;
 use ct_frame::frame::Assigned;
 use std::alloc::Global;
 
-/// A node, its imbalance, and the sum of squared distances of each placed address to those at the node.
+/// A node, its imbalance, and the sum of squared distances of each address of the placement to those at the node.
 #[derive(Debug, Drop, PartialEq, Eq)]
 pub struct Tally {
     pub node: u32,
@@ -44,11 +45,7 @@ fn sum_to_held(address: Address, node: u32, at: &[Assigned]) -> u64
 }
 
 /// The sums of all to these addresses.
-fn sums_to(
-    alloc: Global,
-    there: &[Address],
-    at: &[Assigned],
-) -> Result<Vec<u64>, NoMemory>
+fn sums_to(alloc: Global, there: &[Address], at: &[Assigned]) -> Result<Vec<u64>, NoMemory>
     requires { length there.now ≤ 256 }
     ensures { IfOk result (λ v. v.items ≡ sums_to there.now at.now) }
 {
@@ -95,8 +92,6 @@ fn sums_less(
     }
     Ok(after)
 }
-
-ghost use Rattle.ct_lcp2.specs.Tallies.{Stands, sums_less, sums_to, tallied, tally};
 
 impl Tally {
     #[tactic(auto, using(crate::proofs::Standing::held_length))]

@@ -1,4 +1,4 @@
-use Rattle.std.proofs.Common.{◌≡◌, ◌∙◌, ◌≤◌, length, sym, ap, true, false, get_or, arith}
+use Rattle.std.proofs.Common.{◌∙◌, sym, ap, true, false, get_or, arith}
 use Rattle.ct_lcp2.specs.Best.{better}
 use Rattle.ct_lcp2.specs.Placing.{choice_before, held}
 use Rattle.ct_lcp2.proofs.Distances.{imbalance_within}

@@ -1,4 +1,4 @@
-use Rattle.std.proofs.Common.{◌≡◌, ◌∙◌, sym, ap, subst, ◌<◌, false, nat_eq, arith}
+use Rattle.std.proofs.Common.{◌∙◌, sym, ap, subst, ◌<◌}
 use Rattle.std.specs.List.Sorted.{IsStrictlySortedBy}
 use Rattle.ct_bytes.specs.Address.{address_cmp}
 use Rattle.ct_lcp2.specs.Placing.{addresses, total}

@@ -12,6 +12,12 @@ fail_back-requires-clause-ascending c =
     (sym (c.in_ok-fill.ensures.same ∙ ap (λ p. addresses p.at) c.in_ok-placement.ensures ∙ addresses_begun c.as_slice-able.result.now c.as_slice-at.result.now ∙ ap addresses c.as_slice-at.ensures))
     c.requires.ascending
 
+pub fill-requires-clause-ascending : goal.fill-requires-clause-ascending
+fill-requires-clause-ascending c =
+    subst (IsStrictlySortedBy address_cmp)
+    (sym (ap (λ p. addresses p.at) c.in_ok-placement.ensures ∙ addresses_begun c.as_slice-able.result.now c.as_slice-at.result.now ∙ ap addresses c.as_slice-at.ensures))
+    c.requires.ascending
+
 pub returns : goal.returns
 returns c =
     whole c.args.given.now.able c.as_slice-able.result.now c.args.given.now.at c.as_slice-at.result.now c.deref.result.now c.in_ok-placement.placement c.fill.new.placement c.fail_back.new.placement

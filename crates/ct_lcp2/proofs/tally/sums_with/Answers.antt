@@ -1,4 +1,4 @@
-use Rattle.std.proofs.Common.{◌∙◌, ◌+◌, ◌∷◌, sym, ap, get_or, arith}
+use Rattle.std.proofs.Common.{◌+◌, ◌∷◌, get_or}
 use Rattle.ct_lcp2.specs.Distance.{sum_to}
 use Rattle.ct_lcp2.specs.Placing.{held}
 use Rattle.ct_lcp2.proofs.Tallies.{sum_at, sum_fits, pushed, one_more}
