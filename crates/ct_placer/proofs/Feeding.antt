@@ -39,7 +39,7 @@ long_refused : (g : Given) (line : List ℕ) → 65535 < length line → refusal
 long_refused g line h = ap (λ b. cond b (Some Long) (form_refusal (line_of line) g)) (lt-ltb 65535 (length line) h)
 
 -- it is refused wherever it ends
-too_long : (n : ℕ) (g : Given) (line later : List ℕ) → 65535 < length line → read_from n g line later ≡ ended n g (Some Long)
+pub too_long : (n : ℕ) (g : Given) (line later : List ℕ) → 65535 < length line → read_from n g line later ≡ ended n g (Some Long)
 unfolding read_from
 too_long n g line [] h = ap (λ b. ended n g (cond b (Some Long) None)) (lt-ltb 65535 (length line) h)
 too_long n g line (x ∷ later) h =

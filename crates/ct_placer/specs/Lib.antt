@@ -1,4 +1,5 @@
 pub mod Claims
+pub mod Complete
 pub mod Feeding
 pub mod Input
 pub mod Room
