@@ -1,0 +1,56 @@
+//! A schedule with ample memory: two writes of one record by two nodes, told by the worked rules.
+use crate::schedule::{Summary, schedule_text};
+use ct_bytes::key::Key;
+use ct_bytes::name::DbName;
+use ct_bytes::value::Value;
+use ct_call::table::CallTable;
+use ct_cluster::step::Step;
+use ct_msg::client::ClientOp;
+use ct_msg::config::{Config, DbDecl, DbKind};
+use std::alloc::Global;
+use std::test::Fail;
+
+fn write(alloc: Global, node: u32, value: &[u8]) -> Result<Step, Fail> {
+    Ok(Step::Client {
+        node,
+        op: ClientOp::Write {
+            db: 1,
+            key: Key::new(alloc, b"b")?,
+            value: Value::new(alloc, value)?,
+        },
+    })
+}
+
+#[test]
+fn two_writes(rt: HostRuntime) -> Result<(), Fail> {
+    let alloc = rt.alloc();
+    let table = CallTable::new(alloc);
+    let mut dbs = Vec::new(alloc);
+    dbs.push(DbDecl {
+        name: DbName::new(alloc, b"t")?,
+        kind: DbKind::Volatile,
+    })?;
+    let Ok(config) = Config::new(alloc, 2, dbs, Vec::new(alloc)) else {
+        return Err(Fail::new("no configuration"));
+    };
+    let summary = Summary {
+        net: false,
+        calls: 1,
+        entries: 6,
+    };
+    let mut steps = Vec::new(alloc);
+    steps.push(write(alloc, 0, b"x")?)?;
+    steps.push(write(alloc, 1, b"y")?)?;
+    assert_eq!(rt;
+        schedule_text(alloc, &table, &config, &steps, &summary)?.as_slice(),
+        b"answer 1 written\nframe 1 1 0 1 call t b 1 lock\npending 2 1 write t b\ncluster 2 1 entries 6 frames 1\n".as_slice()
+    );
+    for number in 1..5 {
+        steps.push(Step::Deliver(number))?;
+    }
+    assert_eq!(rt;
+        schedule_text(alloc, &table, &config, &steps, &summary)?.as_slice(),
+        b"answer 1 written\nframe 1 1 0 1 call t b 1 lock\nframe 2 0 0 1 recall t b 0 1 1 lock\nframe 3 0 0 1 give t b 0 x\nframe 4 0 1 1 pass t b 1 0 x\nanswer 2 written\ncluster 2 1 entries 6 frames 4\n".as_slice()
+    );
+    Ok(())
+}
