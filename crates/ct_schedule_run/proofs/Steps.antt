@@ -1,5 +1,5 @@
 -- Steps that are played one after the other are a run, and their text is that of the run.
-use Rattle.std.proofs.Common.{◌≡◌, ◌∙◌, ◌+◌, ◌<◌, ◌++◌, ℕ, zero, suc, Bool, true, false, cond, List, [], ◌∷◌, length, drop, get_or, Result, Ok, Err, refl, sym, ap, ap₂, subst, append_assoc, arith, add-one, drop-cons}
+use Rattle.std.proofs.Common.{◌≡◌, ◌∙◌, ◌+◌, ◌<◌, ◌++◌, ℕ, zero, suc, Bool, true, cond, List, [], ◌∷◌, length, drop, get_or, Result, Ok, Err, refl, sym, ap, ap₂, subst, append_assoc, arith, add-one, drop-cons}
 use Rattle.std.proofs.lemmas.Bool.{and_parts}
 use Rattle.std.specs.List.{flat_map, list_all}
 use Rattle.ct_call.specs.Rules.{Rules}
@@ -13,7 +13,7 @@ use Rattle.ct_cluster.specs.declared.step.StepFault.{StepFault}
 use Rattle.ct_msg.specs.declared.config.Config.{Config}
 use Rattle.ct_tool.specs.Line.{line_text, pending_text}
 use Rattle.ct_schedule_run.specs.Counted.{if_taken, last_frame, step_done, steps_done, with_lines}
-use Rattle.ct_schedule_run.specs.Schedule.{run_text, schedule_text, summary_text, told_run}
+use Rattle.ct_schedule_run.specs.Schedule.{schedule_text, summary_text}
 use Rattle.ct_schedule_run.specs.declared.schedule.Summary.{Summary}
 use Rattle.ct_schedule_run.proofs.Frames.{all_lead}
 
