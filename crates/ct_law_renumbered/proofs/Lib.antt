@@ -1,0 +1,11 @@
+pub mod Parts
+pub mod Messages
+pub mod Nodes
+pub mod Turns
+pub mod Clients
+pub mod Rounds
+pub mod Takeovers
+pub mod Calls
+pub mod Steps
+pub mod Held
+pub mod Runs
