@@ -14,6 +14,7 @@ use Rattle.ct_journal.specs.Runs.{IsRun}
 use Rattle.ct_journal.specs.Schedules.{IsSchedule, Noted, entry_under, has_call, made_at, made_by, none_made, with_made}
 use Rattle.ct_journal.specs.declared.journal.Journal.{Journal}
 use Rattle.ct_journal.specs.declared.journal.JournalEntry.{JournalEntry}
+use Rattle.ct_law_renumbered.proofs.Runs.{journals_renumbered, sends_renumbered}
 use Rattle.ct_law_renumbered.specs.Laws.{JournalsRenumbered, SendsRenumbered}
 use Rattle.ct_law_renumbered.specs.Renumbered.{node_under}
 use Rattle.ct_law_scheduled.proofs.Carrying.{Rising, between}
@@ -190,5 +191,5 @@ module _ (sends : SendsRenumbered) (renumbers : JournalsRenumbered) (c : Config)
     });
   }
 
-pub in_order_is_scheduled : SendsRenumbered → JournalsRenumbered → InOrderIsScheduled
-in_order_is_scheduled sends renumbers c rules js runs o = scheduled sends renumbers c rules js runs o
+pub in_order_is_scheduled : InOrderIsScheduled
+in_order_is_scheduled c rules js runs o = scheduled sends_renumbered journals_renumbered c rules js runs o
