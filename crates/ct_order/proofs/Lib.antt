@@ -1,0 +1,7 @@
+pub mod Answering
+pub mod Bridging
+pub mod Counting
+pub mod Lettering
+pub mod Meeting
+pub mod Sameness
+pub mod Waiting

@@ -1,0 +1,11 @@
+use Rattle.std.proofs.Common.{◌≡◌, ◌<◌, ℕ, length, map}
+use Rattle.ct_journal.specs.Order.{entries_of}
+use Rattle.ct_order.specs.Demands.{AreWaited, demands_at}
+use Rattle.ct_order.specs.Letters.{letters_of}
+use Rattle.ct_order.proofs.demands.all_demands.Given as goal
+
+abbrev pub invariant-loop-node : goal.invariant-loop-node
+invariant-loop-node l = record {
+  count : length l.all.items ≡ l.node;
+  each : (n : ℕ) → n < l.node → AreWaited n (entries_of l.journals n) (map (letters_of n) l.journals) (demands_at l.all.items n);
+}
