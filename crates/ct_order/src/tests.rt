@@ -79,73 +79,50 @@ fn journal(alloc: Global, node: u32, given: &[Given]) -> Result<Journal, NoMemor
     })
 }
 
+// What is answered of the journals of two nodes.
+fn answer(alloc: Global, first: &[Given], second: &[Given]) -> Result<Option<u64>, NoMemory> {
+    let mut journals = Vec::new(alloc);
+    journals.push(journal(alloc, 0, first)?)?;
+    journals.push(journal(alloc, 1, second)?)?;
+    in_order(alloc, journals.as_slice())
+}
+
 #[test]
-fn journals_are_in_order(rt: HostRuntime) -> Result<(), Fail> {
-    let cases: [(&[&[Given]], Option<u64>); 9] = [
-        (&[], Some(0)),
-        // Two clients write the same record.
-        (
-            &[
-                &[
-                    Given::Call(1, &[]),
-                    Given::Came(1, 1, &[(0, 2)]),
-                    Given::Came(0, 2, &[(0, 3)]),
-                    Given::Came(0, 3, &[(1, 4)]),
-                ],
-                &[Given::Call(1, &[(0, 1)]), Given::Came(0, 4, &[])],
-            ],
-            Some(0),
-        ),
-        // One of two messages does not arrive.
-        (
-            &[
-                &[Given::Call(1, &[(1, 1), (1, 2)])],
-                &[Given::Came(0, 1, &[])],
-            ],
-            Some(1),
-        ),
-        // The second arrives first.
-        (
-            &[
-                &[Given::Call(1, &[(1, 1), (1, 2)])],
-                &[Given::Came(0, 2, &[]), Given::Came(0, 1, &[])],
-            ],
-            None,
-        ),
-        // Each arrives before it is sent.
-        (
-            &[
-                &[Given::Came(1, 1, &[(1, 2)])],
-                &[Given::Came(0, 2, &[(0, 1)])],
-            ],
-            None,
-        ),
-        // Tickets 2 and 3, in the order of the nodes and against it.
-        (
-            &[
-                &[Given::Round(3, &[0, 1], &[])],
-                &[Given::Round(2, &[1], &[])],
-            ],
-            Some(0),
-        ),
-        (
-            &[
-                &[Given::Round(2, &[0, 1], &[])],
-                &[Given::Round(2, &[1], &[])],
-            ],
-            None,
-        ),
-        // A number of a call twice, and a retry.
-        (&[&[Given::Call(1, &[]), Given::Call(1, &[])]], None),
-        (&[&[Given::Retry]], None),
+fn two_clients_write_the_same_record(rt: HostRuntime) -> Result<(), Fail> {
+    let first = [
+        Given::Call(1, &[]),
+        Given::Came(1, 1, &[(0, 2)]),
+        Given::Came(0, 2, &[(0, 3)]),
+        Given::Came(0, 3, &[(1, 4)]),
     ];
-    for (number, (runs, want)) in cases.iter().enumerate() {
-        let mut journals = Vec::new(rt.alloc());
-        for (node, given) in runs.iter().enumerate() {
-            journals.push(journal(rt.alloc(), node as u32, given)?)?;
-        }
-        let got = in_order(rt.alloc(), journals.as_slice())?;
-        assert_eq!(rt; got, *want, "case {number}");
-    }
+    let second = [Given::Call(1, &[(0, 1)]), Given::Came(0, 4, &[])];
+    assert_eq!(rt; answer(rt.alloc(), &first, &second)?, Some(0));
+    assert_eq!(rt; answer(rt.alloc(), &second, &first)?, None);
+    Ok(())
+}
+
+#[test]
+fn messages_arrive_as_they_were_sent(rt: HostRuntime) -> Result<(), Fail> {
+    let two = [Given::Call(1, &[(1, 1), (1, 2)])];
+    let one = [Given::Came(0, 1, &[])];
+    let turned = [Given::Came(0, 2, &[]), Given::Came(0, 1, &[])];
+    assert_eq!(rt; answer(rt.alloc(), &two, &one)?, Some(1));
+    assert_eq!(rt; answer(rt.alloc(), &two, &turned)?, None);
+    let early = [Given::Came(1, 1, &[(1, 2)])];
+    let late = [Given::Came(0, 2, &[(0, 1)])];
+    assert_eq!(rt; answer(rt.alloc(), &early, &late)?, None);
+    Ok(())
+}
+
+#[test]
+fn tickets_and_calls_rise(rt: HostRuntime) -> Result<(), Fail> {
+    let third = [Given::Round(3, &[0, 1], &[])];
+    let second = [Given::Round(2, &[1], &[])];
+    let twice = [Given::Call(1, &[]), Given::Call(1, &[])];
+    let retry = [Given::Retry];
+    assert_eq!(rt; answer(rt.alloc(), &third, &second)?, Some(0));
+    assert_eq!(rt; answer(rt.alloc(), &second, &third)?, None);
+    assert_eq!(rt; answer(rt.alloc(), &twice, &[])?, None);
+    assert_eq!(rt; answer(rt.alloc(), &retry, &[])?, None);
     Ok(())
 }
