@@ -38,33 +38,38 @@ fn sends(alloc: Global, node: u32, sent: &[(u32, u64)]) -> Result<Items<Out>, No
     Ok(Items::new(outs))
 }
 
-fn entry(alloc: Global, node: u32, given: Given) -> Result<JournalEntry, NoMemory> {
+fn event(alloc: Global, node: u32, given: Given) -> Result<Event, NoMemory> {
     match given {
-        Given::Call(call, sent) => Ok(JournalEntry {
-            event: Event::Client {
-                call,
-                op: ClientOp::Commit {
-                    db: 1,
-                    writes: Items::empty(alloc),
-                },
+        Given::Call(call, _) => Ok(Event::Client {
+            call,
+            op: ClientOp::Commit {
+                db: 1,
+                writes: Items::empty(alloc),
             },
-            outs: sends(alloc, node, sent)?,
         }),
-        Given::Came(sender, number, sent) => Ok(JournalEntry {
-            event: Event::Arrive(frame(sender, node, number)),
-            outs: sends(alloc, node, sent)?,
-        }),
-        Given::Round(ticket, members, sent) => Ok(JournalEntry {
-            event: Event::BeginRound {
-                ticket,
-                members: Items::new(Vec::from_slice(alloc, members)?),
-            },
-            outs: sends(alloc, node, sent)?,
-        }),
-        Given::Retry => Ok(JournalEntry {
-            event: Event::Retry,
-            outs: Items::empty(alloc),
-        }),
+        Given::Came(sender, number, _) => Ok(Event::Arrive(frame(sender, node, number))),
+        Given::Round(ticket, members, _) => {
+            let members = Items::new(Vec::from_slice(alloc, members)?);
+            Ok(Event::BeginRound { ticket, members })
+        }
+        Given::Retry => Ok(Event::Retry),
+    }
+}
+
+fn sent(given: Given) -> &'static [(u32, u64)] {
+    match given {
+        Given::Call(_, sent) => sent,
+        Given::Came(_, _, sent) => sent,
+        Given::Round(_, _, sent) => sent,
+        Given::Retry => &[],
+    }
+}
+
+fn entry(alloc: Global, node: u32, given: Given) -> Result<JournalEntry, NoMemory> {
+    let outs = sends(alloc, node, sent(given))?;
+    match event(alloc, node, given) {
+        Ok(event) => Ok(JournalEntry { event, outs }),
+        Err(NoMemory) => Err(NoMemory),
     }
 }
 
