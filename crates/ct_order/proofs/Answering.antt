@@ -6,7 +6,7 @@ use Rattle.ct_frame.specs.Fields.{ascends}
 use Rattle.ct_journal.specs.Order.{AreInOrder, all_entries, count_arrived, entries_of, is_arrival, numbers_of_calls, or_no_entries}
 use Rattle.ct_journal.specs.declared.journal.Journal.{Journal}
 use Rattle.ct_journal.specs.declared.journal.JournalEntry.{JournalEntry}
-use Rattle.ct_order.specs.Order.{AllStand, calls_rise, left_over, tally_of}
+use Rattle.ct_order.specs.Order.{AllStand, IsOrderOf, StandBy, calls_rise, left_over, tally_of}
 
 all_rise : (js : List Journal) → ((n : ℕ) → ascends nat_lt (numbers_of_calls (entries_of js n)) ≡ true) → list_all calls_rise js ≡ true
 unfolding entries_of or_no_entries
@@ -35,10 +35,10 @@ pub not_rising : (js : List Journal) → list_all calls_rise js ≡ false → Ar
 not_rising js e a = let h = all_rise js a.calls in cc
 
 pub not_standing : (js : List Journal) → (AllStand js → ⊥) → AreInOrder js → ⊥
-not_standing js none a = none (record { order = a.order; end = a.end; stand = a.stand; whole = a.whole })
+not_standing js none a = none (record { order = a.order; by = record { end = a.end; stand = a.stand; whole = a.whole } })
 
-pub in_order : (js : List Journal) (count : ℕ) → (tally_of (all_entries js)).all < 2 ^ 61 → list_all calls_rise js ≡ true → AllStand js → count ≡ (tally_of (all_entries js)).sent - (tally_of (all_entries js)).arrived → AreInOrder js × (count ≡ left_over js)
-in_order js count l rise a is = (
-  record { order = a.order; end = a.end; stand = a.stand; whole = a.whole; calls = rise_all js rise; few = omega arith },
-  let few = few_arrive (all_entries js) in omega arith,
-)
+pub is_order : (js : List Journal) (ns : List ℕ) → (tally_of (all_entries js)).all < 2 ^ 61 → list_all calls_rise js ≡ true → StandBy js ns → IsOrderOf js ns
+is_order js ns l rise a = record { in_order = record { order = ns; end = a.end; stand = a.stand; whole = a.whole; calls = rise_all js rise; few = omega arith }; same = refl }
+
+pub is_answer : (js : List Journal) (count : ℕ) → AreInOrder js → count ≡ (tally_of (all_entries js)).sent - (tally_of (all_entries js)).arrived → AreInOrder js × (count ≡ left_over js)
+is_answer js count a is = (a, let l = a.few in let few = few_arrive (all_entries js) in omega arith)

@@ -1,5 +1,5 @@
 -- Lists that meet the demands are those in which each entry may stand.
-use Rattle.std.proofs.Common.{◌≡◌, ℕ, zero, suc, ◌+◌, ◌<◌, ◌≤◌, ⊎_elim, List, [], ◌∷◌, ◌++◌, length, map, Option, Some, Bool, IsTrue, ◌↔◌, arith, refl, sym, ap, ◌∙◌, subst}
+use Rattle.std.proofs.Common.{◌≡◌, ℕ, zero, suc, ◌+◌, ◌<◌, ◌≤◌, ⊎_elim, List, [], ◌∷◌, ◌++◌, length, map, Option, Some, arith, refl, sym, ap, ◌∙◌, subst}
 use Rattle.std.proofs.lemmas.Bool.{cases_lt}
 use Rattle.std.specs.Prelude.{slice_get}
 use Rattle.ct_journal.proofs.Ends.{any_way_ends}
@@ -10,7 +10,7 @@ use Rattle.ct_journal.specs.declared.journal.JournalEntry.{JournalEntry}
 use Rattle.ct_order.proofs.Waiting.{IsDemand, left_first, waited_at, waited_count}
 use Rattle.ct_order.specs.Demands.{AllHeld, AllWaited, AreWaited, Ends, HasAll, IsHeld, IsMet, Meets, demands_at, front_with, next_demand, none_stands, or_free}
 use Rattle.ct_order.specs.Letters.{letters_of}
-use Rattle.ct_order.specs.Order.{AllStand}
+use Rattle.ct_order.specs.Order.{AllStand, StandBy}
 use Rattle.ct_order.specs.declared.demand.Demand.{Demand}
 
 none_past : (js : List Journal) (n : ℕ) → length js ≤ n → entries_of js n ≡ []
@@ -86,14 +86,17 @@ opens : (js : List Journal) (all : List (List Demand)) → AllWaited js all → 
 unfolding first_front
 opens js all w = ap (λ (k : ℕ). none_stands k) w.count
 
-ends_stand : (js : List Journal) (all : List (List Demand)) (g : Front) → AllWaited js all → (e : Ends all g) → Stand js (first_front js) e.leads.order g
-ends_stand js all g w e = meets_stand js all w e.leads.order (first_front js) g (subst (λ (f : Front). Meets all f e.leads.order g) (opens js all w) e.leads.meets)
+ends_stand : (js : List Journal) (all : List (List Demand)) (g : Front) (order : List ℕ) → AllWaited js all → Ends all g order → Stand js (first_front js) order g
+ends_stand js all g order w e =
+    subst (λ (ns : List ℕ). Stand js (first_front js) ns g) (sym e.noted) (meets_stand js all w e.leads.order (first_front js) g (subst (λ (f : Front). Meets all f e.leads.order g) (opens js all w) e.leads.meets))
 
-pub stands : (js : List Journal) (all : List (List Demand)) (g : Front) → AllWaited js all → Ends all g → HasAll all g → AllStand js
-stands js all g w e h = record { order = e.leads.order; end = g; stand = ends_stand js all g w e; whole = λ n. h n ∙ same_count js all w n }
+-- where the test of the front finds all entries, they stand in the order in which they were put
+pub stands : (js : List Journal) (all : List (List Demand)) (g : Front) (order : List ℕ) → AllWaited js all → Ends all g order → HasAll all g → StandBy js order
+stands js all g order w e h = record { end = g; stand = ends_stand js all g order w e; whole = λ n. h n ∙ same_count js all w n }
 
-pub stands_only : (js : List Journal) (all : List (List Demand)) (g : Front) → AllWaited js all → Ends all g → AllStand js → HasAll all g
-stands_only js all g w e a = λ n. (any_way_ends js a.order e.leads.order a.end g a.stand a.whole (ends_stand js all g w e) (held_stuck js all g w e.held) n ∙ sym (same_count js all w n))
+-- where it does not, they stand in none
+pub stand_not : (js : List Journal) (all : List (List Demand)) (g : Front) (order : List ℕ) → AllWaited js all → Ends all g order → (HasAll all g → ⊥) → AllStand js → ⊥
+stand_not js all g order w e not a = not (λ n. (any_way_ends js a.order order a.by.end g a.by.stand a.by.whole (ends_stand js all g order w e) (held_stuck js all g w e.held) n ∙ sym (same_count js all w n)))
 
 got_last : (all : List (List Demand)) (ds : List Demand) → slice_get (all ++ ds ∷ []) (length all) ≡ Some ds
 got_last [] ds = refl
@@ -115,7 +118,3 @@ waited_more js all ds k count below here n l = ⊎_elim
     subst (λ (o : Option (List Demand)). AreWaited n (entries_of js n) (map (letters_of n) js) (or_free o)) (sym (subst (λ (i : ℕ). slice_get (all ++ ds ∷ []) i ≡ Some ds) same (got_last all ds)))
     (subst (λ (i : ℕ). AreWaited i (entries_of js i) (map (letters_of i) js) ds) same_k here)))
     (cases_lt n k)
-
--- the test of the front tells whether all entries stand
-pub told_by_front : (js : List Journal) (all : List (List Demand)) (g : Front) (r : Bool) → AllWaited js all → Ends all g → (IsTrue r ↔ HasAll all g) → IsTrue r ↔ AllStand js
-told_by_front js all g r w e h = (λ t. stands js all g w e (h.0 t), λ a. h.1 (stands_only js all g w e a))

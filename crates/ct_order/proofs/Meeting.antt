@@ -1,11 +1,11 @@
 -- Fronts that meet demands, one after the other.
 use Rattle.std.proofs.Common.{◌≡◌, ℕ, zero, suc, ◌+◌, ◌<◌, ◌≤◌, ⊎_elim, Bool, true, false, List, [], ◌∷◌, ◌++◌, length, set, None, Some, arith, below_more, refl, sym, ap, ◌∙◌, subst}
 use Rattle.std.proofs.lemmas.Bool.{cases_lt}
-use Rattle.std.proofs.lemmas.List.{length-set}
+use Rattle.std.proofs.lemmas.List.{append-nil, append_assoc, length-set}
 use Rattle.std.specs.Prelude.{replicate, slice_get}
 use Rattle.ct_rules_node.specs.Node.{or_zero}
 use Rattle.ct_journal.specs.Order.{Front, taken_of}
-use Rattle.ct_order.specs.Demands.{Advances, HasAll, IsHeld, IsMet, Leads, Meets, Passes, demands_at, front_with, left, next_demand, or_free}
+use Rattle.ct_order.specs.Demands.{Advances, AllHeld, Ends, HasAll, IsHeld, IsMet, Leads, Meets, Passes, demands_at, front_with, left, next_demand, none_stands, or_free}
 use Rattle.ct_order.specs.declared.demand.Demand.{Demand}
 
 -- ---- one after the other
@@ -15,7 +15,8 @@ unfolding Meets
 leads_none all f = record { order = []; meets = refl }
 
 pub leads_same : (all : List (List Demand)) (f g : Front) → f ≡ g → Leads all f g
-leads_same all f g e = subst (λ (h : Front). Leads all f h) e (leads_none all f)
+unfolding Meets
+leads_same all f g e = record { order = []; meets = e }
 
 meets_more : (all : List (List Demand)) (ns : List ℕ) (n : ℕ) (d : Demand) (f g : Front) → Meets all f ns g → next_demand all g n ≡ Some d → IsMet g d → Meets all f (ns ++ n ∷ []) (front_with n d g)
 unfolding Meets
@@ -24,7 +25,7 @@ meets_more all [] n d f g m next met =
 meets_more all (k ∷ ns) n d f g m next met = (m.0, m.1, m.2, meets_more all ns n d (front_with k m.0 f) g m.3 next met)
 
 pub leads_more : (all : List (List Demand)) (n : ℕ) (f g h : Front) → Leads all f g → Advances all n true g h → Leads all f h
-leads_more all n f g h l a = subst (λ (k : Front). Leads all f k) (sym a.3) (record { order = l.order ++ n ∷ []; meets = meets_more all l.order n a.0 f g l.meets a.1 a.2 })
+leads_more all n f g h l a = record { order = l.order ++ n ∷ []; meets = subst (λ (k : Front). Meets all f (l.order ++ n ∷ []) k) (sym a.3) (meets_more all l.order n a.0 f g l.meets a.1 a.2) }
 
 meets_then : (all : List (List Demand)) (ns ms : List ℕ) (f g h : Front) → Meets all f ns g → Meets all g ms h → Meets all f (ns ++ ms) h
 unfolding Meets
@@ -106,41 +107,78 @@ not_taken all f n other has = other (has n)
 -- ---- one node after the other
 
 -- once so many nodes had their turn; were there any entries?
-pub record Passing (all : List (List Demand)) (k : ℕ) (some : Bool) (f g : Front) : Type 0 where
+pub record Passing (all : List (List Demand)) (k : ℕ) (some : Bool) (f : Front) (before : List ℕ) (g : Front) (now : List ℕ) : Type 0 where
   pub leads : Leads all f g
+  pub noted : now ≡ before ++ leads.order
   pub count : length g.taken ≡ length f.taken
   pub same : some ≡ false → g ≡ f
   pub held : some ≡ false → (n : ℕ) → n < k → IsHeld all g n
   pub fewer : some ≡ true → left all g.taken < left all f.taken
 
-pub passing_first : (all : List (List Demand)) (f : Front) → Passing all 0 false f f
-passing_first all f = record { leads = leads_none all f; count = refl; same = λ e. refl; held = λ e n l. absurd (omega arith); fewer = λ e. absurd (cc) }
+pub passing_first : (all : List (List Demand)) (f : Front) (before : List ℕ) → Passing all 0 false f before f before
+unfolding leads_none
+passing_first all f before = record { leads = leads_none all f; noted = sym (append-nil before); count = refl; same = λ e. refl; held = λ e n l. absurd (omega arith); fewer = λ e. absurd (cc) }
 
-no_more : (all : List (List Demand)) (k : ℕ) (some : Bool) (f g : Front) → Passing all k some f g → left all g.taken ≤ left all f.taken
-no_more all k true f g p = let l = p.fewer refl in omega arith
-no_more all k false f g p = subst (λ (h : Front). left all g.taken ≤ left all h.taken) (p.same refl) (omega arith)
+no_more : (all : List (List Demand)) (k : ℕ) (some : Bool) (f : Front) (before : List ℕ) (g : Front) (now : List ℕ) → Passing all k some f before g now → left all g.taken ≤ left all f.taken
+no_more all k true f before g now p = let l = p.fewer refl in omega arith
+no_more all k false f before g now p = subst (λ (h : Front). left all g.taken ≤ left all h.taken) (p.same refl) (omega arith)
 
-pub passing_put : (all : List (List Demand)) (n : ℕ) (some b : Bool) (f g h : Front) → Passing all n some f g → n < length g.taken → Advances all n true g h → length h.taken ≡ length g.taken → b ≡ true → Passing all (n + 1) b f h
-passing_put all n some b f g h p l a size is = record {
+pub passing_put : (all : List (List Demand)) (n : ℕ) (some b : Bool) (f : Front) (before : List ℕ) (g : Front) (now : List ℕ) (h : Front) (later : List ℕ) → Passing all n some f before g now → n < length g.taken → Advances all n true g h → length h.taken ≡ length g.taken → later ≡ now ++ n ∷ [] → b ≡ true →
+    Passing all (n + 1) b f before h later
+unfolding leads_more
+passing_put all n some b f before g now h later p l a size more is = record {
   leads = leads_more all n f g h p.leads a;
+  noted = more ∙ ap (λ (xs : List ℕ). xs ++ n ∷ []) p.noted ∙ append_assoc before p.leads.order (n ∷ []);
   count = size ∙ p.count;
   same = λ e. absurd (cc);
   held = λ e. absurd (cc);
-  fewer = λ e. (let x = fewer all n g h l a in let y = no_more all n some f g p in omega arith);
+  fewer = λ e. (let x = fewer all n g h l a in let y = no_more all n some f before g now p in omega arith);
 }
 
-passing_on : (all : List (List Demand)) (n : ℕ) (some : Bool) (f g : Front) → Passing all n some f g → IsHeld all g n → Passing all (n + 1) some f g
-passing_on all n some f g p here = record { leads = p.leads; count = p.count; same = p.same; held = λ e k l. held_more all g n (p.held e) here k l; fewer = p.fewer }
+passing_on : (all : List (List Demand)) (n : ℕ) (some : Bool) (f : Front) (before : List ℕ) (g : Front) (now : List ℕ) → Passing all n some f before g now → IsHeld all g n → Passing all (n + 1) some f before g now
+passing_on all n some f before g now p here = record { leads = p.leads; noted = p.noted; count = p.count; same = p.same; held = λ e k l. held_more all g n (p.held e) here k l; fewer = p.fewer }
 
-pub passing_still : (all : List (List Demand)) (n : ℕ) (some b : Bool) (f g h : Front) → Passing all n some f g → Advances all n false g h → b ≡ some → Passing all (n + 1) b f h
-passing_still all n some b f g h p a is =
-    subst (λ (c : Bool). Passing all (n + 1) c f h) (sym is) (subst (λ (i : Front). Passing all (n + 1) some f i) (sym a.0) (passing_on all n some f g p a.1))
+pub passing_still : (all : List (List Demand)) (n : ℕ) (some b : Bool) (f : Front) (before : List ℕ) (g : Front) (now : List ℕ) (h : Front) (later : List ℕ) → Passing all n some f before g now → Advances all n false g h → later ≡ now → b ≡ some → Passing all (n + 1) b f before h later
+passing_still all n some b f before g now h later p a same is =
+    subst (λ (c : Bool). Passing all (n + 1) c f before h later) (sym is)
+    (subst (λ (i : Front). Passing all (n + 1) some f before i later) (sym a.0) (subst (λ (xs : List ℕ). Passing all (n + 1) some f before g xs) (sym same) (passing_on all n some f before g now p a.1)))
 
-pub passing_end : (all : List (List Demand)) (k : ℕ) (some : Bool) (f g : Front) → length all ≤ k → Passing all k some f g → Passes all some f g
-passing_end all k some f g le p = record {
+pub passing_end : (all : List (List Demand)) (k : ℕ) (some : Bool) (f : Front) (before : List ℕ) (g : Front) (now : List ℕ) → length all ≤ k → Passing all k some f before g now → Passes all some f before g now
+passing_end all k some f before g now le p = record {
   leads = p.leads;
+  noted = p.noted;
   count = p.count;
   same = p.same;
   held = λ e n. ⊎_elim (λ (l : n < k). p.held e n l) (λ (l : k ≤ n). held_past all g n (omega arith)) (cases_lt n k);
   fewer = p.fewer;
 }
+
+-- ---- pass after pass
+
+-- once some passes were made; was an entry put in the last one?
+pub record Sweeping (all : List (List Demand)) (some : Bool) (g : Front) (now : List ℕ) : Type 0 where
+  pub leads : Leads all (none_stands (length all)) g
+  pub noted : now ≡ leads.order
+  pub count : length g.taken ≡ length all
+  pub held : some ≡ false → AllHeld all g
+
+pub sweeping_first : (all : List (List Demand)) (g : Front) (now : List ℕ) → g ≡ none_stands (length all) → now ≡ [] → Sweeping all true g now
+unfolding leads_same
+sweeping_first all g now is none = record {
+  leads = leads_same all (none_stands (length all)) g (sym is);
+  noted = none;
+  count = ap (λ (f : Front). length f.taken) is ∙ none_count (length all);
+  held = λ e. absurd (cc);
+}
+
+pub sweeping_more : (all : List (List Demand)) (was some : Bool) (g : Front) (now : List ℕ) (h : Front) (later : List ℕ) → Sweeping all was g now → Passes all some g now h later → Sweeping all some h later
+unfolding leads_then
+sweeping_more all was some g now h later s p = record {
+  leads = leads_then all (none_stands (length all)) g h s.leads p.leads;
+  noted = p.noted ∙ ap (λ (xs : List ℕ). xs ++ p.leads.order) s.noted;
+  count = p.count ∙ s.count;
+  held = p.held;
+}
+
+pub sweeping_end : (all : List (List Demand)) (g : Front) (now : List ℕ) → Sweeping all false g now → Ends all g now
+sweeping_end all g now s = record { leads = s.leads; noted = s.noted; count = s.count; held = s.held refl }

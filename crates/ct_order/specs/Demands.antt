@@ -1,5 +1,5 @@
 -- What entries wait for before they may stand in the list of all entries, and lists that meet it.
-use Rattle.std.specs.Prelude.{◌≡◌, ℕ, ◌+◌, ◌≤◌, ◌<◌, ◌-◌, ◌⊎◌, Bool, true, false, if◌then◌else◌, List, [], ◌∷◌, length, map, replicate, Option, None, Some, slice_get, slice_set}
+use Rattle.std.specs.Prelude.{◌≡◌, ℕ, ◌+◌, ◌≤◌, ◌<◌, ◌-◌, ◌⊎◌, Bool, true, false, if◌then◌else◌, List, [], ◌∷◌, ◌++◌, length, map, replicate, Option, None, Some, slice_get, slice_set}
 use Rattle.ct_frame.specs.declared.event.Event.{Event}
 use Rattle.ct_frame.specs.declared.event.Event.TheVariants as event
 use Rattle.ct_frame.specs.declared.frame.Frame.{Frame}
@@ -106,17 +106,19 @@ abbrev pub Advances : List (List Demand) → ℕ → Bool → Front → Front �
 Advances all n true f g = (d : Demand) × (next_demand all f n ≡ Some d) × (IsMet f d) × (g ≡ front_with n d f)
 Advances all n false f g = (g ≡ f) × IsHeld all f n
 
--- each node has its next entry put where that may stand; were there any?
-pub record Passes (all : List (List Demand)) (some : Bool) (f g : Front) : Type 0 where
+-- each node has its next entry put where that may stand, and is noted behind these; were there any?
+pub record Passes (all : List (List Demand)) (some : Bool) (f : Front) (before : List ℕ) (g : Front) (now : List ℕ) : Type 0 where
   pub leads : Leads all f g
+  pub noted : now ≡ before ++ leads.order
   pub count : length g.taken ≡ length f.taken
   pub same : some ≡ false → g ≡ f
   pub held : some ≡ false → AllHeld all g
   pub fewer : some ≡ true → left all g.taken < left all f.taken
 
--- all that may stand is put
-pub record Ends (all : List (List Demand)) (g : Front) : Type 0 where
+-- all that may stand is put, and the nodes are noted in this order
+pub record Ends (all : List (List Demand)) (g : Front) (order : List ℕ) : Type 0 where
   pub leads : Leads all (none_stands (length all)) g
+  pub noted : order ≡ leads.order
   pub count : length g.taken ≡ length all
   pub held : AllHeld all g
 

@@ -7,12 +7,16 @@ use Rattle.ct_journal.specs.declared.journal.Journal.{Journal}
 use Rattle.ct_journal.specs.declared.journal.JournalEntry.{JournalEntry}
 use Rattle.ct_order.specs.declared.counts.Tally.{Tally}
 
--- all entries stand in one list, each where it may
-pub record AllStand (js : List Journal) : Type 0 where
-  pub order : List ℕ
+-- all entries of these nodes, in this order, stand in one list, each where it may
+pub record StandBy (js : List Journal) (order : List ℕ) : Type 0 where
   pub end : Front
   pub stand : Stand js (first_front js) order end
   pub whole : IsWhole js end
+
+-- all entries stand in one list, each where it may
+pub record AllStand (js : List Journal) : Type 0 where
+  pub order : List ℕ
+  pub by : StandBy js order
 
 -- do the numbers of the calls of a journal rise strictly?
 abbrev pub calls_rise : Journal → Bool
@@ -42,6 +46,11 @@ tally_of xs = record { all = capped (length xs + count_sent xs); sent = capped (
 -- In order: how many messages are sent in these journals and do not arrive
 abbrev pub left_over : List Journal → ℕ
 left_over js = count_sent (all_entries js) - count_arrived (all_entries js)
+
+-- In order: journals are in order, and their entries stand in a list of these nodes
+pub record IsOrderOf (js : List Journal) (ns : List ℕ) : Type 0 where
+  pub in_order : AreInOrder js
+  pub same : ns ≡ in_order.order
 
 -- In order: journals are in order, with the number of messages that did not arrive, or they are not
 abbrev pub IsAnswer : List Journal → Option ℕ → Type 0

@@ -1,5 +1,5 @@
 //! The list of all entries, as far as it stands.
-ghost use Rattle.std.specs.Prelude.{◌≡◌, ◌<◌, ◌+◌, ◌^◌, ◌↔◌, IsTrue, IfOk, IfSome, length};
+ghost use Rattle.std.specs.Prelude.{◌≡◌, ◌<◌, ◌+◌, ◌^◌, ◌↔◌, IsTrue, IfOk, IfSome, [], length};
 ghost use Rattle.ct_journal.specs.Order.{taken_of};
 ghost use Rattle.ct_order.specs.Demands.{Advances, Ends, HasAll, IsMet, Passes, demands_at, front_with, next_demand, none_stands};
 
@@ -112,29 +112,36 @@ impl Standing {
         true
     }
 
-    /// Puts the next entry of each node, where it may stand. Was there one?
-    fn pass(&mut self, demands: &[Items<Demand>]) -> bool
-        requires { length self.old.taken ≡ length demands.now }
-        ensures { Passes demands.now result self.old self.new }
+    /// Puts the next entry of each node, where it may stand, and notes the node. Was there one?
+    fn pass(&mut self, demands: &[Items<Demand>], order: &mut Vec<u32>) -> Result<bool, NoMemory>
+        requires size { length self.old.taken ≡ length demands.now }
+        requires few { length demands.now < 2 ^ 32 }
+        ensures { IfOk result (λ some. Passes demands.now some self.old order.old.items self.new order.new.items) }
     {
         let mut some = false;
         for node in 0..demands.len() {
             if self.advance(demands, node) {
+                order.push(node as u32)?;
                 some = true;
             }
         }
-        some
+        Ok(some)
     }
 
-    /// Puts entries until none may stand next.
-    #[tactic(auto, using(crate::proofs::Meeting::leads_then))]
-    pub fn all(alloc: Global, demands: &[Items<Demand>]) -> Result<Standing, NoMemory>
-        ensures { IfOk result (λ g. Ends demands.now g) }
+    /// Puts entries until none may stand next, and notes their nodes.
+    pub fn all(
+        alloc: Global,
+        demands: &[Items<Demand>],
+        order: &mut Vec<u32>,
+    ) -> Result<Standing, NoMemory>
+        requires few { length demands.now < 2 ^ 32 }
+        requires none { order.old.items ≡ [] }
+        ensures { IfOk result (λ g. Ends demands.now g order.new.items) }
     {
         let mut standing = Standing::none(alloc, demands.len())?;
         let mut some = true;
         while some {
-            some = standing.pass(demands);
+            some = standing.pass(demands, order)?;
         }
         Ok(standing)
     }
