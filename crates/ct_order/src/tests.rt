@@ -1,5 +1,5 @@
 //! Journals of a few entries.
-use crate::order::in_order;
+use crate::order::{in_order, order_of};
 use ct_bytes::items::Items;
 use ct_bytes::memory::NoMemory;
 use ct_frame::event::{Event, Out};
@@ -84,11 +84,16 @@ fn journal(alloc: Global, node: u32, given: &[Given]) -> Result<Journal, NoMemor
     })
 }
 
-// What is answered of the journals of two nodes.
-fn answer(alloc: Global, first: &[Given], second: &[Given]) -> Result<Option<u64>, NoMemory> {
+fn journals(alloc: Global, first: &[Given], second: &[Given]) -> Result<Vec<Journal>, NoMemory> {
     let mut journals = Vec::new(alloc);
     journals.push(journal(alloc, 0, first)?)?;
     journals.push(journal(alloc, 1, second)?)?;
+    Ok(journals)
+}
+
+// What is answered of the journals of two nodes.
+fn answer(alloc: Global, first: &[Given], second: &[Given]) -> Result<Option<u64>, NoMemory> {
+    let journals = journals(alloc, first, second)?;
     in_order(alloc, journals.as_slice())
 }
 
@@ -129,5 +134,21 @@ fn tickets_and_calls_rise(rt: HostRuntime) -> Result<(), Fail> {
     assert_eq!(rt; answer(rt.alloc(), &second, &third)?, None);
     assert_eq!(rt; answer(rt.alloc(), &twice, &[])?, None);
     assert_eq!(rt; answer(rt.alloc(), &retry, &[])?, None);
+    Ok(())
+}
+
+#[test]
+fn entries_stand_in_the_order_that_is_answered(rt: HostRuntime) -> Result<(), Fail> {
+    let third = [Given::Round(3, &[0, 1], &[])];
+    let second = [Given::Round(2, &[1], &[])];
+    let these = journals(rt.alloc(), &third, &second)?;
+    let order = order_of(rt.alloc(), these.as_slice())?;
+    let those = journals(rt.alloc(), &second, &third)?;
+    let none = order_of(rt.alloc(), those.as_slice())?;
+    assert!(rt; none.is_none());
+    match order {
+        Some(nodes) => assert_eq!(rt; nodes.as_slice(), [1, 0].as_slice()),
+        None => assert!(rt; false),
+    }
     Ok(())
 }
