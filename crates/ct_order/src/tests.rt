@@ -1,4 +1,6 @@
 //! Journals of a few entries.
+ghost use Rattle.std.specs.Prelude.{◌≡◌, length, IfOk};
+
 use crate::order::{in_order, order_of};
 use ct_bytes::items::Items;
 use ct_bytes::memory::NoMemory;
@@ -84,7 +86,9 @@ fn journal(alloc: Global, node: u32, given: &[Given]) -> Result<Journal, NoMemor
     })
 }
 
-fn journals(alloc: Global, first: &[Given], second: &[Given]) -> Result<Vec<Journal>, NoMemory> {
+fn journals(alloc: Global, first: &[Given], second: &[Given]) -> Result<Vec<Journal>, NoMemory>
+    ensures { IfOk result (λ v. length v.items ≡ 2) }
+{
     let mut journals = Vec::new(alloc);
     journals.push(journal(alloc, 0, first)?)?;
     journals.push(journal(alloc, 1, second)?)?;
