@@ -1,0 +1,14 @@
+-- Two journals of few entries.
+use Rattle.std.proofs.Common.{◌≡◌, ◌+◌, ◌^◌, ◌<◌, ◌≤◌, List, [], ◌∷◌, ◌++◌, length, append-nil, length-append, arith}
+use Rattle.ct_journal.specs.Order.{all_entries, count_sent}
+use Rattle.ct_journal.specs.declared.journal.Journal.{Journal}
+use Rattle.ct_journal.specs.declared.journal.JournalEntry.{JournalEntry}
+
+sent_both : (xs ys : List JournalEntry) → count_sent (xs ++ ys) ≡ count_sent xs + count_sent ys
+unfolding count_sent
+sent_both [] ys = omega arith
+sent_both (x ∷ xs) ys = let r = sent_both xs ys in omega arith
+
+pub both_few : (a b : Journal) → length a.entries + count_sent a.entries ≤ 9 → length b.entries + count_sent b.entries ≤ 9 → length (all_entries (a ∷ b ∷ [])) + count_sent (all_entries (a ∷ b ∷ [])) < 2 ^ 61
+unfolding all_entries
+both_few a b few also = rw append-nil (let l = length-append a.entries b.entries in let s = sent_both a.entries b.entries in omega arith)
