@@ -1,3 +1,4 @@
 pub mod Taking
 pub mod Passing
 pub mod Testing
+pub mod Joining

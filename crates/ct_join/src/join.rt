@@ -1,0 +1,46 @@
+//! The join of journals to one schedule.
+ghost use Rattle.std.specs.Prelude.{◌<◌, ◌^◌, length};
+ghost use Rattle.ct_join.specs.Joining.{Joins};
+
+use crate::schedule::schedule;
+use ct_bytes::memory::NoMemory;
+use ct_cluster::step::Step;
+use ct_journal::journal::Journal;
+use ct_order::order::order_of;
+use std::alloc::Global;
+use thiserror::Error;
+
+/// Why journals are not joined.
+#[derive(Clone, Copy, Debug, PartialEq, Eq, Error)]
+pub enum JoinFault {
+    /// The journals are not in order.
+    #[error("the journals are not in order")]
+    NotInOrder,
+    #[error("want of memory")]
+    NoMemory,
+}
+
+impl From<NoMemory> for JoinFault {
+    ghost use Rattle.std.specs.Prelude.{◌≡◌};
+    ghost use Rattle.ct_join.specs.declared.join.JoinFault.TheVariants.{NoMemory as Want};
+
+    ghost from_gives = { λ _ e. e ≡ Want };
+
+    fn from(_e: NoMemory) -> JoinFault {
+        JoinFault::NoMemory
+    }
+}
+
+/// The steps of the cluster that make the entries of journals in order. The journal at place n is that of node n. Where the
+/// journals are runs, the steps are a schedule of them. `NotInOrder` exactly where they are not in order.
+#[tactic(auto, using(crate::proofs::Joining::joins, crate::proofs::Joining::few_of))]
+pub fn join(alloc: Global, journals: &[Journal]) -> Result<Vec<Step>, JoinFault>
+    requires { length journals.now < 2 ^ 32 }
+    ensures { Joins result journals.now }
+{
+    let Some(order) = order_of(alloc, journals)? else {
+        return Err(JoinFault::NotInOrder);
+    };
+    let steps = schedule(alloc, journals, order.as_slice())?;
+    Ok(steps.into_vec())
+}
