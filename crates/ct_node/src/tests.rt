@@ -14,7 +14,6 @@ use std::alloc::Global;
 use std::test::Fail;
 
 /// One node with the databases `g_lock` and `t`, which is volatile.
-#[tactic(auto, using(crate::proofs::Limits::has_limits))]
 fn config(alloc: Global) -> Result<Config, Fail>
     ensures limits { IfOk result HasLimits }
     ensures one { IfOk result (λ c. c.nodes ≡ 1) }
@@ -28,6 +27,7 @@ fn config(alloc: Global) -> Result<Config, Fail>
 }
 
 #[test]
+#[tactic(auto, unfolding(ct_rules_node::specs::Coming::may_come))]
 fn what_a_node_does_stands_in_its_journal(rt: HostRuntime) -> Result<(), Fail> {
     let alloc = rt.alloc();
     let table = CallTable::new(alloc);

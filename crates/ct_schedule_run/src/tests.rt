@@ -1,4 +1,8 @@
 //! A schedule with ample memory: two writes of one record by two nodes, told by the worked rules.
+ghost use Rattle.std.specs.Prelude.{◌≡◌, true, IfOk, OnOk};
+ghost use Rattle.std.specs.List.{list_all};
+ghost use Rattle.ct_cluster.specs.Faults.{is_allowed};
+
 use crate::schedule::{Summary, schedule_text};
 use ct_bytes::key::Key;
 use ct_bytes::name::DbName;
@@ -10,7 +14,9 @@ use ct_msg::config::{Config, DbDecl, DbKind};
 use std::alloc::Global;
 use std::test::Fail;
 
-fn write(alloc: Global, node: u32, value: &[u8]) -> Result<Step, Fail> {
+fn write(alloc: Global, node: u32, value: &[u8]) -> Result<Step, Fail>
+    ensures { IfOk result (λ s. is_allowed s ≡ true) }
+{
     Ok(Step::Client {
         node,
         op: ClientOp::Write {
@@ -19,6 +25,34 @@ fn write(alloc: Global, node: u32, value: &[u8]) -> Result<Step, Fail> {
             value: Value::new(alloc, value)?,
         },
     })
+}
+
+fn two_steps(alloc: Global) -> Result<Vec<Step>, Fail>
+    ensures { IfOk result (λ v. list_all is_allowed v.items ≡ true) }
+{
+    let mut steps = Vec::new(alloc);
+    steps.push(write(alloc, 0, b"x")?)?;
+    steps.push(write(alloc, 1, b"y")?)?;
+    Ok(steps)
+}
+
+fn deliver(steps: &mut Vec<Step>, number: u64) -> Result<(), Fail>
+    requires { list_all is_allowed steps.old.items ≡ true }
+    ensures { OnOk result (list_all is_allowed steps.new.items ≡ true) }
+{
+    steps.push(Step::Deliver(number))?;
+    Ok(())
+}
+
+fn all_steps(alloc: Global) -> Result<Vec<Step>, Fail>
+    ensures { IfOk result (λ v. list_all is_allowed v.items ≡ true) }
+{
+    let mut steps = two_steps(alloc)?;
+    deliver(&mut steps, 1)?;
+    deliver(&mut steps, 2)?;
+    deliver(&mut steps, 3)?;
+    deliver(&mut steps, 4)?;
+    Ok(steps)
 }
 
 #[test]
@@ -38,18 +72,14 @@ fn two_writes(rt: HostRuntime) -> Result<(), Fail> {
         calls: 1,
         entries: 6,
     };
-    let mut steps = Vec::new(alloc);
-    steps.push(write(alloc, 0, b"x")?)?;
-    steps.push(write(alloc, 1, b"y")?)?;
+    let steps = two_steps(alloc)?;
     assert_eq!(rt;
-        schedule_text(alloc, &table, &config, &steps, &summary)?.as_slice(),
+        schedule_text(alloc, &table, &config, steps.as_slice(), &summary)?.as_slice(),
         b"answer 1 written\nframe 1 1 0 1 call t b 1 lock\npending 2 1 write t b\ncluster 2 1 entries 6 frames 1\n".as_slice()
     );
-    for number in 1..5 {
-        steps.push(Step::Deliver(number))?;
-    }
+    let steps = all_steps(alloc)?;
     assert_eq!(rt;
-        schedule_text(alloc, &table, &config, &steps, &summary)?.as_slice(),
+        schedule_text(alloc, &table, &config, steps.as_slice(), &summary)?.as_slice(),
         b"answer 1 written\nframe 1 1 0 1 call t b 1 lock\nframe 2 0 0 1 recall t b 0 1 1 lock\nframe 3 0 0 1 give t b 0 x\nframe 4 0 1 1 pass t b 1 0 x\nanswer 2 written\ncluster 2 1 entries 6 frames 4\n".as_slice()
     );
     Ok(())
