@@ -1,5 +1,5 @@
 //! A schedule with ample memory: two writes of one record by two nodes, told by the worked rules.
-ghost use Rattle.std.specs.Prelude.{◌≡◌, true, IfOk, OnOk};
+ghost use Rattle.std.specs.Prelude.{◌≡◌, true, IfOk};
 ghost use Rattle.std.specs.List.{list_all};
 ghost use Rattle.ct_cluster.specs.Faults.{is_allowed};
 
@@ -14,6 +14,7 @@ use ct_msg::config::{Config, DbDecl, DbKind};
 use std::alloc::Global;
 use std::test::Fail;
 
+#[tactic(auto, unfolding(ct_cluster::specs::Faults::is_allowed, ct_rules_node::specs::Coming::is_allowed_op))]
 fn write(alloc: Global, node: u32, value: &[u8]) -> Result<Step, Fail>
     ensures { IfOk result (λ s. is_allowed s ≡ true) }
 {
@@ -27,6 +28,13 @@ fn write(alloc: Global, node: u32, value: &[u8]) -> Result<Step, Fail>
     })
 }
 
+#[tactic(auto, unfolding(ct_cluster::specs::Faults::is_allowed))]
+fn deliver(number: u64) -> Step
+    ensures { is_allowed result ≡ true }
+{
+    Step::Deliver(number)
+}
+
 fn two_steps(alloc: Global) -> Result<Vec<Step>, Fail>
     ensures { IfOk result (λ v. list_all is_allowed v.items ≡ true) }
 {
@@ -36,22 +44,16 @@ fn two_steps(alloc: Global) -> Result<Vec<Step>, Fail>
     Ok(steps)
 }
 
-fn deliver(steps: &mut Vec<Step>, number: u64) -> Result<(), Fail>
-    requires { list_all is_allowed steps.old.items ≡ true }
-    ensures { OnOk result (list_all is_allowed steps.new.items ≡ true) }
-{
-    steps.push(Step::Deliver(number))?;
-    Ok(())
-}
-
 fn all_steps(alloc: Global) -> Result<Vec<Step>, Fail>
     ensures { IfOk result (λ v. list_all is_allowed v.items ≡ true) }
 {
-    let mut steps = two_steps(alloc)?;
-    deliver(&mut steps, 1)?;
-    deliver(&mut steps, 2)?;
-    deliver(&mut steps, 3)?;
-    deliver(&mut steps, 4)?;
+    let mut steps = Vec::new(alloc);
+    steps.push(write(alloc, 0, b"x")?)?;
+    steps.push(write(alloc, 1, b"y")?)?;
+    steps.push(deliver(1))?;
+    steps.push(deliver(2))?;
+    steps.push(deliver(3))?;
+    steps.push(deliver(4))?;
     Ok(steps)
 }
 
