@@ -4,3 +4,5 @@
 
 mod lanes;
 pub mod link;
+#[cfg(test)]
+mod tests;
