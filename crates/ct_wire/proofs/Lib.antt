@@ -1,3 +1,4 @@
+mod AtOnce
 pub mod Eaten
 mod Frames
 mod Lists

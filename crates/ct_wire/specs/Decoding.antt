@@ -12,6 +12,7 @@ use Rattle.ct_wire.specs.declared.decode.Progress.TheVariants as progress
 use Rattle.ct_wire.specs.declared.decode.Spot.{Spot}
 use Rattle.ct_wire.specs.declared.decode.WireFault.{WireFault}
 use Rattle.ct_wire.specs.declared.decode.WireFault.TheVariants as fault
+use Rattle.ct_wire.specs.declared.whole.WholeFrame.{WholeFrame}
 use Rattle.ct_wire.specs.Cursor.{field_read, start, width, IsSound}
 
 -- where bytes end: inside a frame, behind the frame that they complete, or at the first field that breaks its rule
@@ -106,3 +107,7 @@ Finds (event.Breaks offset) e = e ≡ Breaks offset
 abbrev pub Shortens : Event → List ℕ → Type 0
 Shortens (event.Ends f n rest) bytes = length rest.now < length bytes
 Shortens _ bytes = Unit {0}
+
+-- the frame is at the end of these bytes, of which some stand behind it
+abbrev pub Gives : WholeFrame → End → Type 0
+Gives x e = e ≡ Ends x.frame x.length x.rest.now

@@ -102,7 +102,7 @@ fn is_text_length(place: &TextPlace, length: u64) -> bool
 }
 
 /// The number of these bytes.
-fn number_of(field: &[u8]) -> u64
+pub fn number_of(field: &[u8]) -> u64
     ensures { result ≡ number_of field.now }
 {
     match field {

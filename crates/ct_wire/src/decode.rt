@@ -5,6 +5,7 @@ ghost use Rattle.ct_wire.specs.Decoding.{decoded, eaten, raw_length, Completes, 
 ghost use Rattle.ct_wire.specs.declared.decode.Progress.TheVariants.{Amid};
 
 use crate::cursor::{Cursor, Taken};
+use crate::whole::{head_of, whole_frame};
 use ct_bytes::items::Items;
 use ct_bytes::memory::NoMemory;
 use ct_frame::frame::Frame;
@@ -68,11 +69,11 @@ pub fn read_fields(alloc: Global, mut cursor: Cursor, bytes: &[u8]) -> Result<Ev
     ensures exact { IfOk result (λ event. Finds event (eaten cursor [] bytes.now)) }
     ensures shorter { IfOk result (λ event. Shortens event bytes.now) }
 {
-    let mut rest = bytes;
+    let mut rest = cursor.take_row(alloc, bytes)?;
     'fields: while rest.len() as u64 >= cursor.width() {
         let (field, behind) = rest.split_at(cursor.width() as usize);
         match cursor.step(alloc, field)? {
-            Taken::More => rest = behind,
+            Taken::More => rest = cursor.take_row(alloc, behind)?,
             Taken::Whole(frame, length) => return Ok(Event::Ends(frame, length, behind)),
             Taken::Malformed(offset) => return Ok(Event::Breaks(offset)),
         }
@@ -84,11 +85,37 @@ pub fn read_fields(alloc: Global, mut cursor: Cursor, bytes: &[u8]) -> Result<Ev
     }))
 }
 
+/// Reads a frame from its first byte on, at once as far as its header.
+fn read_header(alloc: Global, bytes: &[u8]) -> Result<Event<'_>, NoMemory>
+    ensures exact { IfOk result (λ event. Finds event (eaten start [] bytes.now)) }
+    ensures shorter { IfOk result (λ event. Shortens event bytes.now) }
+{
+    match head_of(bytes) {
+        Some((head, rest)) => read_fields(alloc, Cursor::behind(alloc, head), rest),
+        None => read_fields(alloc, Cursor::start(alloc), bytes),
+    }
+}
+
+/// Reads a frame from its first byte on.
+pub fn read_frame(alloc: Global, bytes: &[u8]) -> Result<Event<'_>, NoMemory>
+    ensures exact { IfOk result (λ event. Finds event (eaten start [] bytes.now)) }
+    ensures shorter { IfOk result (λ event. Shortens event bytes.now) }
+{
+    if let Some(found) = whole_frame(alloc, bytes)? {
+        let length = u64::from(found.length);
+        return Ok(Event::Ends(found.frame, length, found.rest));
+    }
+    read_header(alloc, bytes)
+}
+
 /// The frame at the front of these bytes, and its length.
 pub fn decode(alloc: Global, bytes: &[u8]) -> Result<(Frame, usize), WireFault>
     ensures { Decodes result (decoded bytes.now) }
 {
-    match read_fields(alloc, Cursor::start(alloc), bytes)? {
+    if let Some(found) = whole_frame(alloc, bytes)? {
+        return Ok((found.frame, found.length as usize));
+    }
+    match read_header(alloc, bytes)? {
         Event::Waits(_) => Err(WireFault::Short),
         Event::Ends(frame, length, _) => Ok((frame, length as usize)),
         Event::Breaks(offset) => Err(WireFault::Malformed(offset)),
@@ -110,6 +137,9 @@ pub fn resume(alloc: Global, spot: Spot, bytes: &[u8]) -> Result<Event<'_>, NoMe
 {
     let Spot { mut cursor, raw } = spot;
     if raw.is_empty() {
+        if cursor.is_fresh() {
+            return read_frame(alloc, bytes);
+        }
         return read_fields(alloc, cursor, bytes);
     }
     let lacking = (cursor.width() - raw.len() as u64) as usize;

@@ -5,7 +5,7 @@ ghost use Rattle.ct_wire.specs.Decoding.{eaten, raw_length, Completes, Feeds, Fe
 ghost use Rattle.ct_wire.specs.declared.decode.Progress.TheVariants.{Amid};
 
 use crate::cursor::Cursor;
-use crate::decode::{Event, Progress, Spot, WireFault, read_fields, resume};
+use crate::decode::{Event, Progress, Spot, WireFault, read_frame, resume};
 use ct_bytes::items::Items;
 use ct_bytes::memory::NoMemory;
 use ct_frame::frame::Frame;
@@ -30,7 +30,7 @@ fn read_frames(
         match event {
             Event::Ends(frame, _, rest) => {
                 frames.push(frame)?;
-                event = read_fields(alloc, Cursor::start(alloc), rest)?;
+                event = read_frame(alloc, rest)?;
             }
             Event::Waits(spot) => return Ok(Progress::Amid(spot)),
             Event::Breaks(offset) => return Ok(Progress::Failed(WireFault::Malformed(offset))),

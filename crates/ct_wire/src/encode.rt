@@ -2,13 +2,13 @@
 ghost use Rattle.std.specs.Prelude.{◌≡◌, ◌++◌, ◌+◌, ◌<◌, ◌≤◌, OnOk, IfOk, IsTrue, length, take, drop, List, ℕ};
 ghost use Rattle.ct_frame.specs.Fields.{well_formed};
 ghost use Rattle.ct_wire_fields.specs.Version.{newest};
-ghost use Rattle.ct_wire.specs.Spelling.{body, front, header, names};
+ghost use Rattle.ct_wire.specs.Spelling.{front, header, names, u32};
 ghost use Rattle.ct_wire.specs.Writing.{Encodes, GivesPiece, frame_length, piece_size};
 
 use crate::body::{operation, put_body, request};
 use crate::put::{put_u32, put_u64};
 use ct_bytes::memory::NoMemory;
-use ct_frame::frame::Frame;
+use ct_frame::frame::{Frame, Msg, TableRow};
 use ct_wire_fields::version::Version;
 use std::alloc::{AllocError, AllocFailed, Global};
 use std::marker::Model;
@@ -88,25 +88,47 @@ fn put_header(out: &mut Vec<u8>, frame: &Frame, size: u32) -> Result<(), NoMemor
     put_names(out, frame)
 }
 
-fn body_of(alloc: Global, frame: &Frame) -> Result<Vec<u8>, NoMemory>
-    ensures { IfOk result (λ v. v.items ≡ body newest frame.now.msg) }
+/// How many bytes the rows of a table have.
+fn rows_room(table: &[TableRow]) -> usize {
+    let mut room = 0usize;
+    for row in table {
+        room = room.saturating_add(19 + row.key.bytes().len() + row.value.bytes().len());
+    }
+    room
+}
+
+/// About so many bytes a frame of this message has. It is only what memory is taken for at first.
+fn room(msg: &Msg) -> usize {
+    match msg {
+        Msg::PullReply { table, .. } => rows_room(table.as_slice()).saturating_add(256),
+        Msg::Push { table, .. } => rows_room(table.as_slice()).saturating_add(256),
+        _ => 256,
+    }
+}
+
+/// Writes the length over the first four bytes.
+fn put_length(out: &mut Vec<u8>, size: u32)
+    requires { 4 ≤ length out.old.items }
+    ensures { out.new.items ≡ u32 size ++ drop 4 out.old.items }
 {
-    let mut out = Vec::new(alloc);
-    put_body(&mut out, &frame.msg)?;
-    Ok(out)
+    let bytes = size.to_be_bytes();
+    out[0] = bytes[0];
+    out[1] = bytes[1];
+    out[2] = bytes[2];
+    out[3] = bytes[3];
 }
 
 fn spelling(alloc: Global, frame: &Frame) -> Result<Vec<u8>, EncodeFault>
     ensures { Encodes (λ v. v.items) result frame.now }
 {
-    let mut body = body_of(alloc, frame)?;
-    let size = 40 + body.len() as u64;
+    let mut out = Vec::with_capacity(alloc, room(&frame.msg))?;
+    put_header(&mut out, frame, 0)?;
+    put_body(&mut out, &frame.msg)?;
+    let size = out.len() as u64;
     if size > MOST {
         return Err(EncodeFault::TooLong(size));
     }
-    let mut out = Vec::with_capacity(alloc, size as usize)?;
-    put_header(&mut out, frame, size as u32)?;
-    out.append(&mut body)?;
+    put_length(&mut out, size as u32);
     Ok(out)
 }
 

@@ -6,4 +6,7 @@ pub mod cursor;
 pub mod decode;
 pub mod decoder;
 pub mod encode;
+mod fresh;
 mod put;
+mod rows;
+mod whole;

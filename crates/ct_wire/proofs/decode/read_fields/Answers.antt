@@ -1,6 +1,6 @@
 use Rattle.std.proofs.Common.{◌∙◌, [], sym, arith}
 use Rattle.ct_wire.specs.declared.cursor.Taken.TheVariants as taken
-use Rattle.ct_wire.proofs.Eaten.{eaten_rest, field_taken, leads_to, led_to, sound_more}
+use Rattle.ct_wire.proofs.Eaten.{eaten_rest, field_taken, leads_to, led_to}
 use Rattle.ct_wire.proofs.decode.read_fields.Goals as goal
 
 pub fields-preserved : goal.fields-preserved
@@ -9,7 +9,7 @@ fields-preserved c =
     let field = field_taken c.fields.cursor c.fields.rest.now c.split_at.result.0.now c.split_at.result.1.now c.width-in-fields.result c.split_at.ensures.front c.split_at.ensures.back c.split_at.ensures.front_len c.width-in-fields.ensures.exact some.0 in
     let is = led_to c.in_ok-step.field-0 taken.More c.step.new.self _ c.in-More.is c.in_ok-step.ensures.exact in
     let led = leads_to _ _ _ c.split_at.result.1.now field is in
-    (sym led ∙ c.fields.invariant.0, sound_more c.in_ok-step.field-0 c.step.new.self c.in-More.is c.in_ok-step.ensures.sound, omega (arith, c.split_at.ensures.back_len, c.fields.invariant.2))
+    (sym c.in_ok-rest-in-More.ensures.same ∙ sym led ∙ c.fields.invariant.0, c.in_ok-rest-in-More.ensures.sound, omega (arith, c.in_ok-rest-in-More.ensures.shorter, c.split_at.ensures.back_len, c.fields.invariant.2))
 
 pub returns-in-Whole-clause-exact : goal.returns-in-Whole-clause-exact
 returns-in-Whole-clause-exact c =

@@ -1,11 +1,10 @@
 use Rattle.std.proofs.Common.{◌≡◌, List, [], sym, subst}
 use Rattle.ct_frame.specs.declared.frame.Frame.{Frame}
-use Rattle.ct_wire.specs.declared.cursor.Cursor.{Cursor}
 use Rattle.ct_wire.specs.declared.decode.Event.TheVariants as event
 use Rattle.ct_wire.specs.declared.decode.Progress.TheVariants as progress
 use Rattle.ct_wire.specs.declared.decode.WireFault.TheVariants as fault
 use Rattle.ct_wire.specs.Cursor.{start}
-use Rattle.ct_wire.specs.Decoding.{End, eaten, Finds}
+use Rattle.ct_wire.specs.Decoding.{End, eaten}
 use Rattle.ct_wire.proofs.Frames.{GoesOn, finds_breaks, finds_ends, finds_waits, goes_on_last, goes_on_next}
 use Rattle.ct_wire.proofs.decoder.read_frames.Goals as goal
 
@@ -17,7 +16,7 @@ frames-preserved c =
     let on : GoesOn first c.frames.frames.items (End.Ends c.in-Ends.frame c.in-Ends.field-1 c.in-Ends.rest.now) = subst (λ (e : End). GoesOn first c.frames.frames.items e) ends c.frames.invariant.2 in
     let next = goes_on_next first c.frames.frames.items c.in-Ends.frame c.in-Ends.field-1 c.in-Ends.rest.now on in
     let pushed : GoesOn first c.push.new.self.items (eaten start [] c.in-Ends.rest.now) = subst (λ (gs : List Frame). GoesOn first gs (eaten start [] c.in-Ends.rest.now)) (sym c.in_ok-push-in-Ends.ensures.items) next in
-    (eaten start [] c.in-Ends.rest.now, subst (λ (x : Cursor). Finds c.in_ok-event-in-Ends.event (eaten x [] c.in-Ends.rest.now)) c.start.ensures.exact c.in_ok-event-in-Ends.ensures.exact, pushed)
+    (eaten start [] c.in-Ends.rest.now, c.in_ok-event-in-Ends.ensures.exact, pushed)
 
 pub returns-in-Waits-clause-exact : goal.returns-in-Waits-clause-exact
 returns-in-Waits-clause-exact c =
