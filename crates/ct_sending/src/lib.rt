@@ -1,0 +1,7 @@
+//! Frames are sent over a link, piece by piece.
+#![tactic(auto)]
+
+pub mod fault;
+pub mod send;
+#[cfg(test)]
+mod tests;
