@@ -1,0 +1,5 @@
+pub mod Feeding
+pub mod Following
+pub mod Ours
+pub mod Places
+pub mod Sound
