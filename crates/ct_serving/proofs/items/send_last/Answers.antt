@@ -1,0 +1,11 @@
+use Rattle.std.proofs.Common.{◌≡◌, ◌∙◌, List, Err, ap, subst, sym}
+use Rattle.ct_frame.specs.declared.event.Out.{Out}
+use Rattle.ct_parcels.specs.Parcels.{frames_sent}
+use Rattle.ct_sending.specs.Sending.{FindsLong, first_long}
+use Rattle.ct_sending.specs.declared.fault.SendFault.{SendFault}
+use Rattle.ct_serving.specs.Serving.{HasCause}
+use Rattle.ct_serving.proofs.items.send_last.Goals as goal
+
+pub returns-in-Err-TooLong-clause-cause : goal.returns-in-Err-TooLong-clause-cause
+unfolding HasCause
+returns-in-Err-TooLong-clause-cause g c = λ rules. ap (λ (os : List Out). first_long (frames_sent os)) (sym c.last_outs.ensures) ∙ subst (λ (f : SendFault). FindsLong (Err f) (frames_sent c.last_outs.result.now)) c.in-Err-TooLong.field-0-is c.in-Err-TooLong.ensures.size

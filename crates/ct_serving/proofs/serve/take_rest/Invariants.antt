@@ -1,0 +1,17 @@
+use Rattle.std.proofs.Common.{◌-◌, length}
+use Rattle.ct_call.specs.Shown.{rules_of}
+use Rattle.ct_serving.specs.Serving.{GoesOn, NoneFell, both, of_link, of_lock}
+use Rattle.ct_serving.proofs.serve.take_rest.Given as goal
+
+-- the node goes on
+abbrev pub invariant-items : goal.invariant-items
+invariant-items g l =
+    let link = of_link g.L.Link.faults g.L.Link.endings g.L.Link.looks in
+    let lock = of_lock g.R.RecLock.faults g.R.RecLock.refusals in
+    record {
+      goes_on : GoesOn (rules_of l.initial.table) l.initial.script l.initial.node l.initial.cue l.node l.cue;
+      counts : NoneFell (both (link l.initial.link) (lock l.initial.lock)) (both (link l.link) (lock l.lock));
+    }
+
+abbrev pub decreases-items : goal.decreases-items
+decreases-items g l = length l.initial.script - l.cue.taken
