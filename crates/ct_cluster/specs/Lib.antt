@@ -3,3 +3,4 @@ pub mod Cluster
 pub mod Faults
 pub mod Steps
 pub mod Traces
+pub mod Handed

@@ -19,12 +19,9 @@ use Rattle.ct_law_node.proofs.Pending.{Callers}
 use Rattle.ct_law_line.proofs.Ages.{Ages}
 use Rattle.ct_law_line.proofs.Lives.{Lives, PhaseSays}
 use Rattle.ct_law_line.proofs.Faces.{Turned}
-use Rattle.ct_law_lead.proofs.Arriving.{freezes_turned, freezeack_turned, pushack_turned}
-use Rattle.ct_law_freeze.proofs.Freezing.{HasCome}
-use Rattle.ct_law_lead.proofs.Rounding.{pull_turned}
+use Rattle.ct_law_install.proofs.Handed.{freezes_turned, freezeack_turned, pushack_turned, pull_turned, HasCome, nothing_turned}
 use Rattle.ct_law_heir.proofs.Last.{replies_turned}
 use Rattle.ct_law_install.proofs.Pushes.{push_turned}
-use Rattle.ct_law_stop.proofs.Wordless.{nothing_turned}
 use Rattle.ct_law_absent.proofs.Asking.{not_there}
 use Rattle.ct_law_absent.proofs.Dropped.{is_of_round, dropped}
 

@@ -37,7 +37,7 @@ use Rattle.ct_law_line.proofs.Faces.{Turned}
 use Rattle.ct_law_held.proofs.Declining.{refusal_turned}
 use Rattle.ct_law_held.proofs.Finishing.{store_turned, unlock_turned, read_turned}
 use Rattle.ct_law_held.proofs.Held.{outs_labels}
-use Rattle.ct_law_stop.proofs.Wordless.{wordless_turned}
+use Rattle.ct_law_install.proofs.Handed.{wordless_turned}
 
 -- ---- which calls are served
 

@@ -1,3 +1,4 @@
 pub mod Asking
 pub mod Dropped
 pub mod Absent
+pub mod Handed

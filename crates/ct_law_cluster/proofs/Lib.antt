@@ -14,3 +14,4 @@ pub mod Delivered
 pub mod Vacuumed
 pub mod Locked
 pub mod Faulting
+pub mod Handed

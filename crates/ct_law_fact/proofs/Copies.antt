@@ -7,7 +7,7 @@ use Rattle.std.specs.Prelude.{List}
 use Rattle.std.proofs.lemmas.Bool.{cases_lt}
 use Rattle.ct_vacuum.specs.Vacuum.{Vacuuming}
 use Rattle.ct_rules.specs.declared.state.Entry.{Entry}
-use Rattle.ct_register.specs.Register.{reading}
+use Rattle.ct_law_world.specs.Handed.{reading}
 use Rattle.ct_law_fact.proofs.Rule.{is_odd, is_kind_odd, Body, Copy, For_reading, Give, Given, Grant, Node, Pass, Refuse, RevokeAck, Stale, VDeleted, VStored, Wish, drop_copy, has_node, is_here, is_kind_here, is_kind_reading, is_reading, raise_copy, rank, reads_op, value_of}
 
 -- who stands at the top stands for the whole list

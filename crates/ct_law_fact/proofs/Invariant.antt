@@ -6,7 +6,7 @@ use Rattle.ct_vacuum.specs.Vacuum.{Vacuuming}
 use Rattle.ct_rules.specs.declared.state.Entry.{Entry}
 use Rattle.ct_rules.specs.declared.state.RecallNote.{RecallNote}
 use Rattle.ct_rules.specs.declared.state.Waiter.{Waiter}
-use Rattle.ct_register.specs.Register.{Register, reading}
+use Rattle.ct_law_world.specs.Handed.{Register, reading}
 use Rattle.ct_law_world.specs.Labels.{AcceptsAll}
 use Rattle.ct_law_world.specs.Marked.{is_removed}
 use Rattle.ct_law_fact.proofs.Rule.{is_odd, Body, Call, Copy, Done, Frame, Give, Given, Grant, Node, Out, Pass, Recalls, Refuse, Revoke, RevokeAck, VDelete, VDeleted, VStore, VStored, Wish, has_node, is_here, is_reading, is_storing, rank, reads_op, value_of}

@@ -23,7 +23,7 @@ use Rattle.ct_cluster.specs.Cluster.{Cluster, node_at, pending}
 use Rattle.ct_register.specs.Lines.{Lines}
 use Rattle.ct_law_line.proofs.Lives.{Lives, LeadSays, IsTicket, IsGatheredOf}
 use Rattle.ct_law_line.proofs.Faces.{Turned}
-use Rattle.ct_law_freeze.proofs.Freezing.{HasCome}
+use Rattle.ct_law_lead.proofs.Handed.{HasCome}
 use Rattle.ct_law_lead.proofs.Leading.{lead_turned}
 use Rattle.ct_law_lead.proofs.Rounding.{idle_led}
 use Rattle.ct_law_lead.proofs.Gathering.{MoreMissing, gathers, pull_of, pullreply_turned, reply_came}

@@ -53,7 +53,7 @@ use Rattle.ct_law_lead.proofs.Leading.{node_lead}
 use Rattle.ct_law_lead.proofs.Rounding.{Says_round, sends, sends_untold, sends_mails, sends_all, says_mail}
 use Rattle.ct_law_lead.proofs.Arriving.{to_all, posts_outs, posts_node, all_say}
 use Rattle.ct_law_lead.proofs.Again.{push_says}
-use Rattle.ct_law_freeze.proofs.Turning.{sent_still}
+use Rattle.ct_law_lead.proofs.Handed.{sent_still}
 use Rattle.ct_law_heir.proofs.Drawn.{all_drawn}
 use Rattle.ct_law_heir.proofs.Low.{pushed_low, pushed_order}
 

@@ -7,9 +7,7 @@ use Rattle.ct_cluster.specs.Steps.{frames_of, put, with_node}
 use Rattle.ct_cluster.specs.declared.step.PendingCall.{PendingCall}
 use Rattle.ct_law_change.proofs.Markings.{goes_stays}
 use Rattle.ct_law_fact.proofs.Invariant.{span_of}
-use Rattle.ct_law_freeze.proofs.Freezing.{resent}
-use Rattle.ct_law_freeze.proofs.Stood.{lead_later}
-use Rattle.ct_law_freeze.proofs.Turning.{sent_still}
+use Rattle.ct_law_lead.proofs.Handed.{resent, lead_later, sent_still}
 use Rattle.ct_law_line.proofs.Faces.{Turned}
 use Rattle.ct_law_line.proofs.Lives.{Lives, NodeLives, MailSays, ReplySays}
 use Rattle.ct_law_node.proofs.Calling.{own_pending}

@@ -25,8 +25,7 @@ use Rattle.ct_law_node.proofs.Forming.{Is_formed}
 use Rattle.ct_law_line.proofs.Ages.{Ages, era_of, Rests}
 use Rattle.ct_law_line.proofs.Lives.{Lives, NodeLives, PhaseSays}
 use Rattle.ct_law_line.proofs.Faces.{Turned}
-use Rattle.ct_law_freeze.proofs.Froze.{ack}
-use Rattle.ct_law_freeze.proofs.Stood.{frozen_formed}
+use Rattle.ct_law_lead.proofs.Handed.{ack, frozen_formed, same_set}
 use Rattle.std.specs.Prelude.{◌⊎◌, nat_eq, nat_lt, is_some}
 use Rattle.ct_frame.specs.declared.header.RecCopy.{RecCopy}
 use Rattle.ct_promise.specs.Generation.{speaks_of_records}
@@ -66,7 +65,6 @@ use Rattle.ct_law_node.proofs.Delivering.{has_place}
 use Rattle.ct_law_cluster.proofs.Configured.{all_small}
 use Rattle.ct_law_cluster.proofs.Served.{client_serves, serves_store, serves_read}
 use Rattle.ct_law_line.proofs.Resting.{frozen_twice, locked_read}
-use Rattle.ct_law_freeze.proofs.Ends.{same_set}
 use Rattle.ct_law_held.proofs.Holding.{stores_so, releases_so, reads_so}
 use Rattle.ct_law_held.proofs.Held.{Held_node, Held_turn, held_turned}
 

@@ -39,10 +39,8 @@ use Rattle.ct_law_line.proofs.Ages.{Ages, era_of, Rests}
 use Rattle.ct_law_line.proofs.Lives.{Lives, NodeLives, MailSays, RoundSays, ReplySays, LeadSays, PhaseSays}
 use Rattle.ct_law_line.proofs.Later.{Later, Keeps, keeps_view}
 use Rattle.ct_law_line.proofs.Faces.{Turned}
-use Rattle.ct_law_freeze.proofs.Froze.{ack}
-use Rattle.ct_law_freeze.proofs.Stood.{lead_later}
+use Rattle.ct_law_lead.proofs.Handed.{ack, lead_later, sent_still, Rest_after, acks_labels, acks_mails, acks_all}
 use Rattle.ct_law_line.proofs.Lives.{Replied}
-use Rattle.ct_law_freeze.proofs.Turning.{sent_still}
 use Rattle.std.specs.Prelude.{◌⊎◌, nat_eq, nat_lt, is_some}
 use Rattle.ct_frame.specs.declared.frame.TableRow.{TableRow}
 use Rattle.ct_rules_node.specs.Rounds.{row_of}
@@ -57,13 +55,11 @@ use Rattle.ct_cluster.specs.Labels.{Answered}
 use Rattle.ct_law_shown.specs.Waiting.{answered}
 use Rattle.ct_promise.specs.Marked.{is_removal}
 use Rattle.ct_law_node.proofs.Calling.{own_pending}
-use Rattle.ct_law_freeze.proofs.Turning.{Rest_after}
 use Rattle.ct_law_held.proofs.Holding
 use Rattle.ct_law_lead.proofs.Rounding.{not_freezing}
 use Rattle.ct_register.proofs.Places.{at_other}
 use Rattle.ct_store.specs.Map.{look}
 use Rattle.ct_rules_node.specs.Node.{or_nothing}
-use Rattle.ct_law_freeze.proofs.Turning.{acks_labels, acks_mails, acks_all}
 use Rattle.ct_rules.specs.State.{rsn_of}
 
 -- what the turn makes of the node, which freezes for g and its leader l: the record's state, and the phase

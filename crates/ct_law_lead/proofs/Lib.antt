@@ -3,3 +3,4 @@ pub mod Rounding
 pub mod Arriving
 pub mod Again
 pub mod Gathering
+pub mod Handed

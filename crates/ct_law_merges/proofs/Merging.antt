@@ -38,7 +38,7 @@ use Rattle.ct_law_line.proofs.Rounds.{counts, round_accepted}
 use Rattle.ct_law_line.proofs.Lined.{beyond}
 use Rattle.ct_law_line.proofs.Faces.{marks_in_all}
 use Rattle.ct_law_freeze.proofs.Freezing.{HasCome}
-use Rattle.ct_law_heir.proofs.Last.{pushed_is}
+use Rattle.ct_law_whole.proofs.Handed.{pushed_is}
 use Rattle.ct_law_lead.proofs.Gathering.{gathers, pull_of, reply_came}
 use Rattle.ct_law_merges.specs.Merges.{IsLastReply, body_at, StandsForBirth, MergesSo, KeepsWhatWasSeen, value_of}
 

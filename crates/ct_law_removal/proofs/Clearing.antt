@@ -29,7 +29,7 @@ use Rattle.ct_register.specs.Lines.{Lines}
 use Rattle.ct_promise.specs.Marked.{is_removal, is_removed}
 use Rattle.ct_law_shown.specs.Shown.{labels_of}
 use Rattle.ct_law_shown.proofs.Hearing.{labels_are}
-use Rattle.ct_law_node.proofs.Putting.{own_node}
+use Rattle.ct_law_cluster.proofs.Handed.{own_node}
 use Rattle.ct_law_cluster.proofs.Fed.{fed_is}
 use Rattle.ct_law_cluster.proofs.Faulting.{runs}
 use Rattle.ct_law_removal.proofs.Removing.{told_in_line}

@@ -7,3 +7,4 @@ pub mod Quietly
 pub mod Asides
 pub mod Runs
 pub mod Clients
+pub mod Handed

@@ -46,7 +46,7 @@ use Rattle.ct_law_line.proofs.Ages.{era_of}
 use Rattle.ct_law_line.proofs.Lives.{WasSent, MailSays, Lives}
 use Rattle.ct_law_line.proofs.Faces.{Turned}
 use Rattle.ct_law_stop.proofs.Wordless.{nothing_turned}
-use Rattle.ct_law_freeze.proofs.Turning.{was_said}
+use Rattle.ct_law_lead.proofs.Handed.{was_said}
 use Rattle.ct_law_lead.proofs.Again.{Says_more, says_none}
 use Rattle.ct_law_serve.proofs.Present.{Is_present, present_says, era_here, shown_here, known_all}
 use Rattle.ct_law_serve.proofs.Serving.{Is_own, Serves, served_turned}

@@ -54,8 +54,7 @@ use Rattle.ct_law_line.proofs.Moving.{Moved, ages_moved, moved_live}
 use Rattle.ct_law_line.proofs.Apart.{none_fresh, each_then}
 use Rattle.ct_law_line.proofs.Faces.{Turned}
 use Rattle.ct_law_record.proofs.MarkLists.{marks_stay}
-use Rattle.ct_law_freeze.proofs.Stood.{lead_later}
-use Rattle.ct_law_freeze.proofs.Turning.{sent_still}
+use Rattle.ct_law_lead.proofs.Handed.{lead_later, sent_still}
 use Rattle.ct_law_lead.proofs.Rounding.{Says_round, sends, sends_untold, sends_mails, sends_all, foreign}
 use Rattle.ct_law_lead.proofs.Again.{Says_more}
 use Rattle.ct_law_serve.proofs.Present.{Is_present, serving_says, reply_still, present_lives, line_here, shown_here}

@@ -36,7 +36,7 @@ use Rattle.ct_law_line.proofs.Ages.{Ages, era_of}
 use Rattle.ct_law_line.proofs.Lives.{WasSent, RoundSays, ReplySays, MailSays, LeadSays, Lives}
 use Rattle.ct_law_line.proofs.Faces.{Turned}
 use Rattle.ct_law_stop.proofs.Wordless.{nothing_turned}
-use Rattle.ct_law_freeze.proofs.Turning.{was_said}
+use Rattle.ct_law_lead.proofs.Handed.{was_said}
 use Rattle.ct_law_lead.proofs.Again.{Says_more, says_none, says_then, says_all, lead_says_again}
 use Rattle.ct_law_serve.proofs.Records.{present_here, own_of, shown, finds, starts, asks, event_turned}
 

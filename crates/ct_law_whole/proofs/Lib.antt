@@ -1,3 +1,4 @@
 pub mod Ending
 pub mod Stepping
 pub mod Owed
+pub mod Handed

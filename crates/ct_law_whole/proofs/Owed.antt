@@ -21,7 +21,7 @@ use Rattle.ct_promise.specs.Promises.{IsConfig}
 use Rattle.ct_law_node.proofs.Calling.{own_pending}
 use Rattle.ct_law_line.proofs.Lives.{WasSent, Lives}
 use Rattle.ct_law_line.proofs.Faces.{Turned}
-use Rattle.ct_law_lead.proofs.Again.{retry_turned}
+use Rattle.ct_law_serve.proofs.Handed.{retry_turned}
 use Rattle.ct_law_absent.proofs.Dropped.{is_of_round}
 use Rattle.ct_law_absent.proofs.Asking
 use Rattle.ct_law_absent.proofs.Absent

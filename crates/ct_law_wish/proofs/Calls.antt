@@ -8,7 +8,7 @@ use Rattle.ct_call.specs.Rules.{Rules}
 use Rattle.ct_rules.specs.declared.event.Act.{Act}
 use Rattle.ct_rules.specs.declared.event.Act.TheVariants as act
 use Rattle.ct_rules.specs.declared.state.Wish.{Wish}
-use Rattle.ct_register.specs.Register.{Register}
+use Rattle.ct_law_world.specs.Handed.{Register}
 use Rattle.ct_law_world.specs.Labels.{Label, AcceptsAll}
 use Rattle.ct_law_world.specs.World.{own_call, waiting_call, answers, call_of, told}
 use Rattle.ct_law_world.specs.Calls.{Log, with_call, closed_by, closed_by_all, told_by}

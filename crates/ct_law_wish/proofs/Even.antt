@@ -33,7 +33,7 @@ use Rattle.ct_msg.specs.declared.client.Answer.{Answer}
 use Rattle.ct_msg.specs.declared.client.Answer.TheVariants as answer
 use Rattle.ct_msg.specs.declared.client.ClientOp.TheVariants as op
 use Rattle.ct_msg.specs.declared.client.Why.TheVariants as why
-use Rattle.ct_rules_node.specs.Rounds.{want_again_of, want_again}
+use Rattle.ct_law_world.specs.Handed.{want_again_of, want_again}
 use Rattle.std.proofs.lemmas.List.{append-nil}
 
 -- ---- the primitives

@@ -15,7 +15,7 @@ use Rattle.ct_rules.specs.declared.state.Waiter.{Waiter}
 use Rattle.ct_rules.specs.declared.state.Wish.{Wish}
 use Rattle.ct_rules.specs.Moves.{store, release, unlock, begin_vacuum, vacuum_at_home, vacuum, at_home, from_home, arrive, call_again_of, call_again, revoke_again_of, revoke_again}
 use Rattle.ct_deleg.specs.Tracked.{Revocation}
-use Rattle.ct_rules_node.specs.Rounds.{want_again_of, want_again}
+use Rattle.ct_law_world.specs.Handed.{want_again_of, want_again}
 
 -- the call that waits, if there is one, keeps this
 unfoldable pub Wishful : (ℕ → ClientOp → Type 0) → Option Wish → Type 0

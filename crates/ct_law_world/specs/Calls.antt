@@ -13,8 +13,7 @@ use Rattle.ct_rules.specs.declared.event.Act.{Act}
 use Rattle.ct_rules.specs.declared.event.Act.TheVariants as act
 use Rattle.ct_rules.specs.declared.event.MoveEvent.TheVariants as event
 use Rattle.ct_rules.specs.declared.state.Wish.{Wish}
-use Rattle.ct_rules_node.specs.Rounds.{want_again}
-use Rattle.ct_rules_node.specs.Node.{is_among}
+use Rattle.ct_register.specs.Handed.{want_again, is_among}
 use Rattle.ct_register.specs.Register.{Register, reading, newborn}
 use Rattle.ct_law_world.specs.Labels.{Label, AcceptsAll}
 use Rattle.ct_law_world.specs.World as world

@@ -6,7 +6,7 @@ use Rattle.ct_frame.specs.declared.frame.TableRow.{TableRow}
 use Rattle.ct_frame.specs.declared.header.RecCopy.{RecCopy}
 use Rattle.ct_rules.specs.declared.state.Entry.{Entry}
 use Rattle.ct_rules.specs.declared.state.Wish.{Wish}
-use Rattle.ct_rules_node.specs.Node.{is_among}
+use Rattle.ct_register.specs.Handed.{is_among}
 use Rattle.ct_register.specs.Register.{Register, reading, newborn}
 use Rattle.ct_register.specs.Marks.{Marks, AreMarks, IsCopyAt, IsEntryAt, MarksStep}
 use Rattle.ct_law_world.specs.Labels.{Label, Vacuumed, AcceptsAll}

@@ -21,8 +21,7 @@ use Rattle.ct_rules.specs.declared.event.Place.{Place}
 use Rattle.ct_rules.specs.declared.state.RecState.{RecState}
 use Rattle.ct_rules.specs.declared.state.Wish.{Wish}
 use Rattle.ct_frame.specs.declared.frame.TableRow.{TableRow}
-use Rattle.ct_rules_node.specs.Rounds.{want_again, installed_state}
-use Rattle.ct_rules_node.specs.Node.{is_among}
+use Rattle.ct_register.specs.Handed.{want_again, installed_state, is_among}
 use Rattle.ct_register.specs.Register.{Register, reading}
 use Rattle.ct_law_world.specs.Labels.{Label, Told, Unasked, Vacuumed, Ended, Left, Joined, AcceptsAll}
 

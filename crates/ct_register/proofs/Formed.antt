@@ -16,7 +16,7 @@ use Rattle.ct_frame.specs.declared.event.Note.{Note}
 use Rattle.ct_frame.specs.declared.event.Note.TheVariants as note
 use Rattle.ct_call.specs.Rules.{Rules}
 use Rattle.ct_cluster.specs.Labels.{Label, Answered, Unasked, Begun, Noted, Ticket, Yielded, Stopped, Started, Pushed, Takeover, Taken}
-use Rattle.ct_rules_node.specs.Node.{is_among}
+use Rattle.ct_cluster.specs.Handed.{is_among}
 use Rattle.ct_register.specs.Legal
 use Rattle.ct_register.specs.Legal.{AtRecord, AtDatabase, AtPlacing}
 use Rattle.ct_register.specs.Placing

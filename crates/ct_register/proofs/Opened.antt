@@ -8,10 +8,8 @@ use Rattle.ct_msg.specs.declared.config.Config.{Config}
 use Rattle.ct_frame.specs.declared.header.RecCopy.{RecCopy}
 use Rattle.ct_persist.specs.Updates
 use Rattle.ct_store.specs.Map.{look}
-use Rattle.ct_rules.specs.State.{nothing_kept}
-use Rattle.ct_rules.specs.declared.state.RecState.{RecState}
-use Rattle.ct_rules_node.specs.Node as node
-use Rattle.ct_rules_node.specs.Node.{Node}
+use Rattle.ct_cluster.specs.Handed.{nothing_kept, RecState, Node}
+use Rattle.ct_cluster.specs.Handed as node
 use Rattle.ct_cluster.specs.Cluster as cluster
 use Rattle.ct_register.specs.Stands.{HasCopy, HoldsAddress, OpeningRecordsStand, OpeningStands}
 use Rattle.ct_register.proofs.Small.{nought, none_not_some}

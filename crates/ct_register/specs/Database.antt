@@ -6,7 +6,7 @@ use Rattle.ct_msg.specs.declared.client.Answer.TheVariants as answer
 use Rattle.ct_msg.specs.declared.client.Pair.{Pair}
 use Rattle.ct_store.specs.Map.{Pairs, look}
 use Rattle.ct_persist.specs.Updates.{contents}
-use Rattle.ct_rules_node.specs.Node.{is_among}
+use Rattle.ct_cluster.specs.Handed.{is_among}
 use Rattle.ct_register.specs.Words.{at}
 
 -- one persistent database in one line

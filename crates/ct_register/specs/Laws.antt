@@ -8,7 +8,7 @@ use Rattle.ct_call.specs.Rules.{Rules}
 use Rattle.ct_cluster.specs.Labels.{Label, Answered, Noted}
 use Rattle.ct_register.specs.Lines.{Lines}
 use Rattle.ct_register.specs.Legal.{AcceptsLabel}
-use Rattle.ct_rules_node.specs.Node.{is_persistent, kind_at}
+use Rattle.ct_cluster.specs.Handed.{is_persistent, kind_at}
 
 -- does the label leave a choice? A birth does, and a read of a persistent database.
 abbrev pub leaves_choice : Config → Label → Bool

@@ -14,7 +14,7 @@ use Rattle.ct_frame.specs.declared.event.Note.{Note}
 use Rattle.ct_frame.specs.declared.event.Note.TheVariants as note
 use Rattle.ct_call.specs.Rules.{Rules}
 use Rattle.ct_cluster.specs.Labels.{Label, Answered, Unasked, Begun, Noted, Ticket, Yielded, Stopped, Started, Pushed, Takeover, Taken}
-use Rattle.ct_rules_node.specs.Node.{is_among, has_records, kind_at, name_of}
+use Rattle.ct_cluster.specs.Handed.{is_among, has_records, kind_at, name_of}
 use Rattle.ct_register.specs.Register
 use Rattle.ct_register.specs.Register.{Register, OwnedByNoOther, AcceptsEnd, AcceptsVacuum}
 use Rattle.ct_register.specs.Database

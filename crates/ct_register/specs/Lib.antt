@@ -9,3 +9,4 @@ pub mod Marks
 pub mod Laws
 pub mod Formed
 pub mod Stands
+pub mod Handed

@@ -6,7 +6,7 @@ use Rattle.ct_bytes.specs.Address.{same_address}
 use Rattle.ct_bytes.specs.declared.address.Address.{Address}
 use Rattle.ct_frame.specs.declared.frame.Assigned.{Assigned}
 use Rattle.ct_lcp2.specs.Placing.{placed}
-use Rattle.ct_rules_node.specs.Node.{is_among, assigned_all}
+use Rattle.ct_cluster.specs.Handed.{is_among, assigned_all}
 use Rattle.ct_register.specs.Words.{at}
 
 -- a takeover run: the members that are able, and the placement that it begins with

@@ -8,7 +8,7 @@ use Rattle.ct_msg.specs.declared.config.DbKind.TheVariants.{Persistent}
 use Rattle.ct_frame.specs.Header.{for_reading}
 use Rattle.ct_frame.specs.declared.header.RecCopy.{RecCopy}
 use Rattle.ct_persist.specs.Persisted.{Persisted}
-use Rattle.ct_rules_node.specs.Node.{state_at, db_at, kind_at, holder_in}
+use Rattle.ct_cluster.specs.Handed.{state_at, db_at, kind_at, holder_in}
 use Rattle.ct_cluster.specs.Cluster as cluster
 use Rattle.ct_cluster.specs.Cluster.{Cluster, is_up, node_at}
 use Rattle.ct_register.specs.Register.{reading}
