@@ -1,0 +1,13 @@
+//! A plan is played on one thread, with its nodes in turn.
+//!
+//! ```
+//! let mut turns = Turns::new(alloc);
+//! turns.play(alloc, &table, &plan)?;
+//! let journals = turns.journals();
+//! ```
+#![tactic(auto)]
+
+mod stage;
+#[cfg(test)]
+mod tests;
+pub mod turns;
