@@ -11,7 +11,7 @@ use Rattle.ct_journal.specs.Order.{AreInOrder, all_entries}
 use Rattle.ct_journal.specs.Schedules.{IsSchedule, Noted, after_step, keeps_all_up, made_by, none_made, with_made}
 use Rattle.ct_journal.specs.declared.journal.Journal.{Journal}
 use Rattle.ct_join.specs.Joining.{SchedulesRuns}
-use Rattle.ct_law_promise.proofs.Running.{law_of_marks, promise}
+pub use Rattle.ct_law_promise.proofs.Running.{law_of_marks, promise}
 use Rattle.ct_order.specs.Order.{tally_of}
 use Rattle.ct_plan.specs.Sound.{IsSound, script_of}
 use Rattle.ct_promise.specs.Promises.{IsConfig}

@@ -3,4 +3,5 @@ pub mod Ending
 pub mod Feeding
 pub mod Printing
 pub mod Promised
+mod Ranged
 mod Unread

@@ -1,5 +1,5 @@
 -- What is claimed of the top call.
-use Rattle.std.specs.Prelude.{◌≡◌, ◌≢◌, ◌≤◌, ◌<◌, ◌+◌, ◌⊎◌, ℕ, List, [], ◌∷◌, ◌++◌, map, length, codes, Option, None, Some, Result, Ok, Err, String, string_bytes}
+use Rattle.std.specs.Prelude.{◌≡◌, ◌≢◌, ◌≤◌, ◌<◌, ◌+◌, ◌⊎◌, ℕ, Bool, true, false, List, [], ◌∷◌, ◌++◌, map, length, codes, Option, None, Some, Result, Ok, Err, String, string_bytes}
 use Rattle.std.specs.declared.alloc.Global.{Global}
 use Rattle.std.specs.Fmt.{decimal}
 use Rattle.std.specs.Io.KnownBytes.{Appends, Consumes, IsAtEnd}
@@ -21,8 +21,13 @@ use Rattle.ct_play.specs.declared.what.What.TheVariants.{Line}
 use Rattle.ct_placer.specs.declared.placer.End.{End as PlacingEnd}
 use Rattle.ct_placer.specs.declared.placer.End.TheVariants as placing
 use Rattle.ct_soak_run.specs.Soaking.{soak_text}
+use Rattle.ct_cluster_run.specs.declared.running.End.{End as ClusterEnd}
+use Rattle.ct_cluster_run.specs.declared.running.End.TheVariants as running
+use Rattle.ct_cluster_run.specs.declared.running.Wanted.{Wanted}
 use Rattle.ct_words.specs.Reading.{reading}
+use Rattle.ct_words.specs.declared.words.PlanNumbers.{PlanNumbers}
 use Rattle.ct_words.specs.declared.words.Word.{Word}
+use Rattle.ct_words.specs.declared.words.Word.TheVariants as word
 use Rattle.ct_main.specs.declared.player.End.{End}
 use Rattle.ct_main.specs.declared.player.End.TheVariants as end
 
@@ -153,3 +158,29 @@ SoakEnds rules s (end.Unended line) before now = ⊥
 SoakEnds rules s (end.Refused line what) before now = ⊥
 SoakEnds rules s end.ReadFault before now = ⊥
 SoakEnds rules s end.TooLong before now = ⊥
+
+-- what `cluster` wants: nodes that talk over no sockets; `loopback`: nodes that do
+abbrev pub wanted_by : Bool → PlanNumbers → Wanted
+wanted_by net p = record { nodes = p.nodes; calls = p.calls; seed = p.seed; net = net }
+
+-- the line on err once a cluster has ended
+abbrev pub cluster_message : ClusterEnd → List ℕ
+cluster_message running.Done = message end.Read
+cluster_message running.LinkFault = codes "ctdbsim: link fault\n"
+cluster_message running.WriteFault = message end.WriteFault
+cluster_message running.NoMemory = message end.NoMemory
+
+abbrev pub cluster_status : ClusterEnd → ℕ
+cluster_status running.Done = status end.Read
+cluster_status running.LinkFault = 7
+cluster_status running.WriteFault = status end.WriteFault
+cluster_status running.NoMemory = status end.NoMemory
+
+-- do the words ask for a play of the troupe?
+abbrev pub asks_troupe : Option Word → Bool
+asks_troupe (Some (word.Cluster p)) = true
+asks_troupe (Some (word.Loopback p)) = true
+asks_troupe (Some word.Play) = false
+asks_troupe (Some word.Lcp2) = false
+asks_troupe (Some (word.Soak seed steps)) = false
+asks_troupe None = false

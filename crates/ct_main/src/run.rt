@@ -1,17 +1,21 @@
 //! The top call.
-ghost use Rattle.std.specs.Prelude.{◌≡◌, ◌≤◌, ℕ, IfOk, None, Some};
+ghost use Rattle.std.specs.Prelude.{◌≡◌, ◌≤◌, ℕ, true, false, IfOk, None, Some};
 ghost use Rattle.ct_call.specs.Shown.{rules_of};
+ghost use Rattle.ct_cluster_run.specs.Running.{HasRunCause, Runs};
+ghost use Rattle.ct_cluster_run.specs.declared.running.End.{End as Ran};
 ghost use Rattle.ct_outside.specs.Causes.{Rose};
 ghost use Rattle.ct_placer.specs.Claims.{Places};
 ghost use Rattle.ct_placer.specs.declared.placer.End.{End as PlacingEnd};
+ghost use Rattle.ct_words.specs.declared.words.PlanNumbers.{PlanNumbers as Numbers};
 ghost use Rattle.ct_words.specs.declared.words.Word.TheVariants as word;
-ghost use Rattle.ct_main.specs.Claims.{HasEndCause, Plays, Refuses, Reports, SoakEnds, asked, message, placed_end, status};
+ghost use Rattle.ct_main.specs.Claims.{HasEndCause, Plays, Refuses, Reports, SoakEnds, asked, asks_troupe, cluster_message, cluster_status, message, placed_end, status, wanted_by};
 ghost use Rattle.ct_main.specs.declared.player.End.{End as Ended};
 ghost use Rattle.ct_main.specs.declared.player.End.TheVariants as ended;
 
 use crate::player::{End, play};
 use ct_bytes::memory::NoMemory;
 use ct_call::table::CallTable;
+use ct_cluster_run::running::{End as ClusterEnd, Wanted, cluster};
 use ct_outside::fault::SinkFault;
 use ct_outside::sink::{Sink, write_all};
 use ct_outside::source::Source;
@@ -20,7 +24,8 @@ use ct_play::text::push_what;
 use ct_play::what::What;
 use ct_soak_run::soaking::soak;
 use ct_tool::words::{push, push_number};
-use ct_words::words::{Word, WordsFault, read_words};
+use ct_troupe::troupe::Troupe;
+use ct_words::words::{PlanNumbers, Word, WordsFault, read_words};
 use std::alloc::Global;
 
 /// The line that err gets.
@@ -116,17 +121,43 @@ fn soak_end<K: Sink>(alloc: Global, table: &CallTable, seed: u64, steps: u32, ou
     }
 }
 
-/// All that the program does. `words` are the words after its name. The answer is the program's status: 0 where the
-/// input was read to its end, 1 where the words have no reading, 2 where a line is refused or the input ends inside
-/// one, 3 where a read failed, 4 where a write failed, 5 for want of memory, and 8 where 2^40 bytes were taken.
-#[tactic(auto, using(crate::proofs::Unread::nothing_played, crate::proofs::Unread::nothing_placed, crate::proofs::Unread::nothing_soaked, crate::proofs::Unread::no_cause))]
-pub fn run<S: Source, K: Sink, E: Sink>(
+/// What is to be played, by the numbers of the words.
+fn wanted_by(net: bool, numbers: &PlanNumbers) -> Wanted
+    ensures { result ≡ wanted_by net numbers.now }
+{
+    Wanted {
+        nodes: numbers.nodes,
+        calls: numbers.calls,
+        seed: numbers.seed,
+        net,
+    }
+}
+
+/// Says on err how a cluster ended, and answers the status.
+fn report_cluster<E: Sink>(alloc: Global, end: ClusterEnd, err: &mut E) -> u8
+    ensures { Reports (cluster_message end) (cluster_status end) result (E.held err.old) (E.held err.new) (E.faults err.old) (E.faults err.new) }
+{
+    match end {
+        ClusterEnd::Done => report(alloc, End::Read, err),
+        ClusterEnd::LinkFault => say(b"ctdbsim: link fault\n", 7, err),
+        ClusterEnd::WriteFault => report(alloc, End::WriteFault, err),
+        ClusterEnd::NoMemory => report(alloc, End::NoMemory, err),
+    }
+}
+
+/// All that the program does. `words` are the words after its name, and the troupe plays what they plan. The answer is the
+/// program's status: 0 where the input was read to its end, 1 where the words have no reading, 2 where a line is refused or
+/// the input ends inside one, 3 where a read failed, 4 where a write failed, 5 for want of memory, 7 where the troupe failed,
+/// and 8 where 2^40 bytes were taken.
+#[tactic(auto, using(crate::proofs::Ranged::in_range, crate::proofs::Unread::nothing_played, crate::proofs::Unread::nothing_placed, crate::proofs::Unread::nothing_soaked, crate::proofs::Unread::no_cause, ct_cluster_run::proofs::Played::unwritten, ct_cluster_run::proofs::Played::no_run_cause))]
+pub fn run<S: Source, K: Sink, E: Sink, T: Troupe>(
     alloc: Global,
     words: &[String],
     table: &CallTable,
     input: &mut S,
     out: &mut K,
     err: &mut E,
+    troupe: &mut T,
 ) -> u8
     // The words say `play`: bytes that came in were played, and err and the answer say how that ended.
     ensures play { asked words.now ≡ Some word.Play → (e : Ended)
@@ -144,6 +175,21 @@ pub fn run<S: Source, K: Sink, E: Sink>(
         × HasEndCause e (S.faults input.old) (S.faults input.new) (K.faults out.old) (K.faults out.new)
         × Reports (message e) (status e) result (E.held err.old) (E.held err.new) (E.faults err.old) (E.faults err.new)
         × (input.new ≡ input.old) }
+    // The words say `cluster`, with the numbers of a plan: the troupe played that plan, and the text of a schedule of its
+    // journals was printed; nothing was read.
+    ensures cluster { (p : Numbers) → asked words.now ≡ Some (word.Cluster p) → (e : Ran)
+        × Runs (rules_of table.now) (wanted_by false p) e (T.told troupe.new) (K.held out.old) (K.held out.new)
+        × HasRunCause e (T.faults troupe.old) (T.faults troupe.new) (K.faults out.old) (K.faults out.new)
+        × Reports (cluster_message e) (cluster_status e) result (E.held err.old) (E.held err.new) (E.faults err.old) (E.faults err.new)
+        × (input.new ≡ input.old) }
+    // The words say `loopback`: the same, with nodes that talk over sockets.
+    ensures loopback { (p : Numbers) → asked words.now ≡ Some (word.Loopback p) → (e : Ran)
+        × Runs (rules_of table.now) (wanted_by true p) e (T.told troupe.new) (K.held out.old) (K.held out.new)
+        × HasRunCause e (T.faults troupe.old) (T.faults troupe.new) (K.faults out.old) (K.faults out.new)
+        × Reports (cluster_message e) (cluster_status e) result (E.held err.old) (E.held err.new) (E.faults err.old) (E.faults err.new)
+        × (input.new ≡ input.old) }
+    // For all other words the troupe plays nothing.
+    ensures aside { asks_troupe (asked words.now) ≡ false → troupe.new ≡ troupe.old }
     // The words have no reading: nothing was read or printed, and err says so, or that memory was wanting.
     ensures usage { asked words.now ≡ None → Refuses result (E.held err.old) (E.held err.new) (E.faults err.old) (E.faults err.new)
         × (input.new ≡ input.old) × (out.new ≡ out.old) }
@@ -160,6 +206,16 @@ pub fn run<S: Source, K: Sink, E: Sink>(
         Ok(Word::Soak { seed, steps }) => {
             let end = soak_end(alloc, table, seed, steps, out);
             report(alloc, end, err)
+        }
+        Ok(Word::Cluster(numbers)) => {
+            let wanted = wanted_by(false, &numbers);
+            let end = cluster(alloc, table, &wanted, out, troupe);
+            report_cluster(alloc, end, err)
+        }
+        Ok(Word::Loopback(numbers)) => {
+            let wanted = wanted_by(true, &numbers);
+            let end = cluster(alloc, table, &wanted, out, troupe);
+            report_cluster(alloc, end, err)
         }
         Err(WordsFault::Usage) => say(b"ctdbsim: usage\n", 1, err),
         Err(WordsFault::NoMemory) => report(alloc, End::NoMemory, err),

@@ -3,10 +3,13 @@ ghost use Rattle.std.specs.Prelude.{None};
 
 use crate::run::run;
 use ct_call::table::CallTable;
+use ct_frame::plan::Plan;
+use ct_journal::journal::Journal;
 use ct_outside::fault::{Failed, SinkFault};
 use ct_outside::memory::{MemSink, MemSource};
 use ct_outside::sink::Sink;
 use ct_outside::source::Source;
+use ct_troupe::troupe::{PlayFault, Troupe};
 use std::alloc::Global;
 use std::test::Fail;
 
@@ -63,6 +66,38 @@ impl Sink for Narrow {
         let count = self.most.max(1).min(piece.len());
         self.bytes.extend_from_slice(&piece[..count])?;
         Ok(count)
+    }
+}
+
+// Fails whenever it is to play.
+#[derive(Drop)]
+struct Broken {
+    journals: Vec<Journal>,
+    faults: u64,
+}
+
+impl Broken {
+    fn new(alloc: Global) -> Broken {
+        Broken {
+            journals: Vec::new(alloc),
+            faults: 0,
+        }
+    }
+}
+
+impl Troupe for Broken {
+    ghost told = { λ s. s.journals.items };
+
+    ghost faults = { λ s. s.faults };
+
+    fn play(&mut self, _alloc: Global, _table: &CallTable, _plan: &Plan) -> Result<(), PlayFault> {
+        self.journals.truncate(0);
+        self.faults = self.faults.saturating_add(1);
+        Err(PlayFault::Link)
+    }
+
+    fn journals(&self) -> &[Journal] {
+        self.journals.as_slice()
     }
 }
 
@@ -200,6 +235,20 @@ const SOAKS: [Case; 3] = [
     ),
 ];
 
+const CLUSTER: &[&str] = &["cluster", "2", "5", "1"];
+
+const LOOPBACK: &[&str] = &["loopback", "2", "5", "1"];
+
+const LINK_FAULT: &str = "ctdbsim: link fault\n";
+
+const TROUPES: [Case; 5] = [
+    (CLUSTER, SESSION, NONE, (7, "", LINK_FAULT)),
+    (LOOPBACK, SESSION, NONE, (7, "", LINK_FAULT)),
+    (CLUSTER, "", [&[1], &[1], &[]], (7, "", LINK_FAULT)),
+    (CLUSTER, "", [&[], &[], &[1]], (4, "", "")),
+    (&["cluster", "9", "1", "1"], "", NONE, (1, "", USAGE)),
+];
+
 const FAULTS: [Case; 7] = [
     (
         PLAY,
@@ -257,6 +306,7 @@ fn agrees(alloc: Global, case: &Case) -> Result<bool, Fail> {
         &mut source,
         &mut held,
         &mut said,
+        &mut Broken::new(alloc),
     );
     Ok(got == status && held.held() == out.as_bytes() && said.held() == err.as_bytes())
 }
@@ -302,6 +352,12 @@ fn what_is_soaked(rt: HostRuntime) -> Result<(), Fail> {
 }
 
 #[test]
+fn what_fails_with_its_troupe(rt: HostRuntime) -> Result<(), Fail> {
+    assert_eq!(rt; odd_row(rt.alloc(), &TROUPES)?, None);
+    Ok(())
+}
+
+#[test]
 fn faults(rt: HostRuntime) -> Result<(), Fail> {
     assert_eq!(rt; odd_row(rt.alloc(), &FAULTS)?, None);
     Ok(())
@@ -336,6 +392,7 @@ fn moved(alloc: Global, input_fails: u64, out_fails: u64) -> Result<(u8, MemSink
         &mut source,
         &mut held,
         &mut said,
+        &mut Broken::new(alloc),
     );
     Ok((status, held))
 }
@@ -380,7 +437,8 @@ fn pieces(rt: HostRuntime) -> Result<(), Fail> {
                 &table,
                 &mut source,
                 &mut held,
-                &mut said
+                &mut said,
+                &mut Broken::new(alloc)
             ),
             0
         );
@@ -409,6 +467,7 @@ fn said_of_letters(alloc: Global, letters: usize, end: &[u8]) -> Result<MemSink,
         &mut source,
         &mut held,
         &mut said,
+        &mut Broken::new(alloc),
     );
     Ok(said)
 }

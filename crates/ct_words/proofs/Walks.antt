@@ -3,6 +3,7 @@ use Rattle.std.proofs.Common.{◌≡◌, ◌∙◌, ℕ, Bool, cond, true, false
 use Rattle.std.proofs.lemmas.List.{append-nil, append_assoc}
 use Rattle.std.specs.List.{fold}
 use Rattle.std.specs.Option.{ok_or, option_map}
+use Rattle.std.specs.Prelude.{IfOk, IfSome}
 use Rattle.std.specs.Str.{bytes_eq}
 use Rattle.std.proofs.lemmas.Slice.Eq.{bytes_eq-Decides}
 use Rattle.clap.specs.Walk.{Held, Names, Row, Step, Text, Walk, after_step, finished, nothing_held, settled, subcommand_met, value, walk_from, walked, word_met}
@@ -16,12 +17,13 @@ use Rattle.clap.specs.declared.error.kind.ErrorKind.TheVariants as kind
 use Rattle.clap.proofs.OnLiterals.{clap_on_literals}
 use Rattle.ct_bytes.specs.Number.{number_of}
 use Rattle.ct_words.specs.Command as command
-use Rattle.ct_words.specs.Matched.{matched, soak_in}
-use Rattle.ct_words.specs.Reading.{Reads, alone, reading, soak, soak_of, without_dashes}
+use Rattle.ct_words.specs.Matched.{matched, plan_in, soak_in}
+use Rattle.ct_words.specs.Reading.{IsRanged, Reads, alone, numbers, numbers_of, plan, reading, soak, soak_of, without_dashes}
 use Rattle.ct_words.specs.declared.words.WordsFault.{WordsFault}
 use Rattle.ct_words.specs.declared.words.WordsFault.TheVariants.{Usage}
 use Rattle.ct_words.specs.declared.words.Word.{Word}
-use Rattle.ct_words.specs.declared.words.Word.TheVariants.{Play, Lcp2}
+use Rattle.ct_words.specs.declared.words.PlanNumbers.{PlanNumbers}
+use Rattle.ct_words.specs.declared.words.Word.TheVariants.{Play, Lcp2, Cluster, Loopback}
 use Rattle.ct_words.proofs.Single.{NoOptions, Single, holding, is_odd, is_value, single}
 
 -- nothing fails and what was found is the reading, or something fails and there is no reading
@@ -244,6 +246,125 @@ soak_start (w ∷ ws) = go (bytes_eq w (codes "--")) refl
     go false e = as_read _ _ (soak (w ∷ without_dashes ws)) _ (ap soak (dashes_later w ws e))
         (takes_place soak_leaf soak_options soak_in [] None 1 (one false w) w ws _ e refl refl (no_seed w (without_dashes ws)) (one_there w ws))
 
+-- ---- a command of a plan
+
+no_nodes : (w : Text) (ws : List Text) → number_of w ≡ None → numbers (w ∷ ws) ≡ None
+no_nodes w [] e = refl
+no_nodes w (b ∷ []) e = refl
+no_nodes w (b ∷ c ∷ []) e = ap (λ (o : Option ℕ). numbers_of o (number_of b) (number_of c)) e
+no_nodes w (b ∷ c ∷ d ∷ ws) e = refl
+
+no_calls : (a w : Text) (ws : List Text) → number_of w ≡ None → numbers (a ∷ w ∷ ws) ≡ None
+no_calls a w [] e = refl
+no_calls a w (c ∷ []) e = go (number_of a) ∙ refl
+  where
+    go : (o : Option ℕ) → numbers_of o (number_of w) (number_of c) ≡ None
+    go None = refl
+    go (Some n) = ap (λ (o : Option ℕ). numbers_of (Some n) o (number_of c)) e
+no_calls a w (c ∷ d ∷ ws) e = refl
+
+no_start : (a b w : Text) (ws : List Text) → number_of w ≡ None → numbers (a ∷ b ∷ w ∷ ws) ≡ None
+no_start a b w [] e = go (number_of a) (number_of b) ∙ refl
+  where
+    go : (o p : Option ℕ) → numbers_of o p (number_of w) ≡ None
+    go None p = refl
+    go (Some n) None = refl
+    go (Some n) (Some c) = ap (numbers_of (Some n) (Some c)) e
+no_start a b w (d ∷ ws) e = refl
+
+module _ (name : Text) (word : PlanNumbers → Word) where
+  abbrev plan_leaf : Shape
+  plan_leaf = leaf (command.planned name).top
+
+  plan_options : NoOptions plan_leaf.rules
+  plan_options = record { long = λ n. refl; short = λ c. refl }
+
+  abbrev found : List Row → Option Word
+  found rows = plan_in word rows
+
+  abbrev p0 : Bool → Walk
+  p0 t = standing [] None 1 t
+
+  abbrev p1 : Bool → Text → Walk
+  p1 t a = standing [] (Some (codes "nodes", a ∷ [])) 2 t
+
+  abbrev p2 : Bool → Text → Text → Walk
+  p2 t a b = standing (settled plan_leaf.rules (p1 t a).held).rows (Some (codes "calls", b ∷ [])) 3 t
+
+  abbrev p3 : Bool → Text → Text → Text → Walk
+  p3 t a b d = standing (settled plan_leaf.rules (p2 t a b).held).rows (Some (codes "seed", d ∷ [])) 4 t
+
+  -- from here on, with what was read before
+  abbrev PlanSaid : Walk → List Text → List Text → Type 0
+  PlanSaid v ws read = Agrees (rest_fault plan_leaf v ws) (found (rest_rows plan_leaf v ws)) (plan word read)
+
+  p3_trailing : (a b d : Text) (ws : List Text) → PlanSaid (p3 true a b d) ws (a ∷ b ∷ d ∷ ws)
+  unfolding clap_on_literals
+  p3_trailing a b d [] = taken refl refl
+  p3_trailing a b d (w ∷ ws) = stops plan_leaf found (p3 true a b d) w ws None kind.UnknownArgument [] refl refl
+
+  p3_there : (a b d : Text) (ws : List Text) → PlanSaid (p3 false a b d) ws (a ∷ b ∷ d ∷ without_dashes ws)
+  unfolding clap_on_literals
+  p3_there a b d [] = taken refl refl
+  p3_there a b d (w ∷ ws) = go (bytes_eq w (codes "--")) refl
+    where
+      go : (t : Bool) → bytes_eq w (codes "--") ≡ t → PlanSaid (p3 false a b d) (w ∷ ws) (a ∷ b ∷ d ∷ without_dashes (w ∷ ws))
+      go true e = as_read _ _ (plan word (a ∷ b ∷ d ∷ ws)) _ (ap (λ (l : List Text). plan word (a ∷ b ∷ d ∷ l)) (dashes_here w ws e))
+          (passes_dashes plan_leaf found (p3 false a b d).held.rows (p3 false a b d).held.pending 4 w ws _ e (p3_trailing a b d ws))
+      go false e = no_place plan_leaf plan_options found (p3 false a b d).held.rows (p3 false a b d).held.pending 4 w ws _ kind.UnknownArgument [] e refl
+          (ap (λ (l : List Text). plan word (a ∷ b ∷ d ∷ l)) (dashes_later w ws e))
+
+  p2_trailing : (a b : Text) (ws : List Text) → PlanSaid (p2 true a b) ws (a ∷ b ∷ ws)
+  unfolding clap_on_literals
+  p2_trailing a b [] = refused kind.MissingRequiredArgument [] refl refl
+  p2_trailing a b (w ∷ ws) = goes_on plan_leaf found (p2 true a b) (p3 true a b w) w ws _ refl refl (p3_trailing a b w ws)
+
+  p2_there : (a b : Text) (ws : List Text) → PlanSaid (p2 false a b) ws (a ∷ b ∷ without_dashes ws)
+  unfolding clap_on_literals
+  p2_there a b [] = refused kind.MissingRequiredArgument [] refl refl
+  p2_there a b (w ∷ ws) = go (bytes_eq w (codes "--")) refl
+    where
+      go : (t : Bool) → bytes_eq w (codes "--") ≡ t → PlanSaid (p2 false a b) (w ∷ ws) (a ∷ b ∷ without_dashes (w ∷ ws))
+      go true e = as_read _ _ (plan word (a ∷ b ∷ ws)) _ (ap (λ (l : List Text). plan word (a ∷ b ∷ l)) (dashes_here w ws e))
+          (passes_dashes plan_leaf found (p2 false a b).held.rows (p2 false a b).held.pending 3 w ws _ e (p2_trailing a b ws))
+      go false e = as_read _ _ (plan word (a ∷ b ∷ w ∷ without_dashes ws)) _ (ap (λ (l : List Text). plan word (a ∷ b ∷ l)) (dashes_later w ws e))
+          (takes_place plan_leaf plan_options found (p2 false a b).held.rows (p2 false a b).held.pending 3 (p3 false a b w) w ws _ e refl refl
+          (λ none. ap (option_map word) (no_start a b w (without_dashes ws) none)) (p3_there a b w ws))
+
+  p1_trailing : (a : Text) (ws : List Text) → PlanSaid (p1 true a) ws (a ∷ ws)
+  unfolding clap_on_literals
+  p1_trailing a [] = refused kind.MissingRequiredArgument [] refl refl
+  p1_trailing a (w ∷ ws) = goes_on plan_leaf found (p1 true a) (p2 true a w) w ws _ refl refl (p2_trailing a w ws)
+
+  p1_there : (a : Text) (ws : List Text) → PlanSaid (p1 false a) ws (a ∷ without_dashes ws)
+  unfolding clap_on_literals
+  p1_there a [] = refused kind.MissingRequiredArgument [] refl refl
+  p1_there a (w ∷ ws) = go (bytes_eq w (codes "--")) refl
+    where
+      go : (t : Bool) → bytes_eq w (codes "--") ≡ t → PlanSaid (p1 false a) (w ∷ ws) (a ∷ without_dashes (w ∷ ws))
+      go true e = as_read _ _ (plan word (a ∷ ws)) _ (ap (λ (l : List Text). plan word (a ∷ l)) (dashes_here w ws e))
+          (passes_dashes plan_leaf found (p1 false a).held.rows (p1 false a).held.pending 2 w ws _ e (p1_trailing a ws))
+      go false e = as_read _ _ (plan word (a ∷ w ∷ without_dashes ws)) _ (ap (λ (l : List Text). plan word (a ∷ l)) (dashes_later w ws e))
+          (takes_place plan_leaf plan_options found (p1 false a).held.rows (p1 false a).held.pending 2 (p2 false a w) w ws _ e refl refl
+          (λ none. ap (option_map word) (no_calls a w (without_dashes ws) none)) (p2_there a w ws))
+
+  p0_trailing : (ws : List Text) → PlanSaid (p0 true) ws ws
+  unfolding clap_on_literals
+  p0_trailing [] = refused kind.MissingRequiredArgument [] refl refl
+  p0_trailing (w ∷ ws) = goes_on plan_leaf found (p0 true) (p1 true w) w ws _ refl refl (p1_trailing w ws)
+
+  plan_start : (ws : List Text) → PlanSaid (p0 false) ws (without_dashes ws)
+  unfolding clap_on_literals
+  plan_start [] = refused kind.MissingRequiredArgument [] refl refl
+  plan_start (w ∷ ws) = go (bytes_eq w (codes "--")) refl
+    where
+      go : (t : Bool) → bytes_eq w (codes "--") ≡ t → PlanSaid (p0 false) (w ∷ ws) (without_dashes (w ∷ ws))
+      go true e = as_read _ _ (plan word ws) _ (ap (plan word) (dashes_here w ws e))
+          (passes_dashes plan_leaf found [] None 1 w ws _ e (p0_trailing ws))
+      go false e = as_read _ _ (plan word (w ∷ without_dashes ws)) _ (ap (plan word) (dashes_later w ws e))
+          (takes_place plan_leaf plan_options found [] None 1 (p1 false w) w ws _ e refl refl
+          (λ none. ap (option_map word) (no_nodes w (without_dashes ws) none)) (p1_there w ws))
+
 -- ---- the command
 
 abbrev app : App
@@ -302,6 +423,14 @@ soak_said : (ws : List Text) → Said (codes "soak" ∷ ws)
 unfolding clap_on_literals
 soak_said ws = as_said _ _ _ _ _ (ended_fault (codes "soak") ws ∙ or_none _) (ended_at (codes "soak") ws) (soak_start ws)
 
+cluster_said : (ws : List Text) → Said (codes "cluster" ∷ ws)
+unfolding clap_on_literals
+cluster_said ws = as_said _ _ _ _ _ (ended_fault (codes "cluster") ws ∙ or_none _) (ended_at (codes "cluster") ws) (plan_start (codes "cluster") (λ p. Cluster p) ws)
+
+loopback_said : (ws : List Text) → Said (codes "loopback" ∷ ws)
+unfolding clap_on_literals
+loopback_said ws = as_said _ _ _ _ _ (ended_fault (codes "loopback") ws ∙ or_none _) (ended_at (codes "loopback") ws) (plan_start (codes "loopback") (λ p. Loopback p) ws)
+
 -- ---- a first word that is no command
 
 turned : (a b : Text) → bytes_eq a b ≡ false → bytes_eq b a ≡ false
@@ -314,27 +443,34 @@ turned a b e = go (bytes_eq b a) refl
 program_options : NoOptions app.top.rules
 program_options = record { long = λ n. refl; short = λ c. refl }
 
-module _ (w : Text) (no_play : bytes_eq w (codes "play") ≡ false) (no_lcp2 : bytes_eq w (codes "lcp2") ≡ false) (no_soak : bytes_eq w (codes "soak") ≡ false) where
+module _ (w : Text) (no_play : bytes_eq w (codes "play") ≡ false) (no_lcp2 : bytes_eq w (codes "lcp2") ≡ false) (no_soak : bytes_eq w (codes "soak") ≡ false)
+    (no_cluster : bytes_eq w (codes "cluster") ≡ false) (no_loopback : bytes_eq w (codes "loopback") ≡ false) where
   abbrev label : Text → Text × List Text
   label name = (name, [])
 
-  abbrev met_by : Bool → Bool → Bool → Option Text
-  met_by p l s = option_map (λ n. n.0)
-      (cond (p || false) (Some (label (codes "play"))) (cond (l || false) (Some (label (codes "lcp2"))) (cond (s || false) (Some (label (codes "soak"))) None)))
+  abbrev met_by : Bool → Bool → Bool → Bool → Bool → Option Text
+  met_by p l s c b = option_map (λ n. n.0)
+      (cond (p || false) (Some (label (codes "play"))) (cond (l || false) (Some (label (codes "lcp2"))) (cond (s || false) (Some (label (codes "soak")))
+      (cond (c || false) (Some (label (codes "cluster"))) (cond (b || false) (Some (label (codes "loopback"))) None)))))
 
   unnamed : subcommand_met names idle w ≡ None
-  unnamed = ap (λ (p : Bool). met_by p (bytes_eq (codes "lcp2") w) (bytes_eq (codes "soak") w)) (turned w (codes "play") no_play)
-      ∙ ap (λ (l : Bool). met_by false l (bytes_eq (codes "soak") w)) (turned w (codes "lcp2") no_lcp2)
-      ∙ ap (λ (s : Bool). met_by false false s) (turned w (codes "soak") no_soak)
+  unnamed = ap (λ (p : Bool). met_by p (bytes_eq (codes "lcp2") w) (bytes_eq (codes "soak") w) (bytes_eq (codes "cluster") w) (bytes_eq (codes "loopback") w)) (turned w (codes "play") no_play)
+      ∙ ap (λ (l : Bool). met_by false l (bytes_eq (codes "soak") w) (bytes_eq (codes "cluster") w) (bytes_eq (codes "loopback") w)) (turned w (codes "lcp2") no_lcp2)
+      ∙ ap (λ (s : Bool). met_by false false s (bytes_eq (codes "cluster") w) (bytes_eq (codes "loopback") w)) (turned w (codes "soak") no_soak)
+      ∙ ap (λ (c : Bool). met_by false false false c (bytes_eq (codes "loopback") w)) (turned w (codes "cluster") no_cluster)
+      ∙ ap (λ (b : Bool). met_by false false false false b) (turned w (codes "loopback") no_loopback)
 
   module _ (ws : List Text) where
-    abbrev read_by : Bool → Bool → Bool → Option Word
-    read_by p l s = cond p (alone Play (without_dashes ws)) (cond l (alone Lcp2 (without_dashes ws)) (cond s (soak (without_dashes ws)) None))
+    abbrev read_by : Bool → Bool → Bool → Bool → Bool → Option Word
+    read_by p l s c b = cond p (alone Play (without_dashes ws)) (cond l (alone Lcp2 (without_dashes ws)) (cond s (soak (without_dashes ws))
+        (cond c (plan (λ n. Cluster n) (without_dashes ws)) (cond b (plan (λ n. Loopback n) (without_dashes ws)) None))))
 
     unread : reading (w ∷ ws) ≡ None
-    unread = ap (λ (p : Bool). read_by p (bytes_eq w (codes "lcp2")) (bytes_eq w (codes "soak"))) no_play
-        ∙ ap (λ (l : Bool). read_by false l (bytes_eq w (codes "soak"))) no_lcp2
-        ∙ ap (λ (s : Bool). read_by false false s) no_soak
+    unread = ap (λ (p : Bool). read_by p (bytes_eq w (codes "lcp2")) (bytes_eq w (codes "soak")) (bytes_eq w (codes "cluster")) (bytes_eq w (codes "loopback"))) no_play
+        ∙ ap (λ (l : Bool). read_by false l (bytes_eq w (codes "soak")) (bytes_eq w (codes "cluster")) (bytes_eq w (codes "loopback"))) no_lcp2
+        ∙ ap (λ (s : Bool). read_by false false s (bytes_eq w (codes "cluster")) (bytes_eq w (codes "loopback"))) no_soak
+        ∙ ap (λ (c : Bool). read_by false false false c (bytes_eq w (codes "loopback"))) no_cluster
+        ∙ ap (λ (b : Bool). read_by false false false false b) no_loopback
 
     fails : (k : ErrorKind) (ks : Kinds) → turn_fault app.top names (walk_from nothing_held) w ≡ k ∷ ks → Said (w ∷ ws)
     unfolding walk_fault
@@ -363,14 +499,17 @@ said_at name w ws e h = subst (λ (x : Text). Said (x ∷ ws)) (sym ((bytes_eq-D
 pub said : (ws : List Text) → Said ws
 unfolding clap_on_literals
 said [] = refused kind.MissingSubcommand [] refl refl
-said (w ∷ ws) = go (bytes_eq w (codes "play")) (bytes_eq w (codes "lcp2")) (bytes_eq w (codes "soak")) (bytes_eq w (codes "--")) refl refl refl refl
+said (w ∷ ws) = go (bytes_eq w (codes "play")) (bytes_eq w (codes "lcp2")) (bytes_eq w (codes "soak")) (bytes_eq w (codes "cluster")) (bytes_eq w (codes "loopback")) (bytes_eq w (codes "--")) refl refl refl refl refl refl
   where
-    go : (p l s d : Bool) → bytes_eq w (codes "play") ≡ p → bytes_eq w (codes "lcp2") ≡ l → bytes_eq w (codes "soak") ≡ s → bytes_eq w (codes "--") ≡ d → Said (w ∷ ws)
-    go true l s d ep el es ed = said_at (codes "play") w ws ep (play_said ws)
-    go false true s d ep el es ed = said_at (codes "lcp2") w ws el (lcp2_said ws)
-    go false false true d ep el es ed = said_at (codes "soak") w ws es (soak_said ws)
-    go false false false true ep el es ed = said_at (codes "--") w ws ed (dashes_said ws)
-    go false false false false ep el es ed = other_said w ep el es ws ed
+    go : (p l s c b d : Bool) → bytes_eq w (codes "play") ≡ p → bytes_eq w (codes "lcp2") ≡ l → bytes_eq w (codes "soak") ≡ s → bytes_eq w (codes "cluster") ≡ c
+        → bytes_eq w (codes "loopback") ≡ b → bytes_eq w (codes "--") ≡ d → Said (w ∷ ws)
+    go true l s c b d ep el es ec eb ed = said_at (codes "play") w ws ep (play_said ws)
+    go false true s c b d ep el es ec eb ed = said_at (codes "lcp2") w ws el (lcp2_said ws)
+    go false false true c b d ep el es ec eb ed = said_at (codes "soak") w ws es (soak_said ws)
+    go false false false true b d ep el es ec eb ed = said_at (codes "cluster") w ws ec (cluster_said ws)
+    go false false false false true d ep el es ec eb ed = said_at (codes "loopback") w ws eb (loopback_said ws)
+    go false false false false false true ep el es ec eb ed = said_at (codes "--") w ws ed (dashes_said ws)
+    go false false false false false false ep el es ec eb ed = other_said w ep el es ec eb ws ed
 
 -- nothing fails: what was found is the reading
 pub found_read : (kinds : Kinds) (found read : Option Word) → Agrees kinds found read → kinds ≡ [] → found ≡ read
@@ -394,3 +533,8 @@ is_plain = refl
 pub reads_found : (found read : Option Word) (r : Result Word WordsFault) → found ≡ read → r ≡ ok_or found Usage → Reads r read
 reads_found None read r e is = subst (λ (x : Result Word WordsFault). Reads x read) (sym is) (sym e)
 reads_found (Some w) read r e is = subst (λ (x : Result Word WordsFault). Reads x read) (sym is) (sym e)
+
+-- the numbers of what is answered are in their range
+pub ranged_found : (found : Option Word) (r : Result Word WordsFault) → IfSome found IsRanged → r ≡ ok_or found Usage → IfOk r IsRanged
+ranged_found None r h is = subst (λ (x : Result Word WordsFault). IfOk x IsRanged) (sym is) tt
+ranged_found (Some w) r h is = subst (λ (x : Result Word WordsFault). IfOk x IsRanged) (sym is) h

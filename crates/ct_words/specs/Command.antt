@@ -17,6 +17,16 @@ lcp2 = new_app (codes "lcp2")
 abbrev pub soak : App
 soak = with_rule (with_rule (new_app (codes "soak")) (number (codes "seed"))) (number (codes "steps"))
 
+-- a command with the numbers of a plan
+abbrev pub planned : Text → App
+planned name = with_rule (with_rule (with_rule (new_app name) (number (codes "nodes"))) (number (codes "calls"))) (number (codes "seed"))
+
+abbrev pub cluster : App
+cluster = planned (codes "cluster")
+
+abbrev pub loopback : App
+loopback = planned (codes "loopback")
+
 -- no command yet
 abbrev pub bare_shape : Shape → Shape
 bare_shape s = record s { no_binary_name = true; subcommand_required = true; disable_help_flag = true; disable_help_subcommand = true; disable_version_flag = true }
@@ -25,4 +35,4 @@ abbrev pub bare : App
 bare = on_top bare_shape (new_app (codes "ctdbsim"))
 
 abbrev pub program : App
-program = with_subcommand (with_subcommand (with_subcommand bare play.top) lcp2.top) soak.top
+program = with_subcommand (with_subcommand (with_subcommand (with_subcommand (with_subcommand bare play.top) lcp2.top) soak.top) cluster.top) loopback.top

@@ -1,9 +1,11 @@
 -- What the words after the program's name ask for.
-use Rattle.std.specs.Prelude.{◌≡◌, ℕ, nat_le, ◌&&◌, if◌then◌else◌, List, [], ◌∷◌, codes, Option, None, Some, Result, Ok, Err}
+use Rattle.std.specs.Prelude.{◌≡◌, ◌≤◌, ℕ, nat_le, ◌&&◌, if◌then◌else◌, List, [], ◌∷◌, codes, Option, None, Some, Result, Ok, Err}
+use Rattle.std.specs.Option.{option_map}
 use Rattle.std.specs.Str.{bytes_eq}
 use Rattle.ct_bytes.specs.Number.{number_of}
+use Rattle.ct_words.specs.declared.words.PlanNumbers.{PlanNumbers}
 use Rattle.ct_words.specs.declared.words.Word.{Word}
-use Rattle.ct_words.specs.declared.words.Word.TheVariants.{Play, Lcp2, Soak}
+use Rattle.ct_words.specs.declared.words.Word.TheVariants.{Play, Lcp2, Soak, Cluster, Loopback}
 use Rattle.ct_words.specs.declared.words.WordsFault.{WordsFault}
 use Rattle.ct_words.specs.declared.words.WordsFault.TheVariants.{Usage, NoMemory}
 
@@ -30,6 +32,45 @@ soak (seed ∷ []) = None
 soak (seed ∷ steps ∷ []) = soak_of (number_of seed) (number_of steps)
 soak (seed ∷ steps ∷ w ∷ ws) = None
 
+-- a plan of 1 to 8 nodes, with 1 to 1,000 words of its generator each
+abbrev pub numbers_of : Option ℕ → Option ℕ → Option ℕ → Option PlanNumbers
+numbers_of (Some nodes) (Some calls) (Some seed) =
+    if nat_le 1 nodes && nat_le nodes 8
+    then if nat_le 1 calls && nat_le calls 1000
+    then Some (record { nodes = nodes; calls = calls; seed = seed })
+    else None
+    else None
+numbers_of (Some nodes) (Some calls) None = None
+numbers_of (Some nodes) None seed = None
+numbers_of None calls seed = None
+
+-- the numbers of a plan are in their range
+pub record HasRange (p : PlanNumbers) : Type 0 where
+  pub some_nodes : 1 ≤ p.nodes
+  pub few_nodes : p.nodes ≤ 8
+  pub some_calls : 1 ≤ p.calls
+  pub few_calls : p.calls ≤ 1000
+
+-- those of a word are
+abbrev pub IsRanged : Word → Type 0
+IsRanged Play = Unit {0}
+IsRanged Lcp2 = Unit {0}
+IsRanged (Soak seed steps) = Unit {0}
+IsRanged (Cluster p) = HasRange p
+IsRanged (Loopback p) = HasRange p
+
+-- the numbers of nodes and of words, and the seed
+abbrev pub numbers : List (List ℕ) → Option PlanNumbers
+numbers [] = None
+numbers (nodes ∷ []) = None
+numbers (nodes ∷ calls ∷ []) = None
+numbers (nodes ∷ calls ∷ seed ∷ []) = numbers_of (number_of nodes) (number_of calls) (number_of seed)
+numbers (nodes ∷ calls ∷ seed ∷ w ∷ ws) = None
+
+-- a command of a plan
+abbrev pub plan : (PlanNumbers → Word) → List (List ℕ) → Option Word
+plan word ws = option_map word (numbers ws)
+
 -- The command stands first. Of the words after it the first `--` is dropped; the rest are exactly the command's numbers, in
 -- decimal without sign or leading zero.
 abbrev pub command_of : List ℕ → List (List ℕ) → Option Word
@@ -40,6 +81,10 @@ command_of name rest =
     then alone Lcp2 rest
     else if bytes_eq name (codes "soak")
     then soak rest
+    else if bytes_eq name (codes "cluster")
+    then plan (λ p. Cluster p) rest
+    else if bytes_eq name (codes "loopback")
+    then plan (λ p. Loopback p) rest
     else None
 
 abbrev pub reading : List (List ℕ) → Option Word

@@ -1,8 +1,8 @@
-//! The command line as `clap` knows it: three commands, and the numbers of one of them as texts.
+//! The command line as `clap` knows it: five commands, and the numbers of three of them as texts.
 ghost use Rattle.std.specs.Prelude.{◌≡◌, IfOk, false};
 ghost use Rattle.clap.specs.Words.{app_of, rule_of};
 ghost use Rattle.clap.specs.declared.builder.command.Command.TheViews.{out-Command as fields_of};
-ghost use Rattle.ct_words.specs.Command.{number, program, soak};
+ghost use Rattle.ct_words.specs.Command.{number, planned, program, soak};
 
 use clap::{Arg, ArgAction, Command};
 use std::alloc::{AllocError, Global};
@@ -24,6 +24,17 @@ fn soak<'a>(alloc: Global) -> Result<Command<'a>, AllocError>
         .arg(number(alloc, "steps"))
 }
 
+/// A command with the numbers of a plan.
+fn planned<'a>(alloc: Global, name: &'a str) -> Result<Command<'a>, AllocError>
+    ensures shape { IfOk result (λ c. app_of c ≡ planned name.entry.now) }
+    ensures local { IfOk result (λ c. (fields_of c).has_globals ≡ false) }
+{
+    Command::new(alloc, name)
+        .arg(number(alloc, "nodes"))?
+        .arg(number(alloc, "calls"))?
+        .arg(number(alloc, "seed"))
+}
+
 /// The program's command line: one command, which has to be there, and neither help nor version.
 pub fn program<'a>(alloc: Global) -> Result<Command<'a>, AllocError>
     ensures { IfOk result (λ c. app_of c ≡ program) }
@@ -36,5 +47,7 @@ pub fn program<'a>(alloc: Global) -> Result<Command<'a>, AllocError>
         .disable_version_flag(true)
         .subcommand(Command::new(alloc, "play"))?
         .subcommand(Command::new(alloc, "lcp2"))?
-        .subcommand(soak(alloc)?)
+        .subcommand(soak(alloc)?)?
+        .subcommand(planned(alloc, "cluster")?)?
+        .subcommand(planned(alloc, "loopback")?)
 }

@@ -1,5 +1,5 @@
 //! Lists of words, and what they ask for.
-use crate::words::{Word, WordsFault, read_words};
+use crate::words::{PlanNumbers, Word, WordsFault, read_words};
 use std::alloc::Global;
 use std::test::Fail;
 
@@ -9,6 +9,14 @@ const USAGE: Result<Word, WordsFault> = Err(WordsFault::Usage);
 
 fn soak(seed: u64, steps: u32) -> Result<Word, WordsFault> {
     Ok(Word::Soak { seed, steps })
+}
+
+fn cluster(nodes: u32, calls: u32, seed: u64) -> Result<Word, WordsFault> {
+    Ok(Word::Cluster(PlanNumbers { nodes, calls, seed }))
+}
+
+fn loopback(nodes: u32, calls: u32, seed: u64) -> Result<Word, WordsFault> {
+    Ok(Word::Loopback(PlanNumbers { nodes, calls, seed }))
 }
 
 fn strings(alloc: Global, words: &[&str]) -> Result<Vec<String>, Fail> {
@@ -32,7 +40,7 @@ fn odd_row(alloc: Global, cases: &[Case]) -> Result<Option<usize>, Fail> {
 
 #[test]
 fn what_is_read(rt: HostRuntime) -> Result<(), Fail> {
-    let cases: [Case; 13] = [
+    let cases: [Case; 20] = [
         (&["play"], Ok(Word::Play)),
         (&["play", "--"], Ok(Word::Play)),
         (&["lcp2"], Ok(Word::Lcp2)),
@@ -49,6 +57,16 @@ fn what_is_read(rt: HostRuntime) -> Result<(), Fail> {
         ),
         (&["soak", "7", "--", "7"], soak(7, 7)),
         (&["soak", "--", "0", "10"], soak(0, 10)),
+        (&["cluster", "1", "1", "0"], cluster(1, 1, 0)),
+        (
+            &["cluster", "8", "1000", "18446744073709551615"],
+            cluster(8, 1000, 18446744073709551615),
+        ),
+        (&["cluster", "2", "3", "4"], cluster(2, 3, 4)),
+        (&["cluster", "--", "2", "3", "4"], cluster(2, 3, 4)),
+        (&["loopback", "2", "5", "1"], loopback(2, 5, 1)),
+        (&["loopback", "2", "--", "5", "1"], loopback(2, 5, 1)),
+        (&["loopback", "2", "5", "1", "--"], loopback(2, 5, 1)),
     ];
     assert_eq!(rt; odd_row(rt.alloc(), &cases)?, None);
     Ok(())
@@ -56,7 +74,7 @@ fn what_is_read(rt: HostRuntime) -> Result<(), Fail> {
 
 #[test]
 fn what_has_no_reading(rt: HostRuntime) -> Result<(), Fail> {
-    let cases: [Case; 45] = [
+    let cases: [Case; 60] = [
         (&[], USAGE),
         (&[""], USAGE),
         (&["--"], USAGE),
@@ -102,6 +120,21 @@ fn what_has_no_reading(rt: HostRuntime) -> Result<(), Fail> {
         (&["soak", "1", "--steps=1"], USAGE),
         (&["soak", "--seed=1", "--steps=1"], USAGE),
         (&["soak", "-", "1"], USAGE),
+        (&["cluster"], USAGE),
+        (&["cluster", "1", "1"], USAGE),
+        (&["cluster", "1", "1", "--"], USAGE),
+        (&["cluster", "1", "1", "1", "1"], USAGE),
+        (&["cluster", "0", "1", "1"], USAGE),
+        (&["cluster", "9", "1", "1"], USAGE),
+        (&["cluster", "4294967297", "1", "1"], USAGE),
+        (&["cluster", "1", "0", "1"], USAGE),
+        (&["cluster", "1", "1001", "1"], USAGE),
+        (&["cluster", "1", "1", "18446744073709551616"], USAGE),
+        (&["cluster", "1", "1", "01"], USAGE),
+        (&["cluster", "1", "--", "1", "-1"], USAGE),
+        (&["loopback"], USAGE),
+        (&["loopback", "9", "1", "1"], USAGE),
+        (&["loopback", "1", "1", "--seed=1"], USAGE),
     ];
     assert_eq!(rt; odd_row(rt.alloc(), &cases)?, None);
     Ok(())

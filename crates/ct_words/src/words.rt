@@ -1,9 +1,9 @@
 //! The program's words, and what they ask for.
-ghost use Rattle.std.specs.Prelude.{◌≡◌, map, string_bytes};
+ghost use Rattle.std.specs.Prelude.{◌≡◌, IfOk, IfSome, map, string_bytes};
 ghost use Rattle.clap.specs.Words.{found_of, rows_of, subcommand_rows_of};
 ghost use Rattle.ct_bytes.specs.Number.{number_of};
-ghost use Rattle.ct_words.specs.Matched.{matched, soak_in};
-ghost use Rattle.ct_words.specs.Reading.{Reads, reading, soak_of};
+ghost use Rattle.ct_words.specs.Matched.{matched, numbers_in, soak_in};
+ghost use Rattle.ct_words.specs.Reading.{HasRange, IsRanged, Reads, numbers_of, reading, soak_of};
 
 use crate::command::program;
 use clap::ArgMatches;
@@ -12,6 +12,14 @@ use ct_bytes::memory::NoMemory;
 use ct_bytes::number::parse_decimal;
 use std::alloc::{AllocError, Global};
 use thiserror::Error;
+
+/// The numbers of a plan: so many nodes, 1 to 8, with so many words of a generator each, 1 to 1,000, which the seed starts.
+#[derive(Clone, Copy, Debug, PartialEq, Eq)]
+pub struct PlanNumbers {
+    pub nodes: u32,
+    pub calls: u32,
+    pub seed: u64,
+}
 
 /// What the program is to do.
 #[derive(Clone, Copy, Debug, PartialEq, Eq)]
@@ -22,6 +30,10 @@ pub enum Word {
     Lcp2,
     /// Plays so many steps that a generator makes from the seed.
     Soak { seed: u64, steps: u32 },
+    /// Plays the plan of these numbers, and joins the journals of its nodes.
+    Cluster(PlanNumbers),
+    /// The same, with nodes that talk over sockets.
+    Loopback(PlanNumbers),
 }
 
 /// Why words are not read.
@@ -68,22 +80,61 @@ fn soak_found(given: &ArgMatches) -> Option<Word>
     soak_word(given.get_str("seed")?, given.get_str("steps")?)
 }
 
+/// The numbers of a plan from their texts.
+fn plan_numbers(nodes: &str, calls: &str, seed: &str) -> Option<PlanNumbers>
+    ensures exact { result ≡ numbers_of (number_of nodes.now) (number_of calls.now) (number_of seed.now) }
+    ensures range { IfSome result HasRange }
+{
+    let nodes = parse_decimal(nodes.as_bytes())?;
+    let calls = parse_decimal(calls.as_bytes())?;
+    let seed = parse_decimal(seed.as_bytes())?;
+    if nodes < 1 || nodes > 8 {
+        return None;
+    }
+    if calls < 1 || calls > 1_000 {
+        return None;
+    }
+    Some(PlanNumbers {
+        nodes: nodes as u32,
+        calls: calls as u32,
+        seed,
+    })
+}
+
+/// The numbers of a plan, by what was found after the command's name.
+#[tactic(auto, using(crate::proofs::Found::text_found))]
+fn numbers_found(given: &ArgMatches) -> Option<PlanNumbers>
+    ensures exact { result ≡ numbers_in (rows_of (found_of given.now)) }
+    ensures range { IfSome result HasRange }
+{
+    plan_numbers(
+        given.get_str("nodes")?,
+        given.get_str("calls")?,
+        given.get_str("seed")?,
+    )
+}
+
 /// What is asked for where the words match.
 fn word_of(matches: &ArgMatches) -> Option<Word>
-    ensures { result ≡ matched (subcommand_rows_of matches.now) }
+    ensures exact { result ≡ matched (subcommand_rows_of matches.now) }
+    ensures ranged { IfSome result IsRanged }
 {
     let (name, given) = matches.subcommand()?;
     match name {
         "play" => Some(Word::Play),
         "lcp2" => Some(Word::Lcp2),
         "soak" => soak_found(given),
+        "cluster" => Some(Word::Cluster(numbers_found(given)?)),
+        "loopback" => Some(Word::Loopback(numbers_found(given)?)),
         _ => None,
     }
 }
 
-/// Reads the words after the program's name. `Usage` comes exactly where they have no reading.
+/// Reads the words after the program's name. `Usage` comes exactly where they have no reading, and all numbers that are answered
+/// are in their range.
 pub fn read_words(alloc: Global, words: &[String]) -> Result<Word, WordsFault>
     ensures reads { Reads result (reading (map string_bytes words.now)) }
+    ensures ranged { IfOk result IsRanged }
 {
     match program(alloc)?.try_get_matches_from(words) {
         Ok(matches) => word_of(&matches).ok_or(WordsFault::Usage),

@@ -1,4 +1,5 @@
-//! The program: standard input, output and error in the place of what the top call reads and writes, and three call functions.
+//! The program: standard input, output and error in the place of what the top call reads and writes, three call functions, and
+//! a troupe of one thread.
 #![tactic(auto)]
 
 ghost use Rattle.std.specs.Prelude.{◌≡◌, ◌∷◌, [], IfSome};
@@ -10,6 +11,7 @@ use ct_call::rule::Rule;
 use ct_call::table::CallTable;
 use ct_main::run::run;
 use ct_outside::adapters::{StdSink, StdSource};
+use ct_turns::turns::Turns;
 use std::alloc::Global;
 use std::env::{self, Env};
 use std::io;
@@ -56,6 +58,7 @@ fn main(rt: HostRuntime) -> ExitCode {
     let mut input = StdSource::new(rt.stdin());
     let mut out = StdSink::new(rt.stdout());
     let mut err = StdSink::new(rt.stderr());
+    let mut troupe = Turns::new(alloc);
     ExitCode::from(run(
         alloc,
         words.as_slice(),
@@ -63,5 +66,6 @@ fn main(rt: HostRuntime) -> ExitCode {
         &mut input,
         &mut out,
         &mut err,
+        &mut troupe,
     ))
 }

@@ -1,6 +1,8 @@
 use Rattle.std.proofs.Common.{refl}
 use Rattle.ct_call.specs.Shown.{rules_of}
+use Rattle.ct_cluster_run.proofs.Played.{no_run_cause, unwritten}
 use Rattle.ct_main.proofs.Unread.{nothing_played, nothing_soaked, no_cause}
+use Rattle.ct_cluster_run.specs.declared.running.End.TheVariants as running
 use Rattle.ct_main.specs.declared.player.End.TheVariants as end
 use Rattle.ct_main.proofs.run.run.Goals as goal
 
@@ -9,3 +11,9 @@ returns-in-Err-NoMemory-clause-play g c = λ w. (end.NoMemory, nothing_played (r
 
 pub returns-in-Err-NoMemory-clause-soak : goal.returns-in-Err-NoMemory-clause-soak
 returns-in-Err-NoMemory-clause-soak g c = λ seed steps w. (end.NoMemory, nothing_soaked (rules_of c.args.table.now) (seed, steps) _, no_cause _ _, c.report-in-Err-NoMemory.ensures, refl)
+
+pub returns-in-Err-NoMemory-clause-cluster : goal.returns-in-Err-NoMemory-clause-cluster
+returns-in-Err-NoMemory-clause-cluster g c = λ p w. (running.NoMemory, unwritten (rules_of c.args.table.now) _ _ _, no_run_cause _ _, c.report-in-Err-NoMemory.ensures, refl)
+
+pub returns-in-Err-NoMemory-clause-loopback : goal.returns-in-Err-NoMemory-clause-loopback
+returns-in-Err-NoMemory-clause-loopback g c = λ p w. (running.NoMemory, unwritten (rules_of c.args.table.now) _ _ _, no_run_cause _ _, c.report-in-Err-NoMemory.ensures, refl)

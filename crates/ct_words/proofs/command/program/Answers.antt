@@ -1,7 +1,7 @@
 use Rattle.std.proofs.Common.{rules, ◌≡◌, ◌∙◌, ap, ap₂}
 use Rattle.std.proofs.lemmas.Result.{IfOk-weaker}
 use Rattle.clap.specs.Words.{App, app_of, with_subcommand}
-use Rattle.ct_words.specs.Command.{bare, lcp2, play}
+use Rattle.ct_words.specs.Command.{bare, cluster, lcp2, play, soak}
 use Rattle.ct_words.proofs.command.program.Goals as goal
 
 pub returns : goal.returns
@@ -11,5 +11,9 @@ returns c =
     c.in_ok-subcommand.ensures.shape (search rules) ∙ ap₂ with_subcommand bare_is (ap (λ (a : App). a.top) c.new-2.ensures.app) in
     let two : app_of c.in_ok-subcommand-2.field-0 ≡ with_subcommand (with_subcommand bare play.top) lcp2.top =
     c.in_ok-subcommand-2.ensures.shape (search rules) ∙ ap₂ with_subcommand one (ap (λ (a : App). a.top) c.new-3.ensures.app) in
-    IfOk-weaker c.subcommand-3.result _ _
-    (λ r h. h.shape (search rules) ∙ ap₂ with_subcommand two (ap (λ (a : App). a.top) c.in_ok-soak.ensures.shape)) c.subcommand-3.ensures
+    let three : app_of c.in_ok-subcommand-3.field-0 ≡ with_subcommand (with_subcommand (with_subcommand bare play.top) lcp2.top) soak.top =
+    c.in_ok-subcommand-3.ensures.shape (search rules) ∙ ap₂ with_subcommand two (ap (λ (a : App). a.top) c.in_ok-soak.ensures.shape) in
+    let four : app_of c.in_ok-subcommand-4.field-0 ≡ with_subcommand (with_subcommand (with_subcommand (with_subcommand bare play.top) lcp2.top) soak.top) cluster.top =
+    c.in_ok-subcommand-4.ensures.shape (search rules) ∙ ap₂ with_subcommand three (ap (λ (a : App). a.top) c.in_ok-planned.ensures.shape) in
+    IfOk-weaker c.subcommand-5.result _ _
+    (λ r h. h.shape (search rules) ∙ ap₂ with_subcommand four (ap (λ (a : App). a.top) c.in_ok-planned-2.ensures.shape)) c.subcommand-5.ensures
