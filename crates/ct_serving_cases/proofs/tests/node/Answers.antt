@@ -1,0 +1,8 @@
+use Rattle.std.proofs.Common.{arith}
+use Rattle.ct_serving_cases.proofs.tests.node.Goals as goal
+
+pub new-requires-clause-node : goal.new-requires-clause-node
+new-requires-clause-node c = omega (arith, c.requires.one)
+
+pub returns : goal.returns
+returns c = c.in_ok-node.ensures.run

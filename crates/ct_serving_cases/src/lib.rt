@@ -1,0 +1,5 @@
+//! A node that serves, against what it must answer.
+#![tactic(auto)]
+
+#[cfg(test)]
+mod tests;

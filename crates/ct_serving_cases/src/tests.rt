@@ -1,0 +1,146 @@
+//! A node alone serves over a link in memory, with ample memory.
+ghost use Rattle.std.specs.Prelude.{◌≡◌, ℕ, true, IfOk};
+ghost use Rattle.std.specs.List.{list_all};
+ghost use Rattle.ct_call.specs.Rules.{Rules};
+ghost use Rattle.ct_msg.specs.declared.config.Config.{Config as Told};
+ghost use Rattle.ct_node.specs.Journalled.{IsRunBy};
+ghost use Rattle.ct_node_form.specs.Whole.{HasLimits};
+ghost use Rattle.ct_plan.specs.Sound.{may_be_told};
+
+use ct_bytes::key::Key;
+use ct_bytes::name::DbName;
+use ct_bytes::value::Value;
+use ct_call::table::CallTable;
+use ct_frame::plan::PlanItem;
+use ct_msg::client::ClientOp;
+use ct_msg::config::{Config, DbDecl, DbKind};
+use ct_node::node::Node;
+use ct_outside::gate::OpenGate;
+use ct_outside::memory_link::MemLink;
+use ct_outside::memory_lock::MemLock;
+use ct_serving::fault::{ServeFault, Served};
+use ct_serving::serve::serve;
+use std::alloc::Global;
+use std::test::Fail;
+
+/// One node with the databases `g_lock` and `t`, which is volatile.
+fn config(alloc: Global) -> Result<Config, Fail>
+    ensures limits { IfOk result HasLimits }
+    ensures one { IfOk result (λ c. c.nodes ≡ 1) }
+{
+    let mut dbs = Vec::new(alloc);
+    dbs.push(DbDecl {
+        name: DbName::new(alloc, b"t")?,
+        kind: DbKind::Volatile,
+    })?;
+    Ok(Config::new(alloc, 1, dbs, Vec::new(alloc))?)
+}
+
+/// The client writes, and then reads.
+#[tactic(auto, unfolding(ct_plan::specs::Sound::may_be_told, ct_rules_node::specs::Coming::is_allowed_op))]
+fn script(alloc: Global) -> Result<Vec<PlanItem>, Fail>
+    ensures told { IfOk result (λ v. (c : Told) (n : ℕ) → list_all (may_be_told c n) v.items ≡ true) }
+{
+    let mut items = Vec::new(alloc);
+    items.push(PlanItem::Call(ClientOp::Write {
+        db: 1,
+        key: Key::new(alloc, b"k")?,
+        value: Value::new(alloc, b"v")?,
+    }))?;
+    items.push(PlanItem::Call(ClientOp::Read {
+        db: 1,
+        key: Key::new(alloc, b"k")?,
+    }))?;
+    Ok(items)
+}
+
+/// The node of this cluster, at its opening.
+fn node(alloc: Global, config: &Config) -> Result<Node, Fail>
+    requires limits { HasLimits config.now }
+    requires one { config.now.nodes ≡ 1 }
+    ensures { IfOk result (λ x. (rules : Rules) → IsRunBy rules x) }
+{
+    let node = Node::new(alloc, 0, config)?;
+    Ok(node)
+}
+
+/// What the node answers that serves for so many turns over a link of which this call fails.
+fn serve_alone(
+    alloc: Global,
+    node: &mut Node,
+    script: &[PlanItem],
+    turns: u64,
+    fails: u64,
+) -> Result<Result<Served, ServeFault>, Fail>
+    requires run { (rules : Rules) → IsRunBy rules node.old }
+    requires told { (c : Told) (n : ℕ) → list_all (may_be_told c n) script.now ≡ true }
+{
+    let table = CallTable::new(alloc);
+    let mut link = MemLink::new(alloc, Vec::new(alloc), Vec::from_slice(alloc, &[fails])?);
+    let mut lock = MemLock::new();
+    let mut gate = OpenGate;
+    let served = serve(
+        alloc, node, &table, script, &mut link, &mut lock, &mut gate, turns,
+    );
+    Ok(served)
+}
+
+/// Is it the answer that is wanted, and has the journal so many entries?
+fn is_as_wanted(
+    served: Result<Served, ServeFault>,
+    node: &Node,
+    want: Result<Served, ServeFault>,
+    entries: usize,
+) -> bool {
+    served == want && node.entries().len() == entries
+}
+
+/// Does the node of this cluster, alone, serve as is wanted?
+fn serves_so(
+    alloc: Global,
+    config: &Config,
+    script: &[PlanItem],
+    turns: u64,
+    fails: u64,
+    want: Result<Served, ServeFault>,
+    entries: usize,
+) -> Result<bool, Fail>
+    requires limits { HasLimits config.now }
+    requires one { config.now.nodes ≡ 1 }
+    requires told { (c : Told) (n : ℕ) → list_all (may_be_told c n) script.now ≡ true }
+{
+    let mut node = node(alloc, config)?;
+    let served = serve_alone(alloc, &mut node, script, turns, fails)?;
+    Ok(is_as_wanted(served, &node, want, entries))
+}
+
+// How many turns the node has, which call of its link fails, what it answers, and how many entries its journal has.
+const TABLE: [(u64, u64, Result<Served, ServeFault>, usize); 6] = [
+    (0, 9, Ok(Served::Budget), 2),
+    (2, 9, Ok(Served::Budget), 2),
+    (3, 9, Ok(Served::Closed), 2),
+    (3, 1, Err(ServeFault::Link), 0),
+    (3, 2, Err(ServeFault::Link), 1),
+    (3, 3, Err(ServeFault::Link), 2),
+];
+
+#[test]
+fn a_node_serves(rt: HostRuntime) -> Result<(), Fail> {
+    let alloc = rt.alloc();
+    let config = config(alloc)?;
+    let script = script(alloc)?;
+    for (turns, fails, want, entries) in TABLE {
+        assert!(rt;
+            serves_so(
+                alloc,
+                &config,
+                script.as_slice(),
+                turns,
+                fails,
+                want,
+                entries
+            )?
+        );
+    }
+    Ok(())
+}
