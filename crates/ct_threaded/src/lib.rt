@@ -1,0 +1,8 @@
+//! A plan is played with its nodes side by side, each in a thread of its own.
+#![tactic(auto)]
+
+mod beside;
+pub mod settled;
+#[cfg(test)]
+mod tests;
+pub mod threaded;
