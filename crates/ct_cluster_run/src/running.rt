@@ -120,7 +120,8 @@ pub fn cluster<K: Sink, T: Troupe>(
     out: &mut K,
     troupe: &mut T,
 ) -> End
-    requires { HasRange wanted.now }
+    requires range { HasRange wanted.now }
+    requires ready { T.ready troupe.old }
     ensures runs { Runs (rules_of table.now) wanted.now result (T.told troupe.new) (K.held out.old) (K.held out.new) }
     ensures cause { HasRunCause result (T.faults troupe.old) (T.faults troupe.new) (K.faults out.old) (K.faults out.new) }
 {

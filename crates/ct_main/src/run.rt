@@ -159,6 +159,7 @@ pub fn run<S: Source, K: Sink, E: Sink, T: Troupe>(
     err: &mut E,
     troupe: &mut T,
 ) -> u8
+    requires { T.ready troupe.old }
     // The words say `play`: bytes that came in were played, and err and the answer say how that ended.
     ensures play { asked words.now ≡ Some word.Play → (e : Ended)
         × Plays (rules_of table.now) e (S.left input.old) (S.left input.new) (K.held out.old) (K.held out.new)

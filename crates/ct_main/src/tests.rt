@@ -90,6 +90,8 @@ impl Troupe for Broken {
 
     ghost faults = { λ s. s.faults };
 
+    ghost ready = { λ _. Unit {0} };
+
     fn play(&mut self, _alloc: Global, _table: &CallTable, _plan: &Plan) -> Result<(), PlayFault> {
         self.journals.truncate(0);
         self.faults = self.faults.saturating_add(1);

@@ -52,9 +52,13 @@ pub trait Troupe {
     /// How often it has failed.
     ghost faults: { Self → ℕ };
 
+    /// What a play asks of who calls it, such as that what its threads share may be shared.
+    ghost ready: { Self → Type 0 };
+
     /// Plays the plan, by a table of call functions. A refusal leaves no journals.
     fn play(&mut self, alloc: Global, table: &CallTable, plan: &Plan) -> Result<(), PlayFault>
         requires sound { IsSound plan.now }
+        requires ready { ready self.old }
         ensures played { HasPlayed (rules_of table.now) plan.now result (told self.new) }
         ensures cause { RisesWhere (is_link_fault result) (faults self.old) (faults self.new) };
 

@@ -56,6 +56,8 @@ impl Troupe for Turns {
 
     ghost faults = { λ _. 0 };
 
+    ghost ready = { λ _. Unit {0} };
+
     /// Beside want of memory, `NoMemory` is answered where a number would reach 2^62, and where there would be 2^61 entries
     /// and messages: no play that ends in a lifetime comes to that. It never fails otherwise.
     fn play(&mut self, alloc: Global, table: &CallTable, plan: &Plan) -> Result<(), PlayFault> {
