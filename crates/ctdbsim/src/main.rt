@@ -1,5 +1,5 @@
 //! The program: standard input, output and error in the place of what the top call reads and writes, three call functions, and
-//! a troupe of one thread.
+//! a troupe of one thread a node.
 #![tactic(auto)]
 
 ghost use Rattle.std.specs.Prelude.{◌≡◌, ◌∷◌, [], IfSome};
@@ -11,7 +11,7 @@ use ct_call::rule::Rule;
 use ct_call::table::CallTable;
 use ct_main::run::run;
 use ct_outside::adapters::{StdSink, StdSource};
-use ct_turns::turns::Turns;
+use ct_threads::threads::Threads;
 use std::alloc::Global;
 use std::env::{self, Env};
 use std::io;
@@ -58,7 +58,7 @@ fn main(rt: HostRuntime) -> ExitCode {
     let mut input = StdSource::new(rt.stdin());
     let mut out = StdSink::new(rt.stdout());
     let mut err = StdSink::new(rt.stderr());
-    let mut troupe = Turns::new(alloc);
+    let mut troupe = Threads::new(&rt, alloc);
     ExitCode::from(run(
         alloc,
         words.as_slice(),
