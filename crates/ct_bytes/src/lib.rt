@@ -10,6 +10,4 @@ pub mod memory;
 pub mod name;
 pub mod number;
 pub mod spelling;
-#[cfg(test)]
-mod tests;
 pub mod value;

@@ -8,5 +8,3 @@ pub mod laws;
 pub mod own;
 pub mod rule;
 pub mod table;
-#[cfg(test)]
-mod tests;

@@ -5,5 +5,3 @@
 #![tactic(auto)]
 
 pub mod step;
-#[cfg(test)]
-mod tests;

@@ -3,6 +3,4 @@
 #![tactic(auto)]
 
 pub mod awaited;
-#[cfg(test)]
-mod tests;
 pub mod tracking;

@@ -269,6 +269,3 @@ pub fn well_formed(frame: &Frame) -> bool
         && is_node(frame.sender)
         && is_message(frame.sender, &frame.msg)
 }
-
-#[cfg(test)]
-mod tests;

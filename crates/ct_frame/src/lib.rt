@@ -9,5 +9,3 @@ pub mod header;
 pub mod order;
 pub mod plan;
 pub mod round;
-#[cfg(test)]
-mod tests;

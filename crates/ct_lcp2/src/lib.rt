@@ -8,6 +8,4 @@ pub mod laws;
 pub mod placement;
 mod start;
 mod tally;
-#[cfg(test)]
-mod tests;
 mod vacant;

@@ -8,5 +8,3 @@ pub mod merges;
 pub mod merging;
 pub mod order;
 mod placing;
-#[cfg(test)]
-mod tests;

@@ -3,5 +3,3 @@
 
 pub mod client;
 pub mod config;
-#[cfg(test)]
-mod tests;

@@ -5,6 +5,4 @@
 pub mod commit;
 pub mod laws;
 pub mod store;
-#[cfg(test)]
-mod tests;
 mod writes;

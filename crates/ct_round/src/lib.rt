@@ -3,5 +3,3 @@
 
 pub mod leader;
 pub mod member;
-#[cfg(test)]
-mod tests;

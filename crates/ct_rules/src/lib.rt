@@ -7,5 +7,3 @@
 pub mod event;
 pub mod runs;
 pub mod state;
-#[cfg(test)]
-mod tests;

@@ -6,5 +6,3 @@ pub mod hashed;
 pub mod keyed;
 pub mod laws;
 pub mod plain;
-#[cfg(test)]
-mod tests;

@@ -4,5 +4,3 @@
 pub mod holder;
 pub mod laws;
 pub mod run;
-#[cfg(test)]
-mod tests;

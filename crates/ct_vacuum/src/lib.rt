@@ -2,6 +2,4 @@
 #![tactic(auto)]
 
 pub mod candidates;
-#[cfg(test)]
-mod tests;
 pub mod vacuum;

@@ -1,8 +1,8 @@
-use crate::step::{Line, PendingCall, Step};
 use ct_bytes::copies::Duplicate;
 use ct_bytes::items::Items;
 use ct_bytes::key::Key;
 use ct_bytes::value::Value;
+use ct_cluster::step::{Line, PendingCall, Step};
 use ct_frame::event::Note;
 use ct_frame::frame::{Frame, Msg};
 use ct_msg::client::{Answer, ClientOp};

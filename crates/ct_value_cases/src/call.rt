@@ -3,12 +3,12 @@ ghost use Rattle.std.specs.Prelude.{◌≡◌, ◌++◌, IfOk, take};
 ghost use Rattle.ct_call.specs.Rules.{Arg, Join, Old};
 ghost use Rattle.ct_call.specs.Seen.{seen};
 
-use crate::fault::{AddFault, CallFault};
-use crate::own::Call;
-use crate::rule::Rule;
-use crate::table::CallTable;
 use ct_bytes::memory::NoMemory;
 use ct_bytes::value::Value;
+use ct_call::fault::{AddFault, CallFault};
+use ct_call::own::Call;
+use ct_call::rule::Rule;
+use ct_call::table::CallTable;
 use std::alloc::Global;
 use std::test::Fail;
 

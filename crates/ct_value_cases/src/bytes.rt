@@ -1,10 +1,10 @@
 //! Keys, values, names, lists and hashes, against values from outside.
-use crate::hash::hash;
-use crate::items::Items;
-use crate::key::Key;
-use crate::memory::BytesFault;
-use crate::name::DbName;
-use crate::value::Value;
+use ct_bytes::hash::hash;
+use ct_bytes::items::Items;
+use ct_bytes::key::Key;
+use ct_bytes::memory::BytesFault;
+use ct_bytes::name::DbName;
+use ct_bytes::value::Value;
 use std::alloc::Global;
 use std::test::Fail;
 

@@ -1,11 +1,11 @@
-use crate::event::{Act, MoveEvent, Place};
-use crate::state::{Entry, RecState, RecallNote, Waiter, Wish};
 use ct_bytes::copies::Duplicate;
 use ct_bytes::items::Items;
 use ct_bytes::key::Key;
 use ct_bytes::value::Value;
 use ct_frame::frame::{CallKind, Msg};
 use ct_msg::client::{Answer, ClientOp};
+use ct_rules::event::{Act, MoveEvent, Place};
+use ct_rules::state::{Entry, RecState, RecallNote, Waiter, Wish};
 use std::test::Fail;
 
 fn is_copied<T: Duplicate + PartialEq>(source: &T) -> Result<bool, Fail> {

@@ -1,7 +1,7 @@
-use crate::candidates::Candidates;
-use crate::vacuum::{Vacuum, VacuumPhase};
 use ct_bytes::copies::Duplicate;
 use ct_bytes::key::Key;
+use ct_vacuum::candidates::Candidates;
+use ct_vacuum::vacuum::{Vacuum, VacuumPhase};
 use std::test::Fail;
 
 #[test]

@@ -1,10 +1,10 @@
 //! Both maps, called alike, against values from outside.
-use crate::calls::{StoreCall, StoreReply, run_calls};
-use crate::hashed::Store;
-use crate::keyed::Keyed;
-use crate::plain::PlainStore;
 use ct_bytes::items::Items;
 use ct_bytes::key::Key;
+use ct_store::calls::{StoreCall, StoreReply, run_calls};
+use ct_store::hashed::Store;
+use ct_store::keyed::Keyed;
+use ct_store::plain::PlainStore;
 use std::alloc::Global;
 use std::test::Fail;
 

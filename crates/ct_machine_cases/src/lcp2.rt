@@ -1,9 +1,9 @@
 //! Distances, imbalances and placements, against values by hand and by a program that writes every list of moves out.
-use crate::distance::{distance, imbalance};
-use crate::placement::{Addresses, Move, do_ascend, place};
 use ct_bytes::address::Address;
 use ct_bytes::items::Items;
 use ct_frame::frame::Assigned;
+use ct_lcp2::distance::{distance, imbalance};
+use ct_lcp2::placement::{Addresses, Move, do_ascend, place};
 use std::alloc::Global;
 use std::test::Fail;
 

@@ -1,6 +1,6 @@
 //! Maps and the members that keys pick, against values from outside.
-use crate::map::{MapFault, VnnMap, lmaster};
 use ct_bytes::key::Key;
+use ct_vnn::map::{MapFault, VnnMap, lmaster};
 use std::alloc::Global;
 use std::test::Fail;
 

@@ -1,8 +1,11 @@
-use super::*;
-use crate::frame::CallKind;
+use ct_bytes::address::Address;
 use ct_bytes::items::Items;
 use ct_bytes::key::Key;
 use ct_bytes::value::Value;
+use ct_frame::fields::well_formed;
+use ct_frame::frame::{Assigned, CallKind, Frame, Msg, PTable, TableRow};
+use ct_frame::header::LIMIT;
+use ct_msg::client::Pair;
 use std::alloc::Global;
 use std::test::Fail;
 

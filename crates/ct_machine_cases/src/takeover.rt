@@ -1,8 +1,8 @@
 //! Runs and holders, call by call.
-use crate::holder::Holder;
-use crate::run::Run;
 use ct_bytes::address::Address;
 use ct_frame::frame::Assigned;
+use ct_takeover::holder::Holder;
+use ct_takeover::run::Run;
 use std::alloc::Global;
 use std::test::Fail;
 

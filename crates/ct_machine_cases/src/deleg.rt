@@ -1,9 +1,9 @@
 //! Nodes that are awaited and trackings, call by call, against the rules.
 ghost use Rattle.std.specs.Prelude.{◌≡◌, None};
 
-use crate::awaited::Awaited;
-use crate::tracking::Tracking;
 use ct_bytes::copies::Duplicate;
+use ct_deleg::awaited::Awaited;
+use ct_deleg::tracking::Tracking;
 use std::test::Fail;
 
 /// Begins a revocation where a node is tracked.

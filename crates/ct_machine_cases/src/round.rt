@@ -1,12 +1,12 @@
 //! Members and leaders, call by call.
-use crate::leader::Leader;
-use crate::member::{FreezeStep, Member, PushStep};
 use ct_bytes::items::Items;
 use ct_bytes::key::Key;
 use ct_bytes::value::Value;
 use ct_frame::frame::TableRow;
 use ct_frame::round::{Phase, Pull, Stage};
 use ct_merge::order::is_in_order;
+use ct_round::leader::Leader;
+use ct_round::member::{FreezeStep, Member, PushStep};
 use std::alloc::Global;
 use std::test::Fail;
 

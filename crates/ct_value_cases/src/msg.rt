@@ -1,11 +1,11 @@
-use crate::client::{Answer, ClientOp, Pair, Why};
-use crate::config::{Config, ConfigFault, DbDecl, DbKind};
 use ct_bytes::address::Address;
 use ct_bytes::copies::Duplicate;
 use ct_bytes::items::Items;
 use ct_bytes::key::Key;
 use ct_bytes::name::DbName;
 use ct_bytes::value::Value;
+use ct_msg::client::{Answer, ClientOp, Pair, Why};
+use ct_msg::config::{Config, ConfigFault, DbDecl, DbKind};
 use std::alloc::Global;
 use std::test::Fail;
 

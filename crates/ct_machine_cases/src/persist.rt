@@ -1,12 +1,12 @@
 //! A database and a commit, call by call, against the rules.
-use crate::commit::Commit;
-use crate::store::{PStore, Updated};
 use ct_bytes::copies::Duplicate;
 use ct_bytes::items::Items;
 use ct_bytes::key::Key;
 use ct_bytes::value::Value;
 use ct_frame::frame::PTable;
 use ct_msg::client::Pair;
+use ct_persist::commit::Commit;
+use ct_persist::store::{PStore, Updated};
 use std::alloc::Global;
 use std::test::Fail;
 

@@ -1,13 +1,13 @@
 //! Merges against the rules, with values worked out by hand.
-use crate::merges::{merge_addresses, merge_persistent, merge_volatile};
-use crate::merging::Merging;
-use crate::order::{are_in_order, is_in_order};
 use ct_bytes::address::Address;
 use ct_bytes::items::Items;
 use ct_bytes::key::Key;
 use ct_bytes::value::Value;
 use ct_frame::frame::{Assigned, PTable, TableRow};
 use ct_frame::round::Pull;
+use ct_merge::merges::{merge_addresses, merge_persistent, merge_volatile};
+use ct_merge::merging::Merging;
+use ct_merge::order::{are_in_order, is_in_order};
 use ct_msg::client::Pair;
 use std::alloc::Global;
 use std::test::Fail;
