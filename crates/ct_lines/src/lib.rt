@@ -6,6 +6,4 @@ pub mod line;
 pub mod parse;
 pub mod places;
 pub mod print;
-#[cfg(test)]
-mod tests;
 pub mod words;

@@ -12,5 +12,3 @@ pub mod memory_link;
 pub mod memory_lock;
 pub mod sink;
 pub mod source;
-#[cfg(test)]
-mod tests;

@@ -1,14 +1,14 @@
 //! The answers of sources, sinks, links and locks, call by call.
-use crate::adapters::{StdSink, StdSource};
-use crate::fault::{Failed, LinkFault, ReleaseFault, SinkFault, TakeFault};
-use crate::gate::{Gate, OpenGate};
-use crate::link::{Link, Piece, Received};
-use crate::lock::RecLock;
-use crate::memory::{MemSink, MemSource};
-use crate::memory_link::MemLink;
-use crate::memory_lock::MemLock;
-use crate::sink::{Sink, write_all};
-use crate::source::Source;
+use ct_outside::adapters::{StdSink, StdSource};
+use ct_outside::fault::{Failed, LinkFault, ReleaseFault, SinkFault, TakeFault};
+use ct_outside::gate::{Gate, OpenGate};
+use ct_outside::link::{Link, Piece, Received};
+use ct_outside::lock::RecLock;
+use ct_outside::memory::{MemSink, MemSource};
+use ct_outside::memory_link::MemLink;
+use ct_outside::memory_lock::MemLock;
+use ct_outside::sink::{Sink, write_all};
+use ct_outside::source::Source;
 use std::io;
 use std::io::{Read, Write};
 use std::test::Fail;

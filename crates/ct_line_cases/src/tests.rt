@@ -1,8 +1,8 @@
 //! Lines in their places.
-use crate::line::{LineKind, LineKindFault};
-use crate::parse::parse_line;
-use crate::places::Places;
 use ct_bytes::address::Address;
+use ct_lines::line::{LineKind, LineKindFault};
+use ct_lines::parse::parse_line;
+use ct_lines::places::Places;
 use ct_msg::config::Config;
 use std::alloc::Global;
 use std::test::Fail;
