@@ -5,6 +5,4 @@ pub mod answer;
 pub mod line;
 pub mod message;
 pub mod note;
-#[cfg(test)]
-mod tests;
 pub mod words;

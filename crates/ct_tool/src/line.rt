@@ -1,7 +1,9 @@
 //! The text of a line that a step prints, and of a call that waits at the end.
 ghost use Rattle.std.specs.Prelude.{◌≡◌, ◌++◌, codes, IfOk, OnOk};
 ghost use Rattle.std.specs.Fmt.{decimal};
+ghost use Rattle.ct_cluster.specs.declared.step.Line.TheVariants as line;
 ghost use Rattle.ct_rules_node.specs.Node.{name_of};
+ghost use Rattle.ct_msg.specs.declared.config.Config.{Config};
 ghost use Rattle.ct_tool.specs.Answer.{answer_text};
 ghost use Rattle.ct_tool.specs.Line.{asked_text, line_text, pending_text, told_text};
 ghost use Rattle.ct_tool.specs.Message.{message_text};
@@ -65,14 +67,44 @@ fn push_told(text: &mut Vec<u8>, config: &Config, line: &Line) -> Result<(), NoM
     }
 }
 
-/// The text of one line that a step prints, with its line feed. Databases are told by their names.
+/// Adds the line of a message that was sent, with its line feed.
+#[tactic(auto, unfolding(crate::specs::Line::line_text, crate::specs::Line::told_text))]
+pub fn push_sent_line(
+    text: &mut Vec<u8>,
+    config: &Config,
+    number: u64,
+    frame: &Frame,
+) -> Result<(), NoMemory>
+    ensures { OnOk result (text.new.items ≡ text.old.items ++ line_text config.now (line.Sent number frame.now)) }
+{
+    push_sent(text, config, number, frame)?;
+    push(text, b"\n")
+}
+
+/// Adds the line of an answer, with its line feed.
+#[tactic(auto, unfolding(crate::specs::Line::line_text, crate::specs::Line::told_text))]
+pub fn push_answered_line(text: &mut Vec<u8>, call: u64, answer: &Answer) -> Result<(), NoMemory>
+    ensures { (c : Config) → OnOk result (text.new.items ≡ text.old.items ++ line_text c (line.Answered call answer.now)) }
+{
+    push_answered(text, call, answer)?;
+    push(text, b"\n")
+}
+
+/// Adds the text of one line that a step prints, with its line feed. Databases are told by their names.
 #[tactic(auto, unfolding(crate::specs::Line::line_text))]
+pub fn push_line(text: &mut Vec<u8>, line: &Line, config: &Config) -> Result<(), NoMemory>
+    ensures { OnOk result (text.new.items ≡ text.old.items ++ line_text config.now line.now) }
+{
+    push_told(text, config, line)?;
+    push(text, b"\n")
+}
+
+/// The text of one line that a step prints, with its line feed. Databases are told by their names.
 pub fn line_text(alloc: Global, line: &Line, config: &Config) -> Result<Vec<u8>, NoMemory>
     ensures { IfOk result (λ v. v.items ≡ line_text config.now line.now) }
 {
     let mut text = Vec::with_capacity(alloc, 64)?;
-    push_told(&mut text, config, line)?;
-    push(&mut text, b"\n")?;
+    push_line(&mut text, line, config)?;
     Ok(text)
 }
 
@@ -99,16 +131,23 @@ fn push_asked(text: &mut Vec<u8>, config: &Config, seq: u64, op: &ClientOp) -> R
     }
 }
 
-/// The text of a call that waits, with its line feed.
+/// Adds the text of a call that waits, with its line feed.
 #[tactic(auto, unfolding(crate::specs::Line::pending_text))]
+pub fn push_pending(text: &mut Vec<u8>, call: &PendingCall, config: &Config) -> Result<(), NoMemory>
+    ensures { OnOk result (text.new.items ≡ text.old.items ++ pending_text config.now call.now) }
+{
+    push_number(text, b"pending ", call.call)?;
+    push_number(text, b" ", u64::from(call.node))?;
+    push(text, b" ")?;
+    push_asked(text, config, call.seq, &call.op)?;
+    push(text, b"\n")
+}
+
+/// The text of a call that waits, with its line feed.
 pub fn pending_text(alloc: Global, call: &PendingCall, config: &Config) -> Result<Vec<u8>, NoMemory>
     ensures { IfOk result (λ v. v.items ≡ pending_text config.now call.now) }
 {
     let mut text = Vec::with_capacity(alloc, 64)?;
-    push_number(&mut text, b"pending ", call.call)?;
-    push_number(&mut text, b" ", u64::from(call.node))?;
-    push(&mut text, b" ")?;
-    push_asked(&mut text, config, call.seq, &call.op)?;
-    push(&mut text, b"\n")?;
+    push_pending(&mut text, call, config)?;
     Ok(text)
 }

@@ -1,5 +1,4 @@
 //! Texts with ample memory.
-use crate::line::{line_text, pending_text};
 use ct_bytes::address::Address;
 use ct_bytes::items::Items;
 use ct_bytes::key::Key;
@@ -10,6 +9,7 @@ use ct_frame::event::Note;
 use ct_frame::frame::{Assigned, CallKind, Frame, Msg, PTable, TableRow};
 use ct_msg::client::{Answer, ClientOp, Pair, Why};
 use ct_msg::config::{Config, DbDecl, DbKind};
+use ct_tool::line::{line_text, pending_text};
 use std::alloc::Global;
 use std::test::Fail;
 
