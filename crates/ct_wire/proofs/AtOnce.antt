@@ -3,6 +3,8 @@ use Rattle.std.proofs.Common.{◌&&◌, ◌≡◌, ◌∙◌, ℕ, ◌+◌, ◌<
 use Rattle.std.specs.Prelude.{nat_lt}
 use Rattle.std.proofs.lemmas.Bool.{eq-eqb, le-leb, lt-ltb, ne_eqb}
 use Rattle.ct_frame.specs.Fields.{is_below_limit, is_db, is_from_one, is_node}
+use Rattle.ct_frame.specs.declared.frame.CallKind.{CallKind}
+use Rattle.ct_frame.specs.declared.frame.CallKind.TheVariants as kind
 use Rattle.ct_frame.specs.declared.frame.Msg.{Msg}
 use Rattle.ct_frame.specs.declared.frame.TableRow.{TableRow}
 use Rattle.ct_wire_fields.specs.declared.draft.Draft.{Draft}
@@ -15,19 +17,21 @@ use Rattle.ct_wire_fields.specs.declared.place.TextPlace.TheVariants as text
 use Rattle.ct_wire_fields.specs.declared.place.Place.{Place}
 use Rattle.ct_wire_fields.specs.declared.place.Place.TheVariants as place
 use Rattle.ct_wire_fields.specs.declared.place.Operation.{Operation}
+use Rattle.ct_wire_fields.specs.declared.place.Operation.TheVariants.{Call, Recall}
 use Rattle.ct_wire_fields.specs.declared.version.Version.{Version}
-use Rattle.ct_wire_fields.specs.Reading.{may_have_row, after_db, after_key, after_rsn, after_value, begun, is_request, no_draft, operation_of, number_read, text_read, to_number, to_text, whole}
+use Rattle.ct_wire_fields.specs.Reading.{may_have_row, after_db, after_key, after_kind, after_node, after_rsn, after_value, kind_read, begun, is_request, no_draft, operation_of, number_read, text_read, to_number, to_text, whole}
 use Rattle.ct_wire_fields.specs.Check.{follows_db, follows_row, key_of, last_of, value_of}
 use Rattle.ct_wire_fields.specs.Version.{names_masters, version_of}
 use Rattle.ct_wire.specs.declared.cursor.Cursor.{Cursor}
 use Rattle.ct_wire.specs.declared.cursor.Outcome.{Outcome}
 use Rattle.ct_wire.specs.declared.cursor.Outcome.TheVariants as outcome
 use Rattle.ct_wire.specs.declared.whole.CopyFields.{CopyFields}
+use Rattle.ct_wire.specs.declared.whole.KeyFields.{KeyFields}
 use Rattle.ct_wire.specs.declared.cursor.Stage.{Stage}
 use Rattle.ct_wire.specs.declared.cursor.Stage.TheVariants as stage
 use Rattle.ct_wire.specs.Cursor.{arrive, field_read, is_text_length, number_of, number_width, place_width, settled, stage_width, start, text_length_read, text_width, width}
 use Rattle.ct_wire.specs.Decoding.{End, after_field, eaten}
-use Rattle.ct_wire.specs.Whole.{at_number, first_place, front_head, gives_copy, headed, is_common, CopyStands}
+use Rattle.ct_wire.specs.Whole.{at_number, first_place, front_head, gives_copy, headed, is_common, kind_number, CopyStands, KeyStands}
 use Rattle.ct_wire.proofs.Eaten.{eaten_whole}
 
 -- a field that leads on
@@ -40,20 +44,20 @@ arrives d p at room = rw (le-leb (at + place_width d.head.version p) d.head.leng
 
 -- ---- the header
 
-length_leads : (size : ℕ) → 47 < size → size < 268435457 → settled 0 (number_read no_draft 0 size number.Length) 4 ≡ outcome.More (at_number (headed (record no_draft.head { length = size })) 4 number.Magic)
+length_leads : (size : ℕ) → 39 < size → size < 268435457 → settled 0 (number_read no_draft 0 size number.Length) 4 ≡ outcome.More (at_number (headed (record no_draft.head { length = size })) 4 number.Magic)
 length_leads size least most = rw (lt-ltb 39 size (omega arith), lt-ltb size 268435457 most, le-leb 8 size (omega arith)) refl
 
-magic_leads : (size n : ℕ) → 47 < size → n ≡ 1129595970 → settled size (number_read (headed (record no_draft.head { length = size })) 4 n number.Magic) 8 ≡ outcome.More (at_number (headed (record no_draft.head { length = size })) 8 number.Version)
+magic_leads : (size n : ℕ) → 39 < size → n ≡ 1129595970 → settled size (number_read (headed (record no_draft.head { length = size })) 4 n number.Magic) 8 ≡ outcome.More (at_number (headed (record no_draft.head { length = size })) 8 number.Version)
 magic_leads size n least is = rw (is, le-leb 12 size (omega arith)) refl
 
-version_leads : (size n : ℕ) (version : Version) → 47 < size → version_of n ≡ Some version → settled size (number_read (headed (record no_draft.head { length = size })) 8 n number.Version) 12 ≡ outcome.More (at_number (headed (record no_draft.head { length = size; version = version })) 12 number.Generation)
+version_leads : (size n : ℕ) (version : Version) → 39 < size → version_of n ≡ Some version → settled size (number_read (headed (record no_draft.head { length = size })) 8 n number.Version) 12 ≡ outcome.More (at_number (headed (record no_draft.head { length = size; version = version })) 12 number.Generation)
 version_leads size n version least is = rw (is, le-leb 20 size (omega arith)) refl
 
-generation_leads : (size : ℕ) (version : Version) (generation : ℕ) → 47 < size → is_from_one generation ≡ true → settled size (number_read (headed (record no_draft.head { length = size; version = version })) 12 generation number.Generation) 20 ≡ outcome.More (at_number (headed (front_head size version generation)) 20 number.Operation)
+generation_leads : (size : ℕ) (version : Version) (generation : ℕ) → 39 < size → is_from_one generation ≡ true → settled size (number_read (headed (record no_draft.head { length = size; version = version })) 12 generation number.Generation) 20 ≡ outcome.More (at_number (headed (front_head size version generation)) 20 number.Operation)
 generation_leads size version generation least is = rw (is, le-leb 24 size (omega arith)) refl
 
 pub front_taken : (l m v g rest : List ℕ) (size : ℕ) (version : Version) (generation : ℕ) → length l ≡ 4 → length m ≡ 4 → length v ≡ 4 → length g ≡ 8
-    → size ≡ number_of l → generation ≡ number_of g → 47 < size → size < 268435457 → number_of m ≡ 1129595970 → version_of (number_of v) ≡ Some version → is_from_one generation ≡ true
+    → size ≡ number_of l → generation ≡ number_of g → 39 < size → size < 268435457 → number_of m ≡ 1129595970 → version_of (number_of v) ≡ Some version → is_from_one generation ≡ true
     → eaten start [] (l ++ (m ++ (v ++ (g ++ rest)))) ≡ eaten (at_number (headed (front_head size version generation)) 20 number.Operation) [] rest
 front_taken l m v g rest size version generation lw mw vw gw size_is generation_is least most magic known keeps =
     let lengthed = headed (record no_draft.head { length = size }) in
@@ -65,38 +69,35 @@ front_taken l m v g rest size version generation lw mw vw gw size_is generation_
 
 -- ---- the second half of the header
 
-operation_leads : (h : Head) (n : ℕ) (o : Operation) → 47 < h.length → operation_of n ≡ Some o
+operation_leads : (h : Head) (n : ℕ) (o : Operation) → 39 < h.length → operation_of n ≡ Some o
     → settled h.length (number_read (headed (front_head h.length h.version h.generation)) 20 n number.Operation) 24 ≡ outcome.More (at_number (headed (record (front_head h.length h.version h.generation) { operation = o })) 24 number.Receiver)
 operation_leads h n o least known = rw (known, le-leb 28 h.length (omega arith)) refl
 
-receiver_leads : (d : Head) (n : ℕ) → 47 < d.length → is_node n ≡ true
+receiver_leads : (d : Head) (n : ℕ) → 39 < d.length → is_node n ≡ true
     → settled d.length (number_read (headed d) 24 n number.Receiver) 28 ≡ outcome.More (at_number (headed (record d { receiver = n })) 28 number.Sender)
 receiver_leads d n least keeps = rw (keeps, le-leb 32 d.length (omega arith)) refl
 
-sender_leads : (d : Head) (n : ℕ) → 47 < d.length → is_node n ≡ true
+sender_leads : (d : Head) (n : ℕ) → 39 < d.length → is_node n ≡ true
     → settled d.length (number_read (headed d) 28 n number.Sender) 32 ≡ outcome.More (at_number (headed (record d { sender = n })) 32 number.Request)
 sender_leads d n least keeps = rw (keeps, le-leb 40 d.length (omega arith)) refl
 
 common_begun : (d : Draft) (o : Operation) → is_common o ≡ true → begun d o ≡ to_number d (first_place o)
 common_begun d o common = grind arith
 
-first_width : (o : Operation) → number_width (first_place o) ≤ 8
-first_width o = grind arith
-
 pub copy_first : (o : Operation) → gives_copy o ≡ true → first_place o ≡ number.Db
 copy_first o gives = grind arith
 
-request_leads : (d : Head) (n : ℕ) → 47 < d.length → is_common d.operation ≡ true → is_request d.operation n ≡ true
+request_leads : (d : Head) (n : ℕ) → 40 + number_width (first_place d.operation) ≤ d.length → is_common d.operation ≡ true → is_request d.operation n ≡ true
     → settled d.length (number_read (headed d) 32 n number.Request) 40 ≡ outcome.More (at_number (headed (record d { request = n })) 40 (first_place d.operation))
-request_leads d n least common keeps =
-    let room : 40 + number_width (first_place d.operation) ≤ d.length = omega (arith, first_width d.operation) in
+request_leads d n room common keeps =
     rw (keeps, common_begun (headed (record d { request = n })) d.operation common) (arrives (headed (record d { request = n })) (place.Number (first_place d.operation)) 40 room)
 
 pub names_taken : (o r s q rest : List ℕ) (h : Head) → length o ≡ 4 → length r ≡ 4 → length s ≡ 4 → length q ≡ 8
     → h.receiver ≡ number_of r → h.sender ≡ number_of s → h.request ≡ number_of q
-    → 47 < h.length → operation_of (number_of o) ≡ Some h.operation → is_common h.operation ≡ true → is_node h.receiver ≡ true → is_node h.sender ≡ true → is_request h.operation h.request ≡ true
+    → 40 + number_width (first_place h.operation) ≤ h.length → operation_of (number_of o) ≡ Some h.operation → is_common h.operation ≡ true → is_node h.receiver ≡ true → is_node h.sender ≡ true → is_request h.operation h.request ≡ true
     → eaten (at_number (headed (front_head h.length h.version h.generation)) 20 number.Operation) [] (o ++ (r ++ (s ++ (q ++ rest)))) ≡ eaten (at_number (headed h) 40 (first_place h.operation)) [] rest
-names_taken o r s q rest h ow rw_ sw qw receiver_is sender_is request_is least known common receiver_keeps sender_keeps request_keeps =
+names_taken o r s q rest h ow rw_ sw qw receiver_is sender_is request_is room known common receiver_keeps sender_keeps request_keeps =
+    let least : 39 < h.length = omega (arith, room) in
     let front = front_head h.length h.version h.generation in
     let named = record front { operation = h.operation } in
     let received = record named { receiver = h.receiver } in
@@ -104,7 +105,7 @@ names_taken o r s q rest h ow rw_ sw qw receiver_is sender_is request_is least k
     field_leads (at_number (headed front) 20 number.Operation) (at_number (headed named) 24 number.Receiver) o (r ++ (s ++ (q ++ rest))) ow (omega arith) (operation_leads h (number_of o) h.operation least known)
     ∙ field_leads (at_number (headed named) 24 number.Receiver) (at_number (headed received) 28 number.Sender) r (s ++ (q ++ rest)) rw_ (omega arith) (ap (λ (n : ℕ). settled h.length (number_read (headed named) 24 n number.Receiver) 28) (sym receiver_is) ∙ receiver_leads named h.receiver least receiver_keeps)
     ∙ field_leads (at_number (headed received) 28 number.Sender) (at_number (headed sent) 32 number.Request) s (q ++ rest) sw (omega arith) (ap (λ (n : ℕ). settled h.length (number_read (headed received) 28 n number.Sender) 32) (sym sender_is) ∙ sender_leads received h.sender least sender_keeps)
-    ∙ field_leads (at_number (headed sent) 32 number.Request) (at_number (headed h) 40 (first_place h.operation)) q rest qw (omega arith) (ap (λ (n : ℕ). settled h.length (number_read (headed sent) 32 n number.Request) 40) (sym request_is) ∙ request_leads sent h.request least common request_keeps)
+    ∙ field_leads (at_number (headed sent) 32 number.Request) (at_number (headed h) 40 (first_place h.operation)) q rest qw (omega arith) (ap (λ (n : ℕ). settled h.length (number_read (headed sent) 32 n number.Request) 40) (sym request_is) ∙ request_leads sent h.request room common request_keeps)
 
 -- ---- a key or value
 
@@ -191,6 +192,82 @@ copy_taken h bytes x k gives is_whole =
     ∙ field_leads (at_number in_db behind_key (number.Rsn key)) (at_text all behind_rsn (text.Value key)) k.rsn_field to_value k.rsn_width (omega (arith, k.rsn_width)) (rsn_leads in_db behind_key behind_rsn (number_of k.rsn_field) x.rsn key k.rsn_is k.rsn_keeps gives (omega (arith, is_whole)))
     ∙ text_leads all behind_rsn (text.Value key) k.value_length value rest k.value_length_width (omega arith) k.value_length_is (lt-ltb (length value) 1025 k.value_most) (omega (arith, is_whole))
     ∙ ap (λ (o : Outcome). after_field o rest (λ next. eaten next [] rest)) (value_leads all behind_rsn (behind_rsn + 2 + length value) key value k.value_most ∙ ap (settled h.length (after_value all key value h.operation)) same_end)
+
+-- ---- a frame that asks for a record
+
+-- a database and key that lead to a number
+record_db_leads : (h : Head) (n db : ℕ) → n ≡ db → is_db db ≡ true → after_db (record (headed h) { db = db }) h.operation ≡ to_text (record (headed h) { db = db }) text.Key → 45 ≤ h.length
+    → settled h.length (number_read (headed h) 40 n number.Db) 44 ≡ outcome.More (at_text (record (headed h) { db = db }) 44 text.Key)
+record_db_leads h n db is keeps to room = rw (is, keeps, to) (arrives (record (headed h) { db = db }) (place.Text text.Key) 44 room)
+
+record_key_leads : (d : Draft) (at end : ℕ) (key : List ℕ) (p : NumberPlace) → 0 < length key → length key < 256 → after_key d key d.head.operation ≡ to_number d p → end + number_width p ≤ d.head.length
+    → settled d.head.length (text_read d at key text.Key) end ≡ outcome.More (at_number d end p)
+record_key_leads d at end key p some most to room = rw (key_is key some most, to) (arrives d (place.Number p) end room)
+
+key_taken : (h : Head) (bytes : List ℕ) (x : KeyFields) (p : NumberPlace) → KeyStands bytes x
+    → after_db (record (headed h) { db = x.db }) h.operation ≡ to_text (record (headed h) { db = x.db }) text.Key
+    → after_key (record (headed h) { db = x.db }) x.key.now h.operation ≡ to_number (record (headed h) { db = x.db }) p
+    → 45 + length x.key.now + number_width p ≤ h.length
+    → eaten (at_number (headed h) 40 number.Db) [] bytes ≡ eaten (at_number (record (headed h) { db = x.db }) (45 + length x.key.now) p) [] x.rest.now
+key_taken h bytes x p k to_key to_number_there room =
+    let key = x.key.now in
+    let rest = x.rest.now in
+    let in_db = record (headed h) { db = x.db } in
+    let behind_key = 45 + length key in
+    let to_key_bytes = k.key_length ++ (key ++ rest) in
+    ap (eaten (at_number (headed h) 40 number.Db) []) k.bytes_are
+    ∙ field_leads (at_number (headed h) 40 number.Db) (at_text in_db 44 text.Key) k.db_field to_key_bytes k.db_width (omega (arith, k.db_width)) (record_db_leads h (number_of k.db_field) x.db k.db_is k.db_keeps to_key (omega (arith, room)))
+    ∙ settles _ (at_number in_db behind_key p) _ rest (text_leads in_db 44 text.Key k.key_length key rest k.key_length_width (omega arith) k.key_length_is (key_length_is (length key) k.key_some k.key_most) (omega (arith, room))) (record_key_leads in_db 44 behind_key key p k.key_some k.key_most to_number_there room)
+
+kind_found : (d : Draft) (at n : ℕ) (key : List ℕ) (k : CallKind) → n ≡ kind_number k → kind_read d at key n ≡ after_kind d key k d.head.operation
+kind_found d at n key kind.Lock is = rw is refl
+kind_found d at n key kind.Read is = rw is refl
+
+-- the kind is the last field
+kind_taken : (d : Draft) (at end : ℕ) (key field rest : List ℕ) (k : CallKind) → length field ≡ 1 → number_of field ≡ kind_number k → at + 1 ≡ end
+    → eaten (at_number d at (number.Kind key)) [] (field ++ rest) ≡ after_field (settled d.head.length (after_kind d key k d.head.operation) end) rest (λ next. eaten next [] rest)
+kind_taken d at end key field rest k width is ends =
+    eaten_whole (at_number d at (number.Kind key)) field rest width (omega (arith, width))
+    ∙ ap (λ (s : Step). after_field (settled d.head.length s (at + 1)) rest (λ next. eaten next [] rest)) (kind_found d at (number_of field) key k is)
+    ∙ ap (λ (n : ℕ). after_field (settled d.head.length (after_kind d key k d.head.operation) n) rest (λ next. eaten next [] rest)) ends
+
+pub call_taken : (h : Head) (bytes : List ℕ) (x : KeyFields) (field rest : List ℕ) (k : CallKind) → KeyStands bytes x → h.operation ≡ Call
+    → x.rest.now ≡ field ++ rest → length field ≡ 1 → number_of field ≡ kind_number k → length x.key.now + 46 ≡ h.length
+    → eaten (at_number (headed h) 40 number.Db) [] bytes ≡ after_field (settled h.length (after_kind (record (headed h) { db = x.db }) x.key.now k h.operation) h.length) rest (λ next. eaten next [] rest)
+call_taken h bytes x field rest k stands is rest_is width kind_is is_whole =
+    let key = x.key.now in
+    let in_db = record (headed h) { db = x.db } in
+    key_taken h bytes x (number.Kind key) stands (ap (after_db in_db) is) (ap (after_key in_db key) is) (omega (arith, is_whole))
+    ∙ ap (eaten (at_number in_db (45 + length key) (number.Kind key)) []) rest_is
+    ∙ kind_taken in_db (45 + length key) h.length key field rest k width kind_is (omega (arith, is_whole))
+
+least_leads : (d : Draft) (at end n least : ℕ) (key : List ℕ) → n ≡ least → is_below_limit least ≡ true → end + 4 ≤ d.head.length
+    → settled d.head.length (number_read d at n (number.Least key)) end ≡ outcome.More (at_number (record d { rsn = least }) end (number.Node key))
+least_leads d at end n least key is keeps room = rw (is, keeps) (arrives (record d { rsn = least }) (place.Number (number.Node key)) end room)
+
+node_leads : (d : Draft) (at end n node : ℕ) (key : List ℕ) → n ≡ node → is_node node ≡ true → after_node (record d { node = node }) key d.head.operation ≡ to_number (record d { node = node }) (number.Kind key) → end + 1 ≤ d.head.length
+    → settled d.head.length (number_read d at n (number.Node key)) end ≡ outcome.More (at_number (record d { node = node }) end (number.Kind key))
+node_leads d at end n node key is keeps to room = rw (is, keeps, to) (arrives (record d { node = node }) (place.Number (number.Kind key)) end room)
+
+pub recall_taken : (h : Head) (bytes : List ℕ) (x : KeyFields) (l n field rest : List ℕ) (least node : ℕ) (k : CallKind) → KeyStands bytes x → h.operation ≡ Recall
+    → x.rest.now ≡ l ++ (n ++ (field ++ rest)) → length l ≡ 8 → length n ≡ 4 → length field ≡ 1
+    → number_of l ≡ least → number_of n ≡ node → number_of field ≡ kind_number k → is_below_limit least ≡ true → is_node node ≡ true → length x.key.now + 58 ≡ h.length
+    → eaten (at_number (headed h) 40 number.Db) [] bytes ≡ after_field (settled h.length (after_kind (record (headed h) { db = x.db; rsn = least; node = node }) x.key.now k h.operation) h.length) rest (λ next. eaten next [] rest)
+recall_taken h bytes x l n field rest least node k stands is rest_is lw nw width least_is node_is kind_is least_keeps node_keeps is_whole =
+    let key = x.key.now in
+    let in_db = record (headed h) { db = x.db } in
+    let from = record in_db { rsn = least } in
+    let all = record from { node = node } in
+    let behind_key = 45 + length key in
+    let behind_least = 45 + length key + 8 in
+    let behind_node = 45 + length key + 8 + 4 in
+    key_taken h bytes x (number.Least key) stands (ap (after_db in_db) is) (ap (after_key in_db key) is) (omega (arith, is_whole))
+    ∙ ap (eaten (at_number in_db behind_key (number.Least key)) []) rest_is
+    ∙ field_leads (at_number in_db behind_key (number.Least key)) (at_number from behind_least (number.Node key)) l (n ++ (field ++ rest)) lw (omega (arith, lw)) (least_leads in_db behind_key behind_least (number_of l) least key least_is least_keeps (omega (arith, is_whole)))
+    ∙ field_leads (at_number from behind_least (number.Node key)) (at_number all behind_node (number.Kind key)) n (field ++ rest) nw (omega (arith, nw)) (node_leads from behind_least behind_node (number_of n) node key node_is node_keeps (ap (after_node all key) is) (omega (arith, is_whole)))
+    ∙ kind_taken all behind_node h.length key field rest k width kind_is (omega (arith, is_whole))
+
+-- ---- the end of a frame
 
 -- a step that ends a frame at its length
 pub frame_ends : (h : Head) (m : Msg) (s : Step) (rest : List ℕ) → s ≡ whole h m → after_field (settled h.length s h.length) rest (λ next. eaten next [] rest) ≡ End.Ends (record { generation = h.generation; sender = h.sender; receiver = h.receiver; msg = m }) h.length rest

@@ -1,5 +1,7 @@
 -- The frames that a piece completes, one after the other.
-use Rattle.std.proofs.Common.{◌≡◌, ℕ, suc, List, [], ◌∷◌, ◌++◌, length, refl, sym, subst, append_assoc, Bor}
+use Rattle.std.proofs.Common.{◌≡◌, ◌==◌, ℕ, suc, true, List, [], ◌∷◌, ◌++◌, length, Option, Some, refl, sym, subst, append_assoc, Bor, arith}
+use Rattle.std.specs.Prelude.{IfSome}
+use Rattle.std.proofs.lemmas.Bool.{eqb-true}
 use Rattle.std.proofs.lemmas.List.{append-nil}
 use Rattle.ct_frame.specs.declared.frame.Frame.{Frame}
 use Rattle.ct_wire.specs.declared.decode.Event.{Event}
@@ -9,7 +11,7 @@ use Rattle.ct_wire.specs.declared.decode.Spot.{Spot}
 use Rattle.ct_wire.specs.Cursor.{start}
 use Rattle.ct_wire.specs.declared.decode.Progress.TheVariants as progress
 use Rattle.ct_wire.specs.declared.decode.WireFault.TheVariants as fault
-use Rattle.ct_wire.specs.Decoding.{End, eaten, Closes, Completes, Finds}
+use Rattle.ct_wire.specs.Decoding.{End, eaten, Closes, Completes, Finds, IsLone}
 
 -- the bytes that are still to be read
 abbrev pub to_read : Event → ℕ
@@ -29,6 +31,24 @@ goes_on_next first so_far f n rest on fs p done =
 
 pub goes_on_last : (first : End) (so_far : List Frame) (e : End) (p : Progress) → GoesOn first so_far e → Completes e [] p → Completes first so_far p
 goes_on_last first so_far e p on done = subst (λ (gs : List Frame). Completes first gs p) (append-nil so_far) (on [] p done)
+
+-- behind the last frame nothing has come
+pub goes_on_empty : (first : End) (so_far : List Frame) (rest : List ℕ) (p : Progress) → GoesOn first so_far (eaten start [] rest) → (length rest == 0) ≡ true → p ≡ progress.Amid (record { cursor = start; raw = [] }) → Completes first so_far p
+unfolding eaten
+goes_on_empty first so_far [] p on none is = goes_on_last first so_far (eaten start [] []) p on is
+goes_on_empty first so_far (b ∷ rest) p on none is = absurd (omega (arith, eqb-true (length (b ∷ rest)) 0 none))
+
+-- a frame that nothing follows is the one that is complete
+lone_done : (e : End) (f : Frame) → IsLone f e → Completes e (f ∷ []) (progress.Amid (record { cursor = start; raw = [] }))
+unfolding eaten
+lone_done (End.Ends g n rest) f lone = (sym lone.0, subst (λ (l : List ℕ). Completes (eaten start [] l) [] (progress.Amid (record { cursor = start; raw = [] }))) (sym lone.1) refl)
+lone_done (End.Waits s) f lone = absurd lone
+lone_done (End.Breaks offset) f lone = absurd lone
+
+pub lone_completes : (e : End) (found : Option Frame) (f : Frame) (gs : List Frame) → IfSome found (λ g. IsLone g e) → found ≡ Some f → gs ≡ f ∷ [] → Completes e gs (progress.Amid (record { cursor = start; raw = [] }))
+lone_completes e found f gs lone is pushed =
+    subst (λ (l : List Frame). Completes e l (progress.Amid (record { cursor = start; raw = [] }))) (sym pushed)
+    (lone_done e f (subst (λ (o : Option Frame). IfSome o (λ g. IsLone g e)) is lone))
 
 pub finds_ends : (v : Event) (f : Frame) (n : ℕ) (rest : Bor (List ℕ)) (e : End) → v ≡ event.Ends f n rest → Finds v e → e ≡ End.Ends f n rest.now
 finds_ends v f n rest e is finds = subst (λ (x : Event). Finds x e) is finds

@@ -1,5 +1,5 @@
 -- Reading bytes one after the other, in whatever pieces they come.
-use Rattle.std.specs.Prelude.{ℕ, ◌+◌, ◌<◌, ◌≡◌, nat_lt, List, [], ◌∷◌, ◌++◌, length, Result, Ok, Err, if◌then◌else◌}
+use Rattle.std.specs.Prelude.{ℕ, ◌+◌, ◌<◌, ◌≡◌, nat_lt, List, [], ◌∷◌, ◌++◌, length, Option, None, Some, Result, Ok, Err, if◌then◌else◌}
 use Rattle.std.specs.Global.{Vec}
 use Rattle.ct_frame.specs.declared.frame.Frame.{Frame}
 use Rattle.ct_wire.specs.declared.cursor.Cursor.{Cursor}
@@ -66,6 +66,11 @@ abbrev pub raw_length : Progress → ℕ
 raw_length (progress.Amid s) = length s.raw
 raw_length (progress.Failed f) = 0
 
+-- the fault after which nothing more is read
+abbrev pub standing_fault : Progress → Option WireFault
+standing_fault (progress.Amid s) = None
+standing_fault (progress.Failed f) = Some f
+
 -- no frame is complete
 abbrev pub Closes : End → Progress → Type 0
 Closes (Waits s) p = p ≡ progress.Amid s
@@ -76,6 +81,11 @@ Closes (Breaks offset) p = p ≡ progress.Failed (fault.Malformed offset)
 abbrev pub Passes : End → Frame → (List ℕ → Type 0) → Type 0
 Passes (Ends f n rest) g Follows = (g ≡ f) × Follows rest
 Passes _ g Follows = ⊥
+
+-- this frame is complete, and nothing follows it
+abbrev pub IsLone : Frame → End → Type 0
+IsLone f (Ends g n rest) = (g ≡ f) × (rest ≡ [])
+IsLone f _ = ⊥
 
 -- these frames are complete, one after the other, and then no more
 abbrev pub Completes : End → List Frame → Progress → Type 0

@@ -1,18 +1,22 @@
--- What stands whole in the bytes and is read at once: the header of a common frame, and a record's copy.
+-- What stands whole in the bytes and is read at once: the header of a common frame, a record's database and key, and a
+-- record's copy.
 use Rattle.std.specs.Prelude.{ℕ, ◌≡◌, ◌<◌, Bool, true, false, List, [], ◌++◌, length}
+use Rattle.ct_frame.specs.declared.frame.CallKind.{CallKind}
+use Rattle.ct_frame.specs.declared.frame.CallKind.TheVariants as kind
 use Rattle.ct_frame.specs.Fields.{is_below_limit, is_db}
 use Rattle.ct_wire_fields.specs.declared.draft.Draft.{Draft}
 use Rattle.ct_wire_fields.specs.declared.draft.Head.{Head}
 use Rattle.ct_wire_fields.specs.declared.place.NumberPlace.{NumberPlace}
 use Rattle.ct_wire_fields.specs.declared.place.NumberPlace.TheVariants as number
 use Rattle.ct_wire_fields.specs.declared.place.Operation.{Operation}
-use Rattle.ct_wire_fields.specs.declared.place.Operation.TheVariants.{Give, Pass, Grant, PullReply, Push}
+use Rattle.ct_wire_fields.specs.declared.place.Operation.TheVariants.{Call, Recall, Give, Pass, Refuse, Grant, Done, Revoke, RevokeAck, PullReply, Push, PUpdate, PAck}
 use Rattle.ct_wire_fields.specs.declared.place.Place.TheVariants as place
 use Rattle.ct_wire_fields.specs.declared.version.Version.{Version}
 use Rattle.ct_wire_fields.specs.Reading.{no_draft}
 use Rattle.ct_wire.specs.declared.cursor.Cursor.{Cursor}
 use Rattle.ct_wire.specs.declared.cursor.Stage.TheVariants as stage
 use Rattle.ct_wire.specs.declared.whole.CopyFields.{CopyFields}
+use Rattle.ct_wire.specs.declared.whole.KeyFields.{KeyFields}
 use Rattle.ct_wire.specs.Cursor.{number_of}
 
 -- what gives a record's copy
@@ -24,8 +28,16 @@ gives_copy _ = false
 
 -- what is read at once from its header on
 abbrev pub is_common : Operation → Bool
+is_common Call = true
+is_common Recall = true
+is_common Refuse = true
+is_common Done = true
+is_common Revoke = true
+is_common RevokeAck = true
 is_common PullReply = true
 is_common Push = true
+is_common PUpdate = true
+is_common PAck = true
 is_common o = gives_copy o
 
 -- the first field of the body of such a frame
@@ -66,6 +78,24 @@ pub record CopyStands (bytes : List ℕ) (x : CopyFields) : Type 0 where
   pub rsn_keeps : is_below_limit x.rsn ≡ true
   pub value_most : length x.value.now < 1025
   pub bytes_are : bytes ≡ db_field ++ (key_length ++ (x.key.now ++ (rsn_field ++ (value_length ++ (x.value.now ++ x.rest.now)))))
+
+-- the number of a kind
+abbrev pub kind_number : CallKind → ℕ
+kind_number kind.Lock = 0
+kind_number kind.Read = 1
+
+-- a record's database and key stand at the front of these bytes, and each keeps its rule
+pub record KeyStands (bytes : List ℕ) (x : KeyFields) : Type 0 where
+  pub db_field : List ℕ
+  pub key_length : List ℕ
+  pub db_width : length db_field ≡ 4
+  pub key_length_width : length key_length ≡ 1
+  pub db_is : number_of db_field ≡ x.db
+  pub key_length_is : number_of key_length ≡ length x.key.now
+  pub db_keeps : is_db x.db ≡ true
+  pub key_some : 0 < length x.key.now
+  pub key_most : length x.key.now < 256
+  pub bytes_are : bytes ≡ db_field ++ (key_length ++ (x.key.now ++ x.rest.now))
 
 -- nothing of a body has been read but items of lists
 abbrev pub HasNoNumbers : Draft → Type 0

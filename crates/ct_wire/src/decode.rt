@@ -1,11 +1,11 @@
 //! Frames read from bytes, whole and in pieces.
-ghost use Rattle.std.specs.Prelude.{◌≡◌, ◌<◌, ◌≤◌, [], IfOk, length, nat_lt};
+ghost use Rattle.std.specs.Prelude.{◌≡◌, ◌<◌, ◌≤◌, [], IfOk, IfSome, length, nat_lt};
 ghost use Rattle.ct_wire.specs.Cursor.{start, width, IsSound};
-ghost use Rattle.ct_wire.specs.Decoding.{decoded, eaten, raw_length, Completes, Decodes, Feeds, Finds, IsSoundProgress, IsSoundSpot, Shortens};
+ghost use Rattle.ct_wire.specs.Decoding.{decoded, eaten, raw_length, Completes, Decodes, Feeds, Finds, IsLone, IsSoundProgress, IsSoundSpot, Shortens};
 ghost use Rattle.ct_wire.specs.declared.decode.Progress.TheVariants.{Amid};
 
 use crate::cursor::{Cursor, Taken};
-use crate::whole::{head_of, whole_frame};
+use crate::whole::{head_of, whole_body};
 use ct_bytes::items::Items;
 use ct_bytes::memory::NoMemory;
 use ct_frame::frame::Frame;
@@ -85,37 +85,39 @@ pub fn read_fields(alloc: Global, mut cursor: Cursor, bytes: &[u8]) -> Result<Ev
     }))
 }
 
-/// Reads a frame from its first byte on, at once as far as its header.
-fn read_header(alloc: Global, bytes: &[u8]) -> Result<Event<'_>, NoMemory>
-    ensures exact { IfOk result (λ event. Finds event (eaten start [] bytes.now)) }
-    ensures shorter { IfOk result (λ event. Shortens event bytes.now) }
-{
-    match head_of(bytes) {
-        Some((head, rest)) => read_fields(alloc, Cursor::behind(alloc, head), rest),
-        None => read_fields(alloc, Cursor::start(alloc), bytes),
-    }
-}
-
-/// Reads a frame from its first byte on.
+/// Reads a frame from its first byte on, and at once what stands whole in the bytes.
 pub fn read_frame(alloc: Global, bytes: &[u8]) -> Result<Event<'_>, NoMemory>
     ensures exact { IfOk result (λ event. Finds event (eaten start [] bytes.now)) }
     ensures shorter { IfOk result (λ event. Shortens event bytes.now) }
 {
-    if let Some(found) = whole_frame(alloc, bytes)? {
+    let Some((head, rest)) = head_of(bytes) else {
+        return read_fields(alloc, Cursor::start(alloc), bytes);
+    };
+    if let Some(found) = whole_body(alloc, head, rest)? {
         let length = u64::from(found.length);
         return Ok(Event::Ends(found.frame, length, found.rest));
     }
-    read_header(alloc, bytes)
+    read_fields(alloc, Cursor::behind(alloc, head), rest)
+}
+
+/// The frame that these bytes are, where it is read at once.
+pub fn lone_frame(alloc: Global, bytes: &[u8]) -> Result<Option<Frame>, NoMemory>
+    ensures { IfOk result (λ found. IfSome found (λ f. IsLone f (eaten start [] bytes.now))) }
+{
+    let Some((head, rest)) = head_of(bytes) else {
+        return Ok(None);
+    };
+    match whole_body(alloc, head, rest)? {
+        Some(found) if found.rest.is_empty() => Ok(Some(found.frame)),
+        _ => Ok(None),
+    }
 }
 
 /// The frame at the front of these bytes, and its length.
 pub fn decode(alloc: Global, bytes: &[u8]) -> Result<(Frame, usize), WireFault>
     ensures { Decodes result (decoded bytes.now) }
 {
-    if let Some(found) = whole_frame(alloc, bytes)? {
-        return Ok((found.frame, found.length as usize));
-    }
-    match read_header(alloc, bytes)? {
+    match read_frame(alloc, bytes)? {
         Event::Waits(_) => Err(WireFault::Short),
         Event::Ends(frame, length, _) => Ok((frame, length as usize)),
         Event::Breaks(offset) => Err(WireFault::Malformed(offset)),

@@ -1,17 +1,27 @@
 //! A stream of frames, read in whatever pieces it comes.
-ghost use Rattle.std.specs.Prelude.{◌≡◌, ◌<◌, ◌≤◌, [], IfOk, length};
+ghost use Rattle.std.specs.Prelude.{◌≡◌, ◌<◌, ◌≤◌, [], true, IfOk, IfSome, length};
 ghost use Rattle.ct_wire.specs.Cursor.{start};
-ghost use Rattle.ct_wire.specs.Decoding.{eaten, raw_length, Completes, Feeds, FeedsOpen, IsSoundProgress, IsSoundSpot};
+ghost use Rattle.ct_wire.specs.Decoding.{eaten, standing_fault, raw_length, Completes, Feeds, FeedsOpen, IsSoundProgress, IsSoundSpot};
 ghost use Rattle.ct_wire.specs.declared.decode.Progress.TheVariants.{Amid};
 
 use crate::cursor::Cursor;
-use crate::decode::{Event, Progress, Spot, WireFault, read_frame, resume};
+use crate::decode::{Event, Progress, Spot, WireFault, lone_frame, read_frame, resume};
 use ct_bytes::items::Items;
 use ct_bytes::memory::NoMemory;
 use ct_frame::frame::Frame;
 use std::alloc::Global;
 use std::marker::Model;
 use std::mem;
+
+/// Before the first byte of a frame. It takes no memory.
+fn before_frame(alloc: Global) -> Progress
+    ensures { result ≡ Amid (record { cursor = start; raw = [] }) }
+{
+    Progress::Amid(Spot {
+        cursor: Cursor::start(alloc),
+        raw: Items::empty(alloc),
+    })
+}
 
 /// Reads on, and keeps each frame that is complete.
 fn read_frames(
@@ -30,6 +40,9 @@ fn read_frames(
         match event {
             Event::Ends(frame, _, rest) => {
                 frames.push(frame)?;
+                if rest.is_empty() {
+                    return Ok(before_frame(alloc));
+                }
                 event = read_frame(alloc, rest)?;
             }
             Event::Waits(spot) => return Ok(Progress::Amid(spot)),
@@ -48,21 +61,48 @@ fn feed_spot(alloc: Global, spot: Spot, piece: &[u8]) -> Result<(Vec<Frame>, Pro
     Ok((frames, progress))
 }
 
-/// Reads a stream of frames. It is seen as how far it is.
+/// The frame that a piece is, as the one frame that it completes.
+fn lone_frames(alloc: Global, piece: &[u8]) -> Result<Option<Vec<Frame>>, NoMemory>
+    ensures { IfOk result (λ found. IfSome found (λ v. Completes (eaten start [] piece.now) v.items (Amid (record { cursor = start; raw = [] })))) }
+{
+    let Some(frame) = lone_frame(alloc, piece)? else {
+        return Ok(None);
+    };
+    let mut frames = Vec::with_capacity(alloc, 1)?;
+    frames.push(frame)?;
+    Ok(Some(frames))
+}
+
+/// Whether nothing of a frame has come.
+fn is_at_start(progress: &Progress) -> bool
+    ensures { result ≡ true → progress.now ≡ Amid (record { cursor = start; raw = [] }) }
+{
+    match progress {
+        Progress::Amid(spot) => spot.raw.is_empty() && spot.cursor.is_fresh(),
+        Progress::Failed(_) => false,
+    }
+}
+
+/// Reads a stream of frames. It is seen as how far it is. Where it is at the start of a frame that is the whole piece, the frame
+/// is read at once.
 #[derive(Debug, Drop)]
 pub struct Decoder {
     progress: Progress,
+    at_start: bool,
 }
 
 impl Model for Decoder {
     ghost use Rattle.ct_wire.specs.declared.decode.Progress.{Progress};
+    ghost use Rattle.std.specs.Prelude.{◌≡◌, true, []};
+    ghost use Rattle.ct_wire.specs.Cursor.{start};
     ghost use Rattle.ct_wire.specs.Decoding.{IsSoundProgress};
+    ghost use Rattle.ct_wire.specs.declared.decode.Progress.TheVariants.{Amid};
 
     ghost Value = { Progress };
 
     ghost view = { λ a. a.progress };
 
-    ghost invariant = { λ a. IsSoundProgress a.progress };
+    ghost invariant = { λ a. IsSoundProgress a.progress × (a.at_start ≡ true → a.progress ≡ Amid (record { cursor = start; raw = [] })) };
 }
 
 impl Decoder {
@@ -71,10 +111,8 @@ impl Decoder {
         ensures { result ≡ Amid (record { cursor = start; raw = [] }) }
     {
         Decoder {
-            progress: Progress::Amid(Spot {
-                cursor: Cursor::start(alloc),
-                raw: Items::empty(alloc),
-            }),
+            progress: before_frame(alloc),
+            at_start: true,
         }
     }
 
@@ -83,6 +121,25 @@ impl Decoder {
     pub fn feed(&mut self, alloc: Global, piece: &[u8]) -> Result<Vec<Frame>, WireFault>
         ensures { Feeds result self.old piece.now self.new }
     {
+        if !self.at_start {
+            return self.read_on(alloc, piece);
+        }
+        match lone_frames(alloc, piece) {
+            Ok(Some(frames)) => Ok(frames),
+            Ok(None) => self.read_on(alloc, piece),
+            Err(NoMemory) => {
+                self.progress = Progress::Failed(WireFault::NoMemory);
+                self.at_start = false;
+                Err(WireFault::NoMemory)
+            }
+        }
+    }
+
+    /// Reads on, field by field where need be.
+    fn read_on(&mut self, alloc: Global, piece: &[u8]) -> Result<Vec<Frame>, WireFault>
+        ensures { Feeds result self.old piece.now self.new }
+    {
+        self.at_start = false;
         let before = mem::replace(&mut self.progress, Progress::Failed(WireFault::NoMemory));
         match before {
             Progress::Failed(fault) => {
@@ -98,10 +155,21 @@ impl Decoder {
                             return Err(fault);
                         }
                     }
+                    self.at_start = is_at_start(&progress);
                     self.progress = progress;
                     Ok(frames)
                 }
             },
+        }
+    }
+
+    /// The fault that the next call of `feed` answers, whatever its piece, if no frame comes before it.
+    pub fn fault(&self) -> Option<WireFault>
+        ensures { result ≡ standing_fault self.now }
+    {
+        match &self.progress {
+            Progress::Amid(_) => None,
+            Progress::Failed(fault) => Some(*fault),
         }
     }
 

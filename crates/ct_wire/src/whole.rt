@@ -1,16 +1,18 @@
-//! What is read at once where it stands whole in the bytes: the header of a common frame, and a record's copy.
+//! What is read at once where it stands whole in the bytes: the header of a common frame, and the body behind it where that
+//! gives a record's copy or asks for a record.
 ghost use Rattle.std.specs.Prelude.{◌≡◌, ◌+◌, ◌<◌, ◌≤◌, [], true, length, IfOk, IfSome, Some};
 ghost use Rattle.ct_wire_fields.specs.declared.place.NumberPlace.TheVariants as number;
+ghost use Rattle.ct_wire_fields.specs.declared.place.Operation.TheVariants.{Call, Recall};
 ghost use Rattle.ct_wire_fields.specs.Reading.{after_value, is_request, operation_of, whole};
-ghost use Rattle.ct_wire.specs.Cursor.{start};
+ghost use Rattle.ct_wire.specs.Cursor.{number_width, start};
 ghost use Rattle.ct_wire.specs.Decoding.{eaten, Gives};
-ghost use Rattle.ct_wire.specs.Whole.{at_number, first_place, front_head, gives_copy, headed, is_common, CopyStands};
+ghost use Rattle.ct_wire.specs.Whole.{at_number, first_place, front_head, gives_copy, headed, is_common, kind_number, CopyStands, KeyStands};
 
 use crate::cursor::number_of;
 use ct_bytes::key::Key;
 use ct_bytes::memory::NoMemory;
 use ct_bytes::value::Value;
-use ct_frame::frame::{Frame, Msg};
+use ct_frame::frame::{CallKind, Frame, Msg};
 use ct_wire_fields::check::{is_below_limit, is_db, is_from_one, is_node};
 use ct_wire_fields::draft::Head;
 use ct_wire_fields::place::Operation;
@@ -39,6 +41,14 @@ pub struct CopyFields<'a> {
     pub rest: &'a [u8],
 }
 
+/// A record's database and key, and the bytes behind them.
+#[derive(Clone, Copy, Debug)]
+pub struct KeyFields<'a> {
+    pub db: u32,
+    pub key: &'a [u8],
+    pub rest: &'a [u8],
+}
+
 /// A frame, its length, and the bytes behind it.
 #[derive(Debug, Drop)]
 pub struct WholeFrame<'a> {
@@ -47,13 +57,12 @@ pub struct WholeFrame<'a> {
     pub rest: &'a [u8],
 }
 
-/// The first half of a header, where all of the header is there, and each field of the half keeps its rule. A length
-/// that leaves no room for a body is left to others.
+/// The first half of a header, where all of the header is there, and each field of the half keeps its rule.
 fn front_of(bytes: &[u8]) -> Option<Front<'_>>
     ensures same { IfSome result (λ x. eaten start [] bytes.now ≡ eaten (at_number (headed (front_head x.length x.version x.generation)) 20 number.Operation) [] x.rest.now) }
     ensures shorter { IfSome result (λ x. length x.rest.now + 20 ≡ length bytes.now) }
     ensures more { IfSome result (λ x. 20 ≤ length x.rest.now) }
-    ensures room { IfSome result (λ x. 48 ≤ x.length) }
+    ensures room { IfSome result (λ x. 40 ≤ x.length) }
 {
     if bytes.len() < 40 {
         return None;
@@ -64,7 +73,7 @@ fn front_of(bytes: &[u8]) -> Option<Front<'_>>
     let (generation_field, rest) = rest.split_at(8);
     let length = number_of(length_field);
     let generation = number_of(generation_field);
-    if length < 48 || length > 268_435_456 || number_of(magic_field) != MAGIC {
+    if length < 40 || length > 268_435_456 || number_of(magic_field) != MAGIC {
         return None;
     }
     if !is_from_one(generation) {
@@ -85,11 +94,19 @@ fn common(number: u64) -> Option<Operation>
     ensures common { IfSome result (λ o. is_common o ≡ true) }
 {
     match number {
+        1 => Some(Operation::Call),
+        2 => Some(Operation::Recall),
         3 => Some(Operation::Give),
         4 => Some(Operation::Pass),
+        5 => Some(Operation::Refuse),
         6 => Some(Operation::Grant),
+        7 => Some(Operation::Done),
+        8 => Some(Operation::Revoke),
+        9 => Some(Operation::RevokeAck),
         17 => Some(Operation::PullReply),
         18 => Some(Operation::Push),
+        21 => Some(Operation::PUpdate),
+        22 => Some(Operation::PAck),
         _ => None,
     }
 }
@@ -110,13 +127,29 @@ fn keeps_request(operation: Operation, request: u64) -> bool
     ensures { result ≡ is_request operation request }
 {
     match operation {
-        Operation::Pass | Operation::Grant => is_from_one(request),
+        Operation::Call
+        | Operation::Recall
+        | Operation::Pass
+        | Operation::Refuse
+        | Operation::Grant
+        | Operation::Done => is_from_one(request),
         _ => request == 0,
     }
 }
 
+/// How many bytes the first field of the body of such an operation has.
+fn first_width(operation: Operation) -> u32
+    ensures exact { result ≡ number_width (first_place operation) }
+    ensures few { result ≤ 8 }
+{
+    match operation {
+        Operation::PullReply => 8,
+        _ => 4,
+    }
+}
+
 /// The header at the front, where it is whole, each field keeps its rule and its operation is a common one, and the
-/// bytes behind it.
+/// bytes behind it. A length that leaves no room for the first field of a body is left to others.
 pub fn head_of(bytes: &[u8]) -> Option<(Head, &[u8])>
     ensures same { IfSome result (λ x. eaten start [] bytes.now ≡ eaten (at_number (headed x.0) 40 (first_place x.0.operation)) [] x.1.now) }
     ensures common { IfSome result (λ x. is_common x.0.operation ≡ true) }
@@ -132,6 +165,9 @@ pub fn head_of(bytes: &[u8]) -> Option<(Head, &[u8])>
     let sender = number_of(sender_field);
     let request = number_of(request_field);
     if !is_node(receiver) || !is_node(sender) || !keeps_request(operation, request) {
+        return None;
+    }
+    if front.length < 40 + first_width(operation) {
         return None;
     }
     Some((
@@ -242,16 +278,144 @@ fn copy_frame(alloc: Global, head: Head, bytes: &[u8]) -> Result<Option<WholeFra
     }))
 }
 
-/// The frame at the front of these bytes, if it gives a record's copy and stands there whole. None says nothing of it.
-pub fn whole_frame(alloc: Global, bytes: &[u8]) -> Result<Option<WholeFrame<'_>>, NoMemory>
-    ensures exact { IfOk result (λ found. IfSome found (λ x. Gives x (eaten start [] bytes.now))) }
-    ensures shorter { IfOk result (λ found. IfSome found (λ x. length x.rest.now < length bytes.now)) }
+/// A record's database and key, where they stand whole at the front and each keeps its rule, with so many bytes behind.
+fn key_fields(bytes: &[u8], behind: u64) -> Option<KeyFields<'_>>
+    requires { behind < 16 }
+    ensures stands { IfSome result (λ x. KeyStands bytes.now x) }
+    ensures behind { IfSome result (λ x. behind ≤ length x.rest.now) }
+    ensures shorter { IfSome result (λ x. length x.rest.now ≤ length bytes.now) }
 {
-    let Some((head, rest)) = head_of(bytes) else {
+    if bytes.len() < 5 {
+        return None;
+    }
+    let (db_field, rest) = bytes.split_at(4);
+    let (key_length, rest) = rest.split_at(1);
+    let db = number_of(db_field);
+    let size = number_of(key_length);
+    if !is_db(db) || size == 0 || size > 255 || (rest.len() as u64) < size + behind {
+        return None;
+    }
+    let (key, rest) = rest.split_at(size as usize);
+    Some(KeyFields {
+        db: db as u32,
+        key,
+        rest,
+    })
+}
+
+/// The kind of this number.
+fn kind_of(number: u64) -> Option<CallKind>
+    ensures { IfSome result (λ k. number ≡ kind_number k) }
+{
+    match number {
+        0 => Some(CallKind::Lock),
+        1 => Some(CallKind::Read),
+        _ => None,
+    }
+}
+
+/// The Call of such a header, where its body stands whole behind it, and nothing but the body is in the frame.
+fn call_frame(alloc: Global, head: Head, bytes: &[u8]) -> Result<Option<WholeFrame<'_>>, NoMemory>
+    requires { head.operation ≡ Call }
+    ensures exact { IfOk result (λ found. IfSome found (λ x. Gives x (eaten (at_number (headed head) 40 number.Db) [] bytes.now))) }
+    ensures shorter { IfOk result (λ found. IfSome found (λ x. length x.rest.now ≤ length bytes.now)) }
+{
+    let Some(fields) = key_fields(bytes, 1) else {
         return Ok(None);
     };
-    if !gives_copy(head.operation) {
+    if fields.key.len() as u64 + 46 != u64::from(head.length) {
         return Ok(None);
     }
-    copy_frame(alloc, head, rest)
+    let (kind_field, rest) = fields.rest.split_at(1);
+    let Some(kind) = kind_of(number_of(kind_field)) else {
+        return Ok(None);
+    };
+    let Some(key) = Key::from_vec(Vec::from_slice(alloc, fields.key)?) else {
+        return Ok(None);
+    };
+    let frame = Frame {
+        generation: head.generation,
+        sender: head.sender,
+        receiver: head.receiver,
+        msg: Msg::Call {
+            db: fields.db,
+            key,
+            request: head.request,
+            kind,
+        },
+    };
+    Ok(Some(WholeFrame {
+        frame,
+        length: head.length,
+        rest,
+    }))
+}
+
+/// The Recall of such a header, where its body stands whole behind it, and nothing but the body is in the frame.
+fn recall_frame(alloc: Global, head: Head, bytes: &[u8]) -> Result<Option<WholeFrame<'_>>, NoMemory>
+    requires { head.operation ≡ Recall }
+    ensures exact { IfOk result (λ found. IfSome found (λ x. Gives x (eaten (at_number (headed head) 40 number.Db) [] bytes.now))) }
+    ensures shorter { IfOk result (λ found. IfSome found (λ x. length x.rest.now ≤ length bytes.now)) }
+{
+    let Some(fields) = key_fields(bytes, 13) else {
+        return Ok(None);
+    };
+    if fields.key.len() as u64 + 58 != u64::from(head.length) {
+        return Ok(None);
+    }
+    let (least_field, rest) = fields.rest.split_at(8);
+    let (node_field, rest) = rest.split_at(4);
+    let (kind_field, rest) = rest.split_at(1);
+    let least = number_of(least_field);
+    let node = number_of(node_field);
+    if !is_below_limit(least) || !is_node(node) {
+        return Ok(None);
+    }
+    let Some(kind) = kind_of(number_of(kind_field)) else {
+        return Ok(None);
+    };
+    let Some(key) = Key::from_vec(Vec::from_slice(alloc, fields.key)?) else {
+        return Ok(None);
+    };
+    let frame = Frame {
+        generation: head.generation,
+        sender: head.sender,
+        receiver: head.receiver,
+        msg: Msg::Recall {
+            db: fields.db,
+            key,
+            least,
+            node: node as u32,
+            request: head.request,
+            kind,
+        },
+    };
+    Ok(Some(WholeFrame {
+        frame,
+        length: head.length,
+        rest,
+    }))
+}
+
+/// The frame of such a header, if it gives a record's copy or asks for a record, and its body stands whole behind it. None
+/// says nothing of it.
+pub fn whole_body(
+    alloc: Global,
+    head: Head,
+    bytes: &[u8],
+) -> Result<Option<WholeFrame<'_>>, NoMemory>
+    ensures exact { IfOk result (λ found. IfSome found (λ x. Gives x (eaten (at_number (headed head) 40 (first_place head.operation)) [] bytes.now))) }
+    ensures shorter { IfOk result (λ found. IfSome found (λ x. length x.rest.now ≤ length bytes.now)) }
+{
+    match head.operation {
+        Operation::Call => call_frame(alloc, head, bytes),
+        Operation::Recall => recall_frame(alloc, head, bytes),
+        operation => {
+            if gives_copy(operation) {
+                copy_frame(alloc, head, bytes)
+            } else {
+                Ok(None)
+            }
+        }
+    }
 }

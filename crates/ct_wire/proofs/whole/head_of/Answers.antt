@@ -20,4 +20,4 @@ returns-clause-same c =
     c.in_ok-front.ensures.same
     ∙ ap (eaten (at_number (headed (front_head h.length h.version h.generation)) 20 number.Operation) []) is
     ∙ names_taken o r s q rest h c.split_at.ensures.front_len c.split_at-2.ensures.front_len c.split_at-3.ensures.front_len c.split_at-4.ensures.front_len c.number_of-receiver.ensures c.number_of-sender.ensures c.number_of-request.ensures
-    (omega (arith, c.in_ok-front.ensures.room)) (ap operation_of (sym c.number_of.ensures) ∙ c.in_ok-operation.ensures.known) c.in_ok-operation.ensures.common (sym c.if-not-is_node.ensures) (sym c.if-not-is_node-2.ensures) (sym c.if-not-keeps_request.ensures)
+    (omega (arith, c.first_width.ensures.exact)) (ap operation_of (sym c.number_of.ensures) ∙ c.in_ok-operation.ensures.known) c.in_ok-operation.ensures.common (sym c.if-not-is_node.ensures) (sym c.if-not-is_node-2.ensures) (sym c.if-not-keeps_request.ensures)
