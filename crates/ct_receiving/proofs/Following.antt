@@ -1,5 +1,5 @@
 -- A piece more, behind those before it.
-use Rattle.std.proofs.Common.{◌≡◌, ◌≢◌, ℕ, zero, suc, ◌+◌, ◌<◌, ◌≤◌, ◌==◌, ⊎_elim, inl, inr, Bool, true, false, cond, ltb, List, [], ◌∷◌, ◌++◌, length, Option, None, Some, Ok, refl, sym, ap, subst, ◌∙◌, arith}
+use Rattle.std.proofs.Common.{◌≡◌, ◌≢◌, ℕ, zero, suc, ◌+◌, ◌<◌, ◌≤◌, ◌==◌, ⊎_elim, inl, inr, Bool, true, false, cond, ltb, List, [], ◌∷◌, ◌++◌, length, Option, None, Some, Ok, refl, sym, ap, subst, append_assoc, ◌∙◌, arith}
 use Rattle.std.specs.List.{list_all}
 use Rattle.std.proofs.lemmas.Bool.{and_parts, cond_both, eq-eqb, eqb-true, ne_eqb}
 use Rattle.std.proofs.lemmas.Bool.Decides.{eqb_tells}
@@ -12,7 +12,7 @@ use Rattle.ct_outside.specs.Links.{Parcel, parcel}
 use Rattle.ct_parcels.specs.Parcels.{bytes_of}
 use Rattle.ct_parcels.proofs.Joined.{fronts_join}
 use Rattle.ct_receiving.specs.declared.arrived.Arrived.{Arrived}
-use Rattle.ct_receiving.specs.Following.{BreaksAt, BrokenBreaks, Follows, FollowsFirst, FollowsNext, WholeArrive, frames_from}
+use Rattle.ct_receiving.specs.Following.{AllArrive, AreFirst, AreWhole, BreaksAt, BrokenBreaks, FirstArrive, FirstLead, FirstStay, Follows, FollowsFirst, FollowsNext, WholeArrive, frames_from}
 use Rattle.ct_receiving.specs.Reading.{Reading, Reads, Takes, before_strange, broken_at, first_strange, is_ours, is_sound, or_strange, progress_of, strange_at, unread}
 use Rattle.ct_wire.specs.declared.cursor.Cursor.{Cursor}
 use Rattle.ct_wire.specs.declared.cursor.Outcome.{Outcome}
@@ -298,3 +298,50 @@ broken_breaks me sender offset pieces arrived readings follows =
       λ broken. breaks_by me sender offset (bytes_of sender pieces) (progress_of sender readings) h.0 (first_strange me sender h.0) h.1 refl h.2 h.4 broken,
       λ breaks. broken_by me sender offset (bytes_of sender pieces) (progress_of sender readings) h.0 h.1 h.2 h.4 breaks,
     )
+
+-- ---- the first frames of all
+
+front_step : (t : Bool) (f : Frame) (fs kept : List Frame) → ((left : List Frame) × (kept ++ left ≡ fs)) → (left : List Frame) × (cond t (f ∷ kept) [] ++ left ≡ f ∷ fs)
+front_step true f fs kept h = (h.0, ap (λ (l : List Frame). f ∷ l) h.1)
+front_step false f fs kept h = (f ∷ fs, refl)
+
+strange_front : (me sender : ℕ) (fs : List Frame) → (left : List Frame) × (before_strange me sender fs ++ left ≡ fs)
+strange_front me sender [] = ([], refl)
+strange_front me sender (f ∷ fs) = front_step (is_ours me sender f) f fs (before_strange me sender fs) (strange_front me sender fs)
+
+pub first_arrive : FirstArrive
+unfolding Follows
+first_arrive me sender pieces arrived readings follows =
+    let h = follows sender in
+    let rest = strange_front me sender h.0 in
+    record {
+      left = rest.0;
+      progress = h.1;
+      complete = subst (λ (l : List Frame). Completes (eaten start [] (bytes_of sender pieces)) l h.1) (sym (ap (λ (l : List Frame). l ++ rest.0) h.3 ∙ rest.1)) h.2;
+    }
+
+pub first_stay : FirstStay
+first_stay sender pieces more frames h =
+    let go = longer (bytes_of sender pieces) (bytes_of sender more) (frames ++ h.left) h.progress h.complete in
+    record {
+      left = h.left ++ go.0;
+      progress = go.1;
+      complete = subst (λ (bytes : List ℕ). Completes (eaten start [] bytes) (frames ++ (h.left ++ go.0)) go.1) (sym (fronts_join sender pieces more))
+          (subst (λ (l : List Frame). Completes (eaten start [] (bytes_of sender pieces ++ bytes_of sender more)) l go.1) (append_assoc frames h.left go.0) go.2);
+    }
+
+pub first_lead : FirstLead
+first_lead sender bytes arrived late h = record {
+  left = frames_from sender late ++ h.left;
+  progress = h.progress;
+  complete = subst (λ (l : List Frame). Completes (eaten start [] bytes) l h.progress)
+      (ap (λ (l : List Frame). l ++ h.left) (from_then sender arrived late) ∙ append_assoc (frames_from sender arrived) (frames_from sender late) h.left) h.complete;
+}
+
+pub all_arrive : AllArrive
+all_arrive me sender pieces arrived readings follows none = record {
+  progress = progress_of sender readings;
+  complete = whole_arrive me sender pieces arrived readings follows none;
+  unbroken = λ offset breaks. (let broken : broken_at (progress_of sender readings) ≡ Some offset = (broken_breaks me sender offset pieces arrived readings follows).1 breaks in
+      let no : None ≡ Some offset = sym none ∙ broken in absurd (cc));
+}

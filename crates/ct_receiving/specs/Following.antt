@@ -57,3 +57,40 @@ BrokenBreaks =
     (me sender offset : ℕ) (pieces : List Parcel) (arrived : List Frame) (readings : List Reading)
     → Follows me pieces arrived readings
     → (broken_at (progress_of sender readings) ≡ Some offset) ↔ BreaksAt me sender (bytes_of sender pieces) offset
+
+-- ---- the first frames of all
+
+-- these frames are the first ones of those that the bytes complete
+pub record AreFirst (bytes : List ℕ) (frames : List Frame) : Type 0 where
+  pub left : List Frame
+  pub progress : Progress
+  pub complete : Completes (eaten start [] bytes) (frames ++ left) progress
+
+-- these frames are all that the bytes of a sender complete, and the bytes break no rule
+pub record AreWhole (me sender : ℕ) (bytes : List ℕ) (frames : List Frame) : Type 0 where
+  pub progress : Progress
+  pub complete : Completes (eaten start [] bytes) frames progress
+  pub unbroken : (offset : ℕ) → BreaksAt me sender bytes offset → ⊥
+
+-- what arrived of a sender are the first frames of those that all bytes of its pieces, joined, complete
+abbrev pub FirstArrive : Type 0
+FirstArrive =
+    (me sender : ℕ) (pieces : List Parcel) (arrived : List Frame) (readings : List Reading)
+    → Follows me pieces arrived readings
+    → AreFirst (bytes_of sender pieces) (frames_from sender arrived)
+
+-- they are still the first ones where more pieces have come
+abbrev pub FirstStay : Type 0
+FirstStay = (sender : ℕ) (pieces more : List Parcel) (frames : List Frame) → AreFirst (bytes_of sender pieces) frames → AreFirst (bytes_of sender (pieces ++ more)) frames
+
+-- so are those of them that arrived first
+abbrev pub FirstLead : Type 0
+FirstLead = (sender : ℕ) (bytes : List ℕ) (arrived late : List Frame) → AreFirst bytes (frames_from sender (arrived ++ late)) → AreFirst bytes (frames_from sender arrived)
+
+-- where the bytes of a sender have broken no rule, all has arrived
+abbrev pub AllArrive : Type 0
+AllArrive =
+    (me sender : ℕ) (pieces : List Parcel) (arrived : List Frame) (readings : List Reading)
+    → Follows me pieces arrived readings
+    → broken_at (progress_of sender readings) ≡ None
+    → AreWhole me sender (bytes_of sender pieces) (frames_from sender arrived)

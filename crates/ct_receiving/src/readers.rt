@@ -52,8 +52,7 @@ fn keep_ours(me: u32, sender: u32, frames: &mut Vec<Frame>) -> Option<u64>
     None
 }
 
-/// Reads the next piece, and then an empty one, at which a fault comes that stands behind frames. `Short` never comes in a
-/// stream.
+/// Reads the next piece, and asks then for the fault that stands behind its frames. `Short` never comes in a stream.
 fn read_on(alloc: Global, decoder: &mut Decoder, bytes: &[u8]) -> Result<Arrived, NoMemory>
     ensures reads { ReadsOn result decoder.old bytes.now decoder.new }
     ensures bytes { IsBytes bytes.now }
@@ -69,17 +68,17 @@ fn read_on(alloc: Global, decoder: &mut Decoder, bytes: &[u8]) -> Result<Arrived
         Err(WireFault::Short) => return Err(NoMemory),
         Err(WireFault::NoMemory) => return Err(NoMemory),
     };
-    match decoder.feed(alloc, &[]) {
-        Ok(_) => Ok(Arrived {
+    match decoder.fault() {
+        None => Ok(Arrived {
             frames,
             broken: None,
         }),
-        Err(WireFault::Malformed(offset)) => Ok(Arrived {
+        Some(WireFault::Malformed(offset)) => Ok(Arrived {
             frames,
             broken: Some(offset),
         }),
-        Err(WireFault::Short) => Err(NoMemory),
-        Err(WireFault::NoMemory) => Err(NoMemory),
+        Some(WireFault::Short) => Err(NoMemory),
+        Some(WireFault::NoMemory) => Err(NoMemory),
     }
 }
 
