@@ -1,2 +1,6 @@
 pub mod Going
+pub mod Hearing
+pub mod Noting
 pub mod Taking
+pub mod Telling
+pub mod Turning

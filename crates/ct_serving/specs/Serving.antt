@@ -109,7 +109,8 @@ fault_of core.NoMemory = fault.NoMemory
 abbrev pub IsRefused : Rules → Event → Journalled → Type 0
 IsRefused rules e x = stepped x.core.config rules x.core.pnn e x.core.node ≡ None
 
--- Serving: why it ends too early, where it leaves the node so. Want of memory alone needs no cause.
+-- Serving: why it ends too early, where it leaves the node so, by counts. Want of memory alone needs no cause, and that of bytes
+-- which are no frames is told by the pieces that were taken (AreForeign).
 unfoldable pub HasCause : Rules → ServeFault → Journalled → Counts → Counts → Type 0
 HasCause rules fault.Link x old new = Rose old.failed new.failed ⊎ Rose old.lock_failed new.lock_failed
 HasCause rules (fault.Foreign sender offset) x old new = Unit {0}

@@ -1,14 +1,21 @@
 //! A node takes the items of its script.
-ghost use Rattle.std.specs.Prelude.{◌≡◌, ◌+◌, ◌<◌, ◌^◌, true, List, Some, None, IfOk, OnOk, MatchBool, MatchOption, length};
+ghost use Rattle.std.specs.Prelude.{◌≡◌, ◌+◌, ◌<◌, ◌^◌, [], ℕ, true, List, Option, Some, None, IfErr, IfOk, OnOk, MatchBool, MatchOption, length};
 ghost use Rattle.ct_acting.specs.Acting.{MayAsk};
 ghost use Rattle.std.specs.List.{list_all};
+ghost use Rattle.std.specs.Result.{result_err};
 ghost use Rattle.ct_call.specs.Rules.{Rules};
 ghost use Rattle.ct_call.specs.Shown.{rules_of};
 ghost use Rattle.ct_cue.specs.Cues.{next_item};
 ghost use Rattle.ct_frame.specs.declared.plan.PlanItem.{PlanItem as Item};
 ghost use Rattle.ct_node.specs.Journalled.{Journalled, last_outs};
+ghost use Rattle.ct_outside.specs.Links.{Parcel, Pieces};
+ghost use Rattle.ct_outside.specs.Locks.{LockState};
+ghost use Rattle.ct_outside.specs.Told.{Told};
+ghost use Rattle.ct_parcels.specs.Parcels.{frames_sent};
 ghost use Rattle.ct_plan.specs.Sound.{may_be_told};
 ghost use Rattle.ct_sending.specs.Sending.{is_sendable};
+ghost use Rattle.ct_serving.specs.Hearing.{AreForeign};
+ghost use Rattle.ct_serving.specs.Outside.{NotesOne, HasNoTicket, SendsOnly, ServesOn, TakesTicket, heard, outside};
 ghost use Rattle.ct_serving.specs.Serving.{Acts, GoesOn, IsCaused, NoneFell, both, fault_of, of_link, of_lock};
 
 use crate::fault::ServeFault;
@@ -42,6 +49,9 @@ pub(crate) fn send_last<L: Link>(alloc: Global, node: &Node, link: &mut L) -> Re
     requires { list_all is_sendable (last_outs node.now.entries) ≡ true }
     ensures counts { NoneFell (of_link L.faults L.endings L.looks link.old) (of_link L.faults L.endings L.looks link.new) }
     ensures cause { (rules : Rules) → IsCaused rules result node.now (of_link L.faults L.endings L.looks link.old) (of_link L.faults L.endings L.looks link.new) }
+    ensures sent { Told (L.pieces link.old) (L.pieces link.new) (SendsOnly (result_err result) (frames_sent (last_outs node.now.entries))) }
+    ensures free { (rules : Rules) (lock : LockState) → HasNoTicket rules (result_err result) node.now lock }
+    ensures ours { (me : ℕ) (taken : List Parcel) → AreForeign (result_err result) me taken }
 {
     match send_all(alloc, link, node.last_outs()) {
         Ok(()) => Ok(()),
@@ -56,6 +66,8 @@ pub(crate) fn send_last<L: Link>(alloc: Global, node: &Node, link: &mut L) -> Re
 fn next_ticket<R: RecLock>(lock: &mut R, node: u32) -> Result<u64, ServeFault>
     ensures counts { NoneFell (of_lock R.faults R.refusals lock.old) (of_lock R.faults R.refusals lock.new) }
     ensures cause { (rules : Rules) (x : Journalled) → IsCaused rules result x (of_lock R.faults R.refusals lock.old) (of_lock R.faults R.refusals lock.new) }
+    ensures told { Told (R.state lock.old) (R.state lock.new) (TakesTicket result node) }
+    ensures ours { (me : ℕ) (taken : List Parcel) → AreForeign (result_err result) me taken }
 {
     match lock.take(node) {
         Ok(ticket) => Ok(ticket),
@@ -81,6 +93,9 @@ fn take<R: RecLock>(
     ensures sendable { OnOk result (list_all is_sendable (last_outs node.new.entries) ≡ true) }
     ensures counts { NoneFell (of_lock R.faults R.refusals lock.old) (of_lock R.faults R.refusals lock.new) }
     ensures cause { IsCaused (rules_of table.now) result node.new (of_lock R.faults R.refusals lock.old) (of_lock R.faults R.refusals lock.new) }
+    ensures noted { OnOk result (NotesOne [] node.old node.new (R.state lock.old) (R.state lock.new)) }
+    ensures stopped { (pieces : Option Pieces) → IfErr result (λ f. ServesOn (rules_of table.now) (Some f) (heard [] []) node.old node.new (outside pieces (R.state lock.old)) (outside pieces (R.state lock.new))) }
+    ensures ours { (me : ℕ) (taken : List Parcel) → AreForeign (result_err result) me taken }
 {
     match item {
         PlanItem::Call(op) => match op.copy() {
@@ -131,6 +146,8 @@ pub(crate) fn take_next<L: Link, R: RecLock>(
     ensures counts { NoneFell (both (of_link L.faults L.endings L.looks link.old) (of_lock R.faults R.refusals lock.old)) (both (of_link L.faults L.endings L.looks link.new) (of_lock R.faults R.refusals lock.new)) }
     ensures cause { IsCaused (rules_of table.now) result node.new (both (of_link L.faults L.endings L.looks link.old) (of_lock R.faults R.refusals lock.old)) (both (of_link L.faults L.endings L.looks link.new) (of_lock R.faults R.refusals lock.new)) }
     ensures taken { IfOk result (λ one. MatchBool one ((cue.old.taken < length script.now) × (cue.new.taken ≡ cue.old.taken + 1)) (next_item script.now cue.new ≡ None)) }
+    ensures outside { ServesOn (rules_of table.now) (result_err result) (heard [] []) node.old node.new (outside (L.pieces link.old) (R.state lock.old)) (outside (L.pieces link.new) (R.state lock.new)) }
+    ensures ours { (me : ℕ) (taken : List Parcel) → AreForeign (result_err result) me taken }
 {
     let Some(item) = next_of(cue, script) else {
         return Ok(false);

@@ -1,10 +1,14 @@
 //! A node takes the pieces that come over its link.
-ghost use Rattle.std.specs.Prelude.{◌≡◌, true, List};
+ghost use Rattle.std.specs.Prelude.{◌≡◌, ◌∷◌, [], ℕ, true, List};
 ghost use Rattle.std.specs.List.{list_all};
+ghost use Rattle.std.specs.Result.{result_err};
 ghost use Rattle.ct_call.specs.Shown.{rules_of};
 ghost use Rattle.ct_frame.specs.Fields.{well_formed};
 ghost use Rattle.ct_frame.specs.declared.plan.PlanItem.{PlanItem as Item};
+ghost use Rattle.ct_outside.specs.Links.{Parcel, parcel};
 ghost use Rattle.ct_receiving.specs.Reading.{is_sound};
+ghost use Rattle.ct_serving.specs.Hearing.{AreForeign, ServesPiece};
+ghost use Rattle.ct_serving.specs.Outside.{ServesFrames};
 ghost use Rattle.ct_serving.specs.Serving.{GoesOn, IsCaused, NoneFell, of_link};
 
 use crate::fault::ServeFault;
@@ -33,6 +37,8 @@ fn take_frame<L: Link>(
     ensures goes_on { (script : List Item) → GoesOn (rules_of table.now) script node.old cue.old node.new cue.new }
     ensures counts { NoneFell (of_link L.faults L.endings L.looks link.old) (of_link L.faults L.endings L.looks link.new) }
     ensures cause { IsCaused (rules_of table.now) result node.new (of_link L.faults L.endings L.looks link.old) (of_link L.faults L.endings L.looks link.new) }
+    ensures outside { ServesFrames (rules_of table.now) (result_err result) (frame ∷ []) node.old node.new (L.pieces link.old) (L.pieces link.new) }
+    ensures ours { (me : ℕ) (taken : List Parcel) → AreForeign (result_err result) me taken }
 {
     match arrive(node, table, cue, frame) {
         Ok(()) => send_last(alloc, node, link),
@@ -55,6 +61,8 @@ fn take_frames<L: Link>(
     ensures goes_on { (script : List Item) → GoesOn (rules_of table.now) script node.old cue.old node.new cue.new }
     ensures counts { NoneFell (of_link L.faults L.endings L.looks link.old) (of_link L.faults L.endings L.looks link.new) }
     ensures cause { IsCaused (rules_of table.now) result node.new (of_link L.faults L.endings L.looks link.old) (of_link L.faults L.endings L.looks link.new) }
+    ensures outside { ServesFrames (rules_of table.now) (result_err result) frames.items node.old node.new (L.pieces link.old) (L.pieces link.new) }
+    ensures ours { (me : ℕ) (taken : List Parcel) → AreForeign (result_err result) me taken }
 {
     for frame in frames {
         match take_frame(alloc, node, table, cue, link, frame) {
@@ -79,6 +87,7 @@ pub(crate) fn take_piece<L: Link>(
     ensures goes_on { (script : List Item) → GoesOn (rules_of table.now) script node.old cue.old node.new cue.new }
     ensures counts { NoneFell (of_link L.faults L.endings L.looks link.old) (of_link L.faults L.endings L.looks link.new) }
     ensures cause { IsCaused (rules_of table.now) result node.new (of_link L.faults L.endings L.looks link.old) (of_link L.faults L.endings L.looks link.new) }
+    ensures outside { ServesPiece (rules_of table.now) (result_err result) (parcel sender bytes.now) node.old node.new (L.pieces link.old) (L.pieces link.new) readers.old readers.new }
 {
     let Ok(Arrived { frames, broken }) = readers.take(alloc, node.core().pnn(), sender, bytes)
     else {

@@ -1,14 +1,20 @@
 //! A node serves.
-ghost use Rattle.std.specs.Prelude.{◌≡◌, true, None, Ok, IfOk, IsTrue, OnOk, MatchBool, length};
+ghost use Rattle.std.specs.Prelude.{◌≡◌, [], ℕ, true, List, None, Ok, IfOk, IsTrue, OnOk, MatchBool, length};
 ghost use Rattle.std.specs.List.{list_all};
+ghost use Rattle.std.specs.Result.{result_err};
 ghost use Rattle.ct_call.specs.Shown.{rules_of};
 ghost use Rattle.ct_cue.specs.Cues.{next_item};
 ghost use Rattle.ct_call.specs.Rules.{Rules};
 ghost use Rattle.ct_node.specs.Journalled.{IsRunBy, Journalled};
 ghost use Rattle.ct_outside.specs.Causes.{Rose};
+ghost use Rattle.ct_outside.specs.Links.{Parcel};
+ghost use Rattle.ct_outside.specs.Locks.{LockState};
+ghost use Rattle.ct_outside.specs.Told.{Told};
 ghost use Rattle.ct_outside.specs.declared.link.Received.TheVariants as received;
 ghost use Rattle.ct_plan.specs.Sound.{may_be_told};
 ghost use Rattle.ct_serving.specs.declared.fault.Until.TheVariants as until;
+ghost use Rattle.ct_serving.specs.Hearing.{AreForeign, Serves, ServesTurn};
+ghost use Rattle.ct_serving.specs.Outside.{HasNoTicket, ServesOn, TakesOnly, heard, outside, taken_in};
 ghost use Rattle.ct_serving.specs.Serving.{Acts, EndsBy, GoesOn, HasActed, IsCaused, NoneFell, Turned, both, is_full, most_turns, of_link, of_lock};
 
 use crate::fault::{ServeFault, Served, Until};
@@ -42,6 +48,9 @@ fn look<L: Link>(link: &mut L, may_wait: bool) -> Result<Received, ServeFault>
     ensures cause { (rules : Rules) (x : Journalled) → IsCaused rules result x (of_link L.faults L.endings L.looks link.old) (of_link L.faults L.endings L.looks link.new) }
     ensures looked { OnOk result (Rose (L.looks link.old) (L.looks link.new)) }
     ensures closed { result ≡ Ok received.Closed → IsTrue may_wait × Rose (L.endings link.old) (L.endings link.new) }
+    ensures pieces { Told (L.pieces link.old) (L.pieces link.new) (TakesOnly (taken_in result)) }
+    ensures free { (rules : Rules) (x : Journalled) (lock : LockState) → HasNoTicket rules (result_err result) x lock }
+    ensures ours { (me : ℕ) (taken : List Parcel) → AreForeign (result_err result) me taken }
 {
     match link.receive(may_wait) {
         Ok(received) => Ok(received),
@@ -70,6 +79,7 @@ fn turn<L: Link, R: RecLock, G: Gate>(
     ensures counts { NoneFell (both (of_link L.faults L.endings L.looks link.old) (of_lock R.faults R.refusals lock.old)) (both (of_link L.faults L.endings L.looks link.new) (of_lock R.faults R.refusals lock.new)) }
     ensures cause { IsCaused (rules_of table.now) result node.new (both (of_link L.faults L.endings L.looks link.old) (of_lock R.faults R.refusals lock.old)) (both (of_link L.faults L.endings L.looks link.new) (of_lock R.faults R.refusals lock.new)) }
     ensures turned { IfOk result (λ closed. Turned closed (of_link L.faults L.endings L.looks link.old) (of_link L.faults L.endings L.looks link.new) (next_item script.now cue.new)) }
+    ensures outside { ServesTurn (rules_of table.now) (result_err result) node.old node.new (outside (L.pieces link.old) (R.state lock.old)) (outside (L.pieces link.new) (R.state lock.new)) readers.old readers.new }
 {
     gate.pass(node.core().pnn(), number);
     let waits = may_wait(cue, script);
@@ -114,6 +124,8 @@ fn take_rest<L: Link, R: RecLock>(
     ensures counts { NoneFell (both (of_link L.faults L.endings L.looks link.old) (of_lock R.faults R.refusals lock.old)) (both (of_link L.faults L.endings L.looks link.new) (of_lock R.faults R.refusals lock.new)) }
     ensures cause { IsCaused (rules_of table.now) result node.new (both (of_link L.faults L.endings L.looks link.old) (of_lock R.faults R.refusals lock.old)) (both (of_link L.faults L.endings L.looks link.new) (of_lock R.faults R.refusals lock.new)) }
     ensures rest { OnOk result (next_item script.now cue.new ≡ None) }
+    ensures outside { ServesOn (rules_of table.now) (result_err result) (heard [] []) node.old node.new (outside (L.pieces link.old) (R.state lock.old)) (outside (L.pieces link.new) (R.state lock.new)) }
+    ensures ours { (me : ℕ) (taken : List Parcel) → AreForeign (result_err result) me taken }
 {
     'items: loop {
         match take_next(alloc, node, table, cue, script, link, lock) {
@@ -152,6 +164,9 @@ fn is_full(until: Until, node: &Node) -> bool
 ///
 /// An item can be taken where each call that was taken before is answered. A round is led in the generation of the ticket of
 /// one take of the lock.
+///
+/// Where the lock and the link tell what they give, the tickets of the new rounds are those that follow the last one, the pieces
+/// of all that the new entries send were sent, and by sender the frames that arrived are all that the pieces taken complete.
 pub fn serve_until<L: Link, R: RecLock, G: Gate>(
     alloc: Global,
     node: &mut Node,
@@ -169,6 +184,7 @@ pub fn serve_until<L: Link, R: RecLock, G: Gate>(
     ensures counts { NoneFell (both (of_link L.faults L.endings L.looks link.old) (of_lock R.faults R.refusals lock.old)) (both (of_link L.faults L.endings L.looks link.new) (of_lock R.faults R.refusals lock.new)) }
     ensures cause { IsCaused (rules_of table.now) result node.new (both (of_link L.faults L.endings L.looks link.old) (of_lock R.faults R.refusals lock.old)) (both (of_link L.faults L.endings L.looks link.new) (of_lock R.faults R.refusals lock.new)) }
     ensures ends { IfOk result (λ served. EndsBy until served (of_link L.faults L.endings L.looks link.old) (of_link L.faults L.endings L.looks link.new)) }
+    ensures outside { Serves (rules_of table.now) (result_err result) node.old node.new (outside (L.pieces link.old) (R.state lock.old)) (outside (L.pieces link.new) (R.state lock.new)) }
 {
     let mut cue = Cue::first(node.entries());
     let mut readers = Readers::new(alloc);
@@ -216,6 +232,7 @@ pub fn serve<L: Link, R: RecLock, G: Gate>(
     ensures counts { NoneFell (both (of_link L.faults L.endings L.looks link.old) (of_lock R.faults R.refusals lock.old)) (both (of_link L.faults L.endings L.looks link.new) (of_lock R.faults R.refusals lock.new)) }
     ensures cause { IsCaused (rules_of table.now) result node.new (both (of_link L.faults L.endings L.looks link.old) (of_lock R.faults R.refusals lock.old)) (both (of_link L.faults L.endings L.looks link.new) (of_lock R.faults R.refusals lock.new)) }
     ensures ends { IfOk result (λ served. EndsBy (until.Turns turns) served (of_link L.faults L.endings L.looks link.old) (of_link L.faults L.endings L.looks link.new)) }
+    ensures outside { Serves (rules_of table.now) (result_err result) node.old node.new (outside (L.pieces link.old) (R.state lock.old)) (outside (L.pieces link.new) (R.state lock.new)) }
 {
     serve_until(
         alloc,

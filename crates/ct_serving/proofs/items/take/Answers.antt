@@ -1,9 +1,13 @@
-use Rattle.std.proofs.Common.{◌≡◌, ◌+◌, Ok}
+use Rattle.std.proofs.Common.{◌≡◌, ◌+◌, Ok, ◌∙◌, None, Some, ap, sym}
 use Rattle.ct_call.specs.Shown.{rules_of}
 use Rattle.ct_frame.specs.declared.event.Event.TheVariants as event
 use Rattle.ct_node.specs.Journalled.{last_outs}
 use Rattle.ct_serving.specs.Serving.{HasCause, of_lock}
 use Rattle.ct_serving.proofs.Taking.{call_allowed, call_goes, call_taken, cause_of, round_goes, round_taken, round_told, sendable}
+use Rattle.ct_core.specs.Core.{Core}
+use Rattle.ct_serving.specs.declared.fault.ServeFault.TheVariants as fault
+use Rattle.ct_serving.proofs.Noting.{call_noted, lock_same, no_ticket, round_noted, step_ours, step_refused, ticket_lost}
+use Rattle.ct_serving.proofs.Telling.{serves_same}
 use Rattle.ct_serving.proofs.items.take.Goals as goal
 
 pub take_call-requires-clause-allowed : goal.take_call-requires-clause-allowed
@@ -52,3 +56,43 @@ returns-in-Err-take_round-clause-cause g c =
 pub returns-in-Err-duplicate-clause-cause : goal.returns-in-Err-duplicate-clause-cause
 unfolding HasCause
 returns-in-Err-duplicate-clause-cause g c = tt
+
+pub returns-in-Ok-take_call-clause-noted : goal.returns-in-Ok-take_call-clause-noted
+returns-in-Ok-take_call-clause-noted g c =
+    call_noted (rules_of c.args.table.now) c.in-Ok-take_call.field-0 (c.args.cue.now.calls + 1) c.in-Ok.op c.args.node.now c.take_call.new.node (g.R.RecLock.state c.args.lock.now) c.in-Ok-take_call.ensures.fed
+
+pub returns-in-Err-take_call-clause-stopped : goal.returns-in-Err-take_call-clause-stopped
+returns-in-Err-take_call-clause-stopped g c = λ pieces.
+    let s = g.R.RecLock.state c.args.lock.now in
+    step_refused (rules_of c.args.table.now) c.in-Err-take_call.fault c.fault_of.result (event.Client (c.args.cue.now.calls + 1) c.in-Ok.op) c.args.node.now c.take_call.new.node pieces s s
+    c.fault_of.ensures c.in-Err-take_call.ensures.fed (lock_same c.fault_of.result s)
+
+pub returns-in-Err-take_call-clause-ours : goal.returns-in-Err-take_call-clause-ours
+returns-in-Err-take_call-clause-ours g c = λ me taken. step_ours c.in-Err-take_call.fault c.fault_of.result me taken c.fault_of.ensures
+
+pub returns-in-Err-clause-stopped : goal.returns-in-Err-clause-stopped
+returns-in-Err-clause-stopped g c = λ pieces. serves_same (rules_of c.args.table.now) (Some fault.NoMemory) c.args.node.now pieces (g.R.RecLock.state c.args.lock.now) (λ t. tt)
+
+pub returns-in-Ok-take_round-clause-noted : goal.returns-in-Ok-take_round-clause-noted
+returns-in-Ok-take_round-clause-noted g c =
+    round_noted (rules_of c.args.table.now) c.in-Ok-take_round.field-0 c.in-Ok-next_ticket.ticket c.pnn.result c.in-Ok-duplicate.members c.args.node.now c.take_round.new.node
+    (g.R.RecLock.state c.args.lock.now) (g.R.RecLock.state c.next_ticket.new.lock) c.in-Ok-take_round.ensures.fed c.in-Ok-next_ticket.ensures.told
+
+pub returns-in-Err-take_round-clause-stopped : goal.returns-in-Err-take_round-clause-stopped
+returns-in-Err-take_round-clause-stopped g c = λ pieces.
+    let s = g.R.RecLock.state c.args.lock.now in
+    let t = g.R.RecLock.state c.next_ticket.new.lock in
+    step_refused (rules_of c.args.table.now) c.in-Err-take_round.fault c.fault_of-in-Err-take_round.result (event.BeginRound c.in-Ok-next_ticket.ticket c.in-Ok-duplicate.members) c.args.node.now c.take_round.new.node
+    pieces s t c.fault_of-in-Err-take_round.ensures c.in-Err-take_round.ensures.fed
+    (ticket_lost c.fault_of-in-Err-take_round.result c.in-Ok-next_ticket.ticket c.pnn.result s t c.in-Ok-next_ticket.ensures.told)
+
+pub returns-in-Err-take_round-clause-ours : goal.returns-in-Err-take_round-clause-ours
+returns-in-Err-take_round-clause-ours g c = λ me taken. step_ours c.in-Err-take_round.fault c.fault_of-in-Err-take_round.result me taken c.fault_of-in-Err-take_round.ensures
+
+pub returns-in-Err-next_ticket-clause-stopped : goal.returns-in-Err-next_ticket-clause-stopped
+returns-in-Err-next_ticket-clause-stopped g c = λ pieces.
+    no_ticket (rules_of c.args.table.now) c.in-Err-next_ticket.fault c.pnn.result c.args.node.now pieces (g.R.RecLock.state c.args.lock.now) (g.R.RecLock.state c.next_ticket.new.lock)
+    (sym (c.pnn.ensures ∙ ap (λ (k : Core). k.pnn) c.core.ensures)) c.in-Err-next_ticket.ensures.told
+
+pub returns-in-Err-duplicate-clause-stopped : goal.returns-in-Err-duplicate-clause-stopped
+returns-in-Err-duplicate-clause-stopped g c = λ pieces. serves_same (rules_of c.args.table.now) (Some fault.NoMemory) c.args.node.now pieces (g.R.RecLock.state c.args.lock.now) (λ t. tt)

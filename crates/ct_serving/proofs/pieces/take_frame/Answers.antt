@@ -4,6 +4,8 @@ use Rattle.ct_frame.specs.declared.event.Event.TheVariants as event
 use Rattle.ct_node.specs.Journalled.{last_outs}
 use Rattle.ct_serving.specs.Serving.{of_link}
 use Rattle.ct_serving.proofs.Taking.{arrival_goes, cause_of, sendable}
+use Rattle.std.specs.Result.{result_err}
+use Rattle.ct_serving.proofs.Noting.{frame_refused, frame_served, step_ours}
 use Rattle.ct_serving.proofs.pieces.take_frame.Goals as goal
 
 pub send_last-requires : goal.send_last-requires
@@ -17,3 +19,15 @@ pub returns-in-Err-clause-cause : goal.returns-in-Err-clause-cause
 returns-in-Err-clause-cause g c =
     let k = of_link g.L.Link.faults g.L.Link.endings g.L.Link.looks c.args.link.now in
     cause_of (rules_of c.args.table.now) c.fault_of.result c.in-Err.fault (event.Arrive c.args.frame) c.args.node.now c.arrive.new.node k k c.fault_of.ensures c.in-Err.ensures.fed
+
+pub returns-in-Ok-clause-outside : goal.returns-in-Ok-clause-outside
+returns-in-Ok-clause-outside g c =
+    frame_served (rules_of c.args.table.now) (result_err c.send_last.result) c.in-Ok.field-0 c.args.frame c.args.node.now c.arrive.new.node (g.L.Link.pieces c.args.link.now) (g.L.Link.pieces c.send_last.new.link)
+    c.in-Ok.ensures.fed c.send_last.ensures.sent (λ lock. c.send_last.ensures.free (rules_of c.args.table.now) lock)
+
+pub returns-in-Err-clause-outside : goal.returns-in-Err-clause-outside
+returns-in-Err-clause-outside g c =
+    frame_refused (rules_of c.args.table.now) c.in-Err.fault c.fault_of.result c.args.frame c.args.node.now c.arrive.new.node (g.L.Link.pieces c.args.link.now) c.fault_of.ensures c.in-Err.ensures.fed
+
+pub returns-in-Err-clause-ours : goal.returns-in-Err-clause-ours
+returns-in-Err-clause-ours g c = λ me taken. step_ours c.in-Err.fault c.fault_of.result me taken c.fault_of.ensures

@@ -4,6 +4,7 @@ use Rattle.ct_call.specs.Shown.{rules_of}
 use Rattle.ct_frame.specs.declared.plan.PlanItem.{PlanItem as Item}
 use Rattle.ct_receiving.specs.Reading.{is_sound}
 use Rattle.ct_serving.specs.Serving.{GoesOn, NoneFell, of_link}
+use Rattle.ct_serving.proofs.Telling.{FramesServed}
 use Rattle.ct_serving.proofs.pieces.take_frames.Given as goal
 
 -- the node goes on, and what is left is for it
@@ -17,4 +18,5 @@ invariant-loop-frame g l =
       pnn : l.node.core.pnn ≡ l.initial.node.core.pnn;
       sound : list_all (is_sound l.initial.node.core.pnn l.initial.sender) l.frame-iterator.rest.items ≡ true;
       counts : NoneFell (link l.initial.link) (link l.link);
+      served : FramesServed (rules_of l.initial.table) l.initial.frame-iterator.rest.items l.frame-iterator.rest.items l.initial.node l.node (g.L.Link.pieces l.initial.link) (g.L.Link.pieces l.link);
     }

@@ -1,6 +1,8 @@
 use Rattle.std.proofs.Common.{◌-◌, ◌≤◌}
 use Rattle.ct_call.specs.Shown.{rules_of}
+use Rattle.ct_serving.specs.Outside.{outside}
 use Rattle.ct_serving.specs.Serving.{GoesOn, NoneFell, RoseBy, both, of_link, of_lock}
+use Rattle.ct_serving.proofs.Turning.{IsServing}
 use Rattle.ct_serving.proofs.serve.serve_until.Given as goal
 
 -- the node goes on, and so many looks were answered
@@ -13,6 +15,7 @@ invariant-loop-number g l =
       counts : NoneFell (both (link l.initial.link) (lock l.initial.lock)) (both (link l.link) (lock l.lock));
       looked : RoseBy l.number (g.L.Link.looks l.initial.link) (g.L.Link.looks l.link);
       within : l.number ≤ l.most;
+      serving : IsServing (rules_of l.initial.table) l.initial.node l.node (outside (g.L.Link.pieces l.initial.link) (g.R.RecLock.state l.initial.lock)) (outside (g.L.Link.pieces l.link) (g.R.RecLock.state l.lock)) l.readers;
     }
 
 abbrev pub decreases-loop-number : goal.decreases-loop-number
