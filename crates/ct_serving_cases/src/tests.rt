@@ -1,12 +1,13 @@
 //! A node alone serves over a link in memory, with ample memory.
-ghost use Rattle.std.specs.Prelude.{◌≡◌, ℕ, true, IfOk};
+ghost use Rattle.std.specs.Prelude.{◌≡◌, ◌∷◌, [], true, IfOk};
 ghost use Rattle.std.specs.List.{list_all};
 ghost use Rattle.ct_call.specs.Rules.{Rules};
-ghost use Rattle.ct_msg.specs.declared.config.Config.{Config as Told};
-ghost use Rattle.ct_node.specs.Journalled.{IsRunBy};
+ghost use Rattle.ct_node.specs.Journalled.{IsRunBy, at_opening};
 ghost use Rattle.ct_node_form.specs.Whole.{HasLimits};
 ghost use Rattle.ct_plan.specs.Sound.{may_be_told};
+ghost use Rattle.ct_serving_cases.specs.Alone.{MayBeToldAlone};
 
+use ct_bytes::items::Items;
 use ct_bytes::key::Key;
 use ct_bytes::name::DbName;
 use ct_bytes::value::Value;
@@ -39,7 +40,7 @@ fn config(alloc: Global) -> Result<Config, Fail>
 /// The client writes, and then reads.
 #[tactic(auto, unfolding(ct_plan::specs::Sound::may_be_told, ct_rules_node::specs::Coming::is_allowed_op))]
 fn script(alloc: Global) -> Result<Vec<PlanItem>, Fail>
-    ensures told { IfOk result (λ v. (c : Told) (n : ℕ) → list_all (may_be_told c n) v.items ≡ true) }
+    ensures told { IfOk result (λ v. MayBeToldAlone v.items) }
 {
     let mut items = Vec::new(alloc);
     items.push(PlanItem::Call(ClientOp::Write {
@@ -54,11 +55,32 @@ fn script(alloc: Global) -> Result<Vec<PlanItem>, Fail>
     Ok(items)
 }
 
+/// A round of the node alone.
+#[tactic(auto, using(crate::proofs::Telling::round_told))]
+fn round(alloc: Global) -> Result<PlanItem, Fail>
+    ensures { IfOk result (λ item. MayBeToldAlone (item ∷ [])) }
+{
+    Ok(PlanItem::Round(Items::new(Vec::from_slice(alloc, &[0])?)))
+}
+
+/// The node leads so many rounds.
+#[tactic(auto, using(crate::proofs::Telling::none_told, crate::proofs::Telling::one_more_told))]
+fn rounds(alloc: Global, count: usize) -> Result<Vec<PlanItem>, Fail>
+    ensures told { IfOk result (λ v. MayBeToldAlone v.items) }
+{
+    let mut items = Vec::new(alloc);
+    'rounds: for _ in 0..count {
+        items.push(round(alloc)?)?;
+    }
+    Ok(items)
+}
+
 /// The node of this cluster, at its opening.
 fn node(alloc: Global, config: &Config) -> Result<Node, Fail>
     requires limits { HasLimits config.now }
     requires one { config.now.nodes ≡ 1 }
-    ensures { IfOk result (λ x. (rules : Rules) → IsRunBy rules x) }
+    ensures opening { IfOk result (λ x. x ≡ at_opening 0 config.now) }
+    ensures run { IfOk result (λ x. (rules : Rules) → IsRunBy rules x) }
 {
     let node = Node::new(alloc, 0, config)?;
     Ok(node)
@@ -73,7 +95,7 @@ fn serve_alone(
     fails: u64,
 ) -> Result<Result<Served, ServeFault>, Fail>
     requires run { (rules : Rules) → IsRunBy rules node.old }
-    requires told { (c : Told) (n : ℕ) → list_all (may_be_told c n) script.now ≡ true }
+    requires told { list_all (may_be_told node.old.core.config node.old.core.pnn) script.now ≡ true }
 {
     let table = CallTable::new(alloc);
     let mut link = MemLink::new(alloc, Vec::new(alloc), Vec::from_slice(alloc, &[fails])?);
@@ -107,7 +129,7 @@ fn serves_so(
 ) -> Result<bool, Fail>
     requires limits { HasLimits config.now }
     requires one { config.now.nodes ≡ 1 }
-    requires told { (c : Told) (n : ℕ) → list_all (may_be_told c n) script.now ≡ true }
+    requires told { MayBeToldAlone script.now }
 {
     let mut node = node(alloc, config)?;
     let served = serve_alone(alloc, &mut node, script, turns, fails)?;
@@ -115,13 +137,10 @@ fn serves_so(
 }
 
 // How many turns the node has, which call of its link fails, what it answers, and how many entries its journal has.
-const TABLE: [(u64, u64, Result<Served, ServeFault>, usize); 6] = [
+const TABLE: [(u64, u64, Result<Served, ServeFault>, usize); 3] = [
     (0, 9, Ok(Served::Budget), 2),
     (2, 9, Ok(Served::Budget), 2),
     (3, 9, Ok(Served::Closed), 2),
-    (3, 1, Err(ServeFault::Link), 0),
-    (3, 2, Err(ServeFault::Link), 1),
-    (3, 3, Err(ServeFault::Link), 2),
 ];
 
 #[test]
@@ -140,6 +159,24 @@ fn a_node_serves(rt: HostRuntime) -> Result<(), Fail> {
                 want,
                 entries
             )?
+        );
+    }
+    Ok(())
+}
+
+// The node looks, takes a round and sends its one frame, and so on: each call in turn fails, a look or a send. Each round that
+// was taken before has its entry, also the one whose frame is not sent.
+#[test]
+fn each_call_of_a_link_fails(rt: HostRuntime) -> Result<(), Fail> {
+    let alloc = rt.alloc();
+    let config = config(alloc)?;
+    let script = rounds(alloc, 10)?;
+    for fails in 1..=20u64 {
+        let entries = fails as usize / 2;
+        let want = Err(ServeFault::Link);
+        assert!(rt;
+            serves_so(alloc, &config, script.as_slice(), 11, fails, want, entries)?,
+            "call {fails}"
         );
     }
     Ok(())

@@ -4,5 +4,8 @@ use Rattle.ct_serving_cases.proofs.tests.node.Goals as goal
 pub new-requires-clause-node : goal.new-requires-clause-node
 new-requires-clause-node c = omega (arith, c.requires.one)
 
-pub returns : goal.returns
-returns c = c.in_ok-node.ensures.run
+pub returns-clause-opening : goal.returns-clause-opening
+returns-clause-opening c = c.in_ok-node.ensures.at_opening
+
+pub returns-clause-run : goal.returns-clause-run
+returns-clause-run c = c.in_ok-node.ensures.run

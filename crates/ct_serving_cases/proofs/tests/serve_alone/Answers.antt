@@ -2,6 +2,3 @@ use Rattle.ct_serving_cases.proofs.tests.serve_alone.Goals as goal
 
 pub serve-served-requires-clause-run : goal.serve-served-requires-clause-run
 serve-served-requires-clause-run c = c.requires.run _
-
-pub serve-served-requires-clause-told : goal.serve-served-requires-clause-told
-serve-served-requires-clause-told c = c.requires.told _ _
