@@ -54,6 +54,17 @@ quiet_with Gone pieces = true
 abbrev pub is_quiet : Mailbox → Bool
 is_quiet b = quiet_with b.mark b.pieces
 
+-- does a node with this mark wait, with no pieces?
+abbrev pub asleep_with : Mark → List Parcel → Bool
+asleep_with Awake pieces = false
+asleep_with Waiting pieces = is_nil pieces
+asleep_with Gone pieces = false
+
+-- did the node of this box, if there is one, find nothing when it last looked, and was nothing put since?
+abbrev pub is_asleep : Option Mailbox → Bool
+is_asleep None = false
+is_asleep (Some b) = asleep_with b.mark b.pieces
+
 -- will nothing be put any more? No node is awake, and none that waits has a piece left
 abbrev pub all_quiet : List Mailbox → Bool
 all_quiet boxes = list_all is_quiet boxes

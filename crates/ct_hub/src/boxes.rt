@@ -1,7 +1,7 @@
 //! A box of pieces for each node.
 ghost use Rattle.std.specs.Prelude.{◌≡◌, ◌<◌, ℕ, List, [], ◌∷◌, IfOk, OnOk, OnErr, MatchOption, length, slice_get, slice_set, Some, IsTrue, ◌↔◌};
 ghost use Rattle.ct_outside.specs.Links.{parcel};
-ghost use Rattle.ct_hub.specs.Boxes.{fresh_box, fresh_boxes, all_quiet, answer_to, box_after, boxes_after, found, is_quiet, marked, marked_at, put_in, with_piece};
+ghost use Rattle.ct_hub.specs.Boxes.{fresh_box, fresh_boxes, all_quiet, answer_to, asleep_with, box_after, boxes_after, found, is_asleep, is_quiet, marked, marked_at, put_in, with_piece};
 ghost use Rattle.ct_hub.specs.declared.boxes.Mark.TheVariants.{Awake, Gone};
 
 use ct_bytes::items::Items;
@@ -95,6 +95,12 @@ impl Slot {
         self.mark = mark;
     }
 
+    fn is_asleep(&self) -> bool
+        ensures { result ≡ asleep_with self.now.mark self.now.pieces }
+    {
+        matches!(self.mark, Mark::Waiting) && self.pieces.is_empty()
+    }
+
     fn is_quiet(&self) -> bool
         ensures { result ≡ is_quiet self.now }
     {
@@ -145,6 +151,16 @@ impl Boxes {
         ensures { IsTrue result ↔ (node < length self.now) }
     {
         (node as usize) < self.slots.len()
+    }
+
+    /// Does the node wait, with nothing in its box? It is to be rung for once something is put.
+    pub fn is_asleep(&self, node: u32) -> bool
+        ensures { result ≡ is_asleep (slice_get self.now node) }
+    {
+        match self.slots.get(node as usize) {
+            Some(slot) => slot.is_asleep(),
+            None => false,
+        }
     }
 
     /// Puts a piece into the receiver's box. A piece for a node with no box is dropped. Without memory nothing is put.

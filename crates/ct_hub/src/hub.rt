@@ -15,14 +15,14 @@ use std::alloc::Global;
 use std::marker::Model;
 use std::sync::{Condvar, Mutex, Wait};
 
-/// Boxes behind a lock of threads, and a bell that is rung where a thread may find more than before.
+/// Boxes behind a lock of threads, and for each node a bell that is rung where the node may find more than before.
 #[derive(Drop)]
 pub struct Hub<R> {
     rt: R,
     alloc: Global,
     nodes: u32,
     boxes: Mutex<Boxes>,
-    bell: Condvar,
+    bells: Vec<Condvar>,
 }
 
 impl<R> Model for Hub<R> {
@@ -39,17 +39,46 @@ impl<R: Drop> Hub<R> {
         ensures { IfOk result (λ hub. hub ≡ nodes) }
     {
         let boxes = Boxes::new(alloc, nodes)?;
+        let mut bells = Vec::new(alloc);
+        for _ in 0..nodes {
+            bells.push(Condvar::new())?;
+        }
         Ok(Hub {
             rt,
             alloc,
             nodes,
             boxes: Mutex::new(boxes),
-            bell: Condvar::new(),
+            bells,
         })
     }
 }
 
+impl<R> Hub<R> {
+    /// Rings the bell of a node.
+    fn ring(&self, node: u32) {
+        if let Some(bell) = self.bells.get(node as usize) {
+            bell.notify_all();
+        }
+    }
+
+    /// Rings the bells of all nodes.
+    fn ring_all(&self) {
+        for bell in self.bells.as_slice() {
+            bell.notify_all();
+        }
+    }
+}
+
 impl<R: Wait> Hub<R> {
+    /// Puts the piece into the receiver's box, under one hold of the lock. Is the receiver to be rung for? Where it waits and
+    /// its box was not empty, the node that put the first piece rings.
+    fn put(&self, sender: u32, receiver: u32, piece: Vec<u8>) -> Result<bool, NoMemory> {
+        let mut boxes = self.boxes.lock(&self.rt);
+        let asleep = boxes.is_asleep(receiver);
+        boxes.put(sender, receiver, piece)?;
+        Ok(asleep)
+    }
+
     /// A node's link. The node leaves with it.
     pub fn link(&self, node: u32) -> HubLink<'_, R>
         requires { node < self.now }
@@ -109,7 +138,19 @@ impl<'a, R: Wait> Drop for HubLink<'a, R> {
         if boxes.has(node) {
             boxes.leave(node);
         }
-        hub.bell.notify_all();
+        hub.ring_all();
+    }
+}
+
+// What a node finds that has no box: nothing, and nothing will come. Every link has a box.
+fn no_box(may_wait: bool) -> Received
+    ensures waits { IsTrue may_wait → result ≢ received.Nothing }
+    ensures permitted { result ≡ received.Closed → IsTrue may_wait }
+{
+    if may_wait {
+        Received::Closed
+    } else {
+        Received::Nothing
     }
 }
 
@@ -118,6 +159,9 @@ fn find<R: Wait>(hub: &Hub<R>, node: u32, may_wait: bool) -> Received
     ensures waits { IsTrue may_wait → result ≢ received.Nothing }
     ensures permitted { result ≡ received.Closed → IsTrue may_wait }
 {
+    let Some(bell) = hub.bells.get(node as usize) else {
+        return no_box(may_wait);
+    };
     let mut boxes = hub.boxes.lock(&hub.rt);
     for _ in hub.rt.forever() {
         match look(&mut boxes, node, may_wait) {
@@ -129,10 +173,10 @@ fn find<R: Wait>(hub: &Hub<R>, node: u32, may_wait: bool) -> Received
             }
             Taken::Nothing => return Received::Nothing,
             Taken::Closed => {
-                hub.bell.notify_all();
+                hub.ring_all();
                 return Received::Closed;
             }
-            Taken::Wait => boxes = hub.bell.wait(&hub.rt, boxes),
+            Taken::Wait => boxes = bell.wait(&hub.rt, boxes),
         }
     }
     unreachable!()
@@ -156,11 +200,11 @@ impl<'a, R: Wait> Link for HubLink<'a, R> {
     {
         let hub = self.hub;
         let piece = Vec::from_slice(hub.alloc, bytes)?;
-        let put = hub.boxes.lock(&hub.rt).put(self.node, to, piece);
-        if put.is_err() {
-            return Err(LinkFault::NoMemory);
+        match hub.put(self.node, to, piece) {
+            Ok(true) => hub.ring(to),
+            Ok(false) => {}
+            Err(NoMemory) => return Err(LinkFault::NoMemory),
         }
-        hub.bell.notify_all();
         Ok(())
     }
 

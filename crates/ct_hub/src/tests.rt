@@ -35,6 +35,7 @@ enum Call {
     Wait(u32),
     Closed(u32),
     Leave(u32),
+    Asleep(u32, bool),
 }
 
 #[test]
@@ -55,9 +56,14 @@ fn boxes_answer(rt: HostRuntime) -> Result<(), Fail> {
         ],
         &[
             Call::Wait(1),
+            Call::Asleep(2, false),
             Call::Wait(2),
+            Call::Asleep(2, true),
             Call::Put(0, 2, b""),
+            Call::Asleep(2, false),
             Call::Leave(0),
+            Call::Asleep(0, false),
+            Call::Asleep(3, false),
             Call::Wait(1),
             Call::Piece(2, 0, b""),
             Call::Wait(1),
@@ -120,6 +126,9 @@ fn boxes_answer(rt: HostRuntime) -> Result<(), Fail> {
                 }
                 Call::Leave(node) if boxes.has(*node) => boxes.leave(*node),
                 Call::Leave(_) => panic!(rt; "no such box"),
+                Call::Asleep(node, want) => {
+                    assert_eq!(rt; boxes.is_asleep(*node), *want, "call {number}");
+                }
             }
         }
     }
