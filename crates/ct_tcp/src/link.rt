@@ -1,5 +1,5 @@
 //! A link over streams.
-ghost use Rattle.std.specs.Prelude.{◌≡◌, ◌≤◌, ◌==◌, ◌++◌, ◌∷◌, [], None, IfOk, OnOk, OnErr, is_ok, IsTrue, length, map};
+ghost use Rattle.std.specs.Prelude.{◌≡◌, ◌<◌, ◌≤◌, ◌==◌, ◌++◌, ◌∷◌, [], None, IfOk, OnOk, OnErr, is_ok, IsTrue, length, map};
 ghost use Rattle.std.specs.List.Sorted.{IsNonDecreasingBy, IsPermutation};
 ghost use Rattle.ct_outside.specs.Links.{Looks, is_end, is_failure, parcel};
 ghost use Rattle.ct_outside.specs.Told.{RisesWhere};
@@ -13,6 +13,7 @@ use std::alloc::{AllocError, Global};
 use std::collections::VecDeque;
 use std::io::{Read, Write};
 use std::marker::Model;
+use std::mem;
 use std::net::TcpStream;
 
 /// How many bytes one look reads at most.
@@ -41,6 +42,8 @@ pub struct TcpLink<S = TcpStream> {
     me: u32,
     own: VecDeque<Piece>,
     lanes: Vec<Lane<S>>,
+    /// What the next look reads into. It is empty where that is still to be made.
+    room: Vec<u8>,
     faults: u64,
     endings: u64,
     looks: u64,
@@ -98,6 +101,7 @@ impl<S: Read + Write + Drop> TcpLink<S> {
             me,
             own: VecDeque::new(alloc),
             lanes,
+            room: Vec::new(alloc),
             faults: 0,
             endings: 0,
             looks: 0,
@@ -139,6 +143,18 @@ impl<S> TcpLink<S> {
 }
 
 impl<S: Read + Drop> TcpLink<S> {
+    // What a look reads into: that of the last look, where it gave no bytes, or a new one.
+    fn take_room(&mut self) -> Result<Vec<u8>, AllocError>
+        ensures room { IfOk result (λ bytes. 0 < length bytes.items) }
+        ensures same { self.new ≡ self.old }
+    {
+        let room = mem::replace(&mut self.room, Vec::new(self.alloc));
+        if room.is_empty() {
+            return zeros(self.alloc, READ_SIZE);
+        }
+        Ok(room)
+    }
+
     // A look, which is not counted yet.
     #[tactic(auto, using(crate::proofs::Handing::hands_over, crate::proofs::Handing::looks_over))]
     fn look(&mut self, may_wait: bool) -> Result<Received, LinkFault>
@@ -153,7 +169,7 @@ impl<S: Read + Drop> TcpLink<S> {
                 bytes,
             });
         }
-        let mut bytes = zeros(self.alloc, READ_SIZE)?;
+        let mut bytes = self.take_room()?;
         match look_over(&mut self.lanes, &mut bytes) {
             Found::Bytes { sender, count } => {
                 bytes.truncate(count);
@@ -161,7 +177,10 @@ impl<S: Read + Drop> TcpLink<S> {
             }
             Found::Failed => Err(LinkFault::Failed),
             Found::Nothing if may_wait && all_ended(self.lanes.as_slice()) => Ok(Received::Closed),
-            Found::Nothing => Ok(Received::Nothing),
+            Found::Nothing => {
+                self.room = bytes;
+                Ok(Received::Nothing)
+            }
         }
     }
 }
