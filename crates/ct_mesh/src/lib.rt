@@ -1,0 +1,6 @@
+//! Nodes that are joined by TCP over this machine: a stream between each two of them.
+#![tactic(auto)]
+
+pub mod mesh;
+#[cfg(test)]
+mod tests;
