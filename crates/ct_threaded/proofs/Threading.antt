@@ -9,12 +9,12 @@ use Rattle.ct_call.specs.Rules.{Rules}
 use Rattle.ct_cue.specs.Cues.{IsScripted, items_in}
 use Rattle.ct_frame.specs.declared.plan.Plan.{Plan}
 use Rattle.ct_frame.specs.declared.plan.PlanItem.{PlanItem}
-use Rattle.ct_journal.specs.Order.{entries_of, or_no_entries}
+use Rattle.ct_journal.specs.Order.{AreInOrder, entries_of, or_no_entries}
 use Rattle.ct_journal.specs.declared.journal.Journal.{Journal}
 use Rattle.ct_journal.specs.declared.journal.JournalEntry.{JournalEntry}
 use Rattle.ct_law_scheduled.specs.Laws.{AreRuns}
 use Rattle.ct_plan.specs.Sound.{IsSound, or_no_items, script_of}
-use Rattle.ct_threaded.specs.Threaded.{AreSettled, HasServed, served}
+use Rattle.ct_threaded.specs.Threaded.{HasServed, served}
 use Rattle.ct_troupe.specs.Played.{ArePlayed}
 
 -- what each node leaves is the journal of a node that served, where it is one
@@ -66,11 +66,11 @@ scripted rules p js sound count each n = let b = sound.scripts in ⊎_elim
 runs : (rules : Rules) (p : Plan) (js : List Journal) → length js ≡ p.config.nodes → ((n : ℕ) (j : Journal) → slice_get js n ≡ Some j → HasServed rules p n j) → AreRuns p.config rules js
 runs rules p js count each = record { count = count; each = λ n j e. (each n j e).run }
 
-pub are_played : (rules : Rules) (p : Plan) (all : List (Result (Option Journal) NoMemory)) (js : List Journal) → IsSound p → length all ≡ p.config.nodes → AllServed rules p all → all ≡ map served js → AreSettled js → ArePlayed rules p js
-are_played rules p all js sound count h is settled =
+pub are_played : (rules : Rules) (p : Plan) (all : List (Result (Option Journal) NoMemory)) (js : List Journal) → IsSound p → length all ≡ p.config.nodes → AllServed rules p all → all ≡ map served js → AreInOrder js → ArePlayed rules p js
+are_played rules p all js sound count h is order =
     let n = sym (count_served all js is) ∙ count in
     let each = each_served rules p all js h is in
-    record { runs = runs rules p js n each; scripted = scripted rules p js sound n each; in_order = settled.in_order }
+    record { runs = runs rules p js n each; scripted = scripted rules p js sound n each; in_order = order }
 
 pub few_journals : (p : Plan) (all : List (Result (Option Journal) NoMemory)) (js : List Journal) → p.config.nodes < 2 ^ 32 → length all ≡ p.config.nodes → all ≡ map served js → length js < 2 ^ 32
 few_journals p all js few count is = let c = count_served all js is in omega arith

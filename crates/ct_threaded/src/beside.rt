@@ -31,10 +31,10 @@ fn script_at(plan: &Plan, node: u32) -> &[PlanItem]
     }
 }
 
-/// The node serves from its opening on, until nothing will come any more or its journal has 1,000,000 entries. None where
-/// serving ends too early.
+/// The node serves from its opening on, until nothing will come any more or it has served so long. None where serving ends too
+/// early for another reason than want of memory.
 #[tactic(auto, using(crate::proofs::Serving::may_serve))]
-fn serve_plan<L: Link, S: RecLock, G: Gate>(
+pub fn serve_plan<L: Link, S: RecLock, G: Gate>(
     alloc: Global,
     table: &CallTable,
     plan: &Plan,
@@ -42,6 +42,7 @@ fn serve_plan<L: Link, S: RecLock, G: Gate>(
     lock: &mut S,
     gate: &mut G,
     node: u32,
+    until: Until,
 ) -> Result<Option<Journal>, NoMemory>
     requires sound { IsSound plan.now }
     requires node { node < plan.now.config.nodes }
@@ -56,7 +57,7 @@ fn serve_plan<L: Link, S: RecLock, G: Gate>(
         link,
         lock,
         gate,
-        Until::Entries(MOST_ENTRIES),
+        until,
     ) {
         Ok(_) => Ok(Some(own.into_journal())),
         Err(ServeFault::NoMemory) => Err(NoMemory),
@@ -64,8 +65,8 @@ fn serve_plan<L: Link, S: RecLock, G: Gate>(
     }
 }
 
-/// The node serves over the hub, with a seat of the book, through its own gate, or an open one where there is none for it. It
-/// leaves the hub in each case.
+/// The node serves over the hub, with a seat of the book, through its own gate, or an open one where there is none for it,
+/// until its journal has 1,000,000 entries. It leaves the hub in each case.
 pub fn serve_beside<R: Wait, G: Gate>(
     rt: &R,
     alloc: Global,
@@ -83,10 +84,20 @@ pub fn serve_beside<R: Wait, G: Gate>(
 {
     let mut link = hub.link(node);
     let mut seat = book.seat();
+    let until = Until::Entries(MOST_ENTRIES);
     match gates.get(node as usize) {
         Some(gate) => {
             let mut gate = gate.lock(rt);
-            serve_plan(alloc, table, plan, &mut link, &mut seat, &mut **gate, node)
+            serve_plan(
+                alloc,
+                table,
+                plan,
+                &mut link,
+                &mut seat,
+                &mut **gate,
+                node,
+                until,
+            )
         }
         None => serve_plan(
             alloc,
@@ -96,6 +107,7 @@ pub fn serve_beside<R: Wait, G: Gate>(
             &mut seat,
             &mut OpenGate,
             node,
+            until,
         ),
     }
 }

@@ -1,7 +1,7 @@
 //! A plan is played with its nodes side by side, each in a thread of its own.
 #![tactic(auto)]
 
-mod beside;
+pub mod beside;
 pub mod settled;
 #[cfg(test)]
 mod tests;

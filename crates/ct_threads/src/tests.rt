@@ -1,12 +1,112 @@
-//! A plan is played, and played again, with ample memory.
+//! Plans are played, and played again, with ample memory; and gates say which of two nodes comes first.
+ghost use Rattle.std.specs.Prelude.{◌≡◌, IfOk};
+ghost use Rattle.std.specs.List.{list_all};
+ghost use Rattle.ct_plan.specs.Sound.{IsSound};
+ghost use Rattle.ct_turns.specs.Plain.{asks_only, is_asked};
+
+use crate::gate::ThreadGate;
 use crate::threads::Threads;
+use ct_bytes::items::Items;
+use ct_bytes::key::Key;
+use ct_bytes::memory::NoMemory;
+use ct_bytes::name::DbName;
+use ct_bytes::value::Value;
 use ct_call::table::CallTable;
-use ct_frame::event::Event;
-use ct_frame::plan::PlanItem;
+use ct_frame::event::{Event, Out};
+use ct_frame::plan::{Plan, PlanItem};
 use ct_journal::journal::Journal;
+use ct_msg::client::{Answer, ClientOp};
+use ct_msg::config::{Config, DbDecl, DbKind};
+use ct_outside::gate::{Gate, OpenGate};
 use ct_plan::scripts::cluster_plan;
+use ct_threaded::threaded::play_in_threads;
 use ct_troupe::troupe::Troupe;
+use std::alloc::Global;
+use std::sync::atomic::{AtomicU64, Ordering};
+use std::sync::{Arc, Wait};
 use std::test::Fail;
+use std::thread;
+use std::thread::Threads as Spawns;
+
+// Is the item a call that may come?
+#[tactic(auto, unfolding(ct_turns::specs::Plain::is_asked, ct_rules_node::specs::Coming::is_allowed_op))]
+fn is_asked(item: &PlanItem) -> bool
+    ensures { result ≡ is_asked item.now }
+{
+    match item {
+        PlanItem::Call(ClientOp::Commit { writes, .. }) => 0 < writes.len() && writes.len() < 17,
+        PlanItem::Call(_) => true,
+        PlanItem::Round(_) => false,
+    }
+}
+
+// Are they all?
+fn all_asked(script: &[PlanItem]) -> bool
+    ensures { result ≡ list_all is_asked script.now }
+{
+    script.iter().all(|item| is_asked(item))
+}
+
+// Are all items such calls, 4,096 at most?
+#[tactic(auto, unfolding(ct_turns::specs::Plain::asks_only))]
+fn asks_only(script: &[PlanItem]) -> bool
+    ensures { result ≡ asks_only script.now }
+{
+    if script.len() > 4096 {
+        return false;
+    }
+    all_asked(script)
+}
+
+// So for each script?
+fn all_ask_only(scripts: &[Items<PlanItem>]) -> bool
+    ensures { result ≡ list_all asks_only scripts.now }
+{
+    scripts.iter().all(|script| asks_only(script.as_slice()))
+}
+
+// A plan of these scripts, one a node, with the databases `g_lock` and `t`, which is volatile.
+fn plan(alloc: Global, scripts: Vec<Items<PlanItem>>) -> Result<Plan, Fail>
+    ensures { IfOk result IsSound }
+{
+    let mut dbs = Vec::new(alloc);
+    dbs.push(DbDecl {
+        name: DbName::new(alloc, b"t")?,
+        kind: DbKind::Volatile,
+    })?;
+    if !all_ask_only(scripts.as_slice()) || scripts.len() > 16 {
+        return Err(Fail::new("no scripts of calls"));
+    }
+    let config = Config::new(alloc, scripts.len() as u32, dbs, Vec::new(alloc))?;
+    Ok(Plan {
+        config,
+        scripts: Items::new(scripts),
+        net: false,
+    })
+}
+
+// A client that writes this value into record `b` so many times.
+fn writer(alloc: Global, value: &[u8], times: usize) -> Result<Items<PlanItem>, Fail> {
+    let mut script = Vec::new(alloc);
+    for _ in 0..times {
+        script.push(PlanItem::Call(ClientOp::Write {
+            db: 1,
+            key: Key::new(alloc, b"b")?,
+            value: Value::new(alloc, value)?,
+        }))?;
+    }
+    Ok(Items::new(script))
+}
+
+// Two nodes, of which each client writes the same record so many times.
+fn two_writers(alloc: Global, times: usize) -> Result<Plan, Fail>
+    ensures { IfOk result IsSound }
+{
+    let mut scripts = Vec::new(alloc);
+    scripts.push(writer(alloc, b"x", times)?)?;
+    scripts.push(writer(alloc, b"y", times)?)?;
+    plan(alloc, scripts)
+}
 
 // How many calls the script asks.
 fn count_calls(script: &[PlanItem]) -> usize {
@@ -30,12 +130,81 @@ fn count_asked(journal: &Journal) -> usize {
     count
 }
 
+// How often `Written` is answered.
+fn count_written(journal: &Journal) -> usize {
+    let mut count: usize = 0;
+    for entry in journal.entries.as_slice() {
+        for out in entry.outs.as_slice() {
+            if let Out::Answer { answer, .. } = out {
+                if *answer == Answer::Written {
+                    count = count.saturating_add(1);
+                }
+            }
+        }
+    }
+    count
+}
+
+// Does the journal begin with a message that arrived? None where it is empty.
+fn begins_with_arrival(journal: &Journal) -> Option<bool> {
+    let entry = journal.entries.as_slice().first()?;
+    match entry.event {
+        Event::Arrive(_) => Some(true),
+        _ => Some(false),
+    }
+}
+
+// How often a node looks whether the other has come.
+const LOOKS: u32 = 10_000_000;
+
+// Keeps one node inside its first pass until the other has entered its second.
+#[derive(Drop)]
+struct Turnstile {
+    held: u32,
+    second: Arc<AtomicU64, Global>,
+    late: Arc<AtomicU64, Global>,
+}
+
+impl Gate for Turnstile {
+    fn pass(&mut self, node: u32, turn: u64) {
+        if node != self.held {
+            if turn == 1 {
+                self.second.store(1, Ordering::SeqCst);
+            }
+            return;
+        }
+        if turn > 0 {
+            return;
+        }
+        for _ in 0..LOOKS {
+            if self.second.load(Ordering::SeqCst) == 1 {
+                return;
+            }
+            thread::yield_now();
+        }
+        self.late.store(1, Ordering::SeqCst);
+    }
+}
+
+impl ThreadGate for Turnstile {
+    fn play_through<R: Spawns + Wait + Sync>(
+        rt: &R,
+        alloc: Global,
+        table: &CallTable,
+        plan: &Plan,
+        gates: &mut [Self],
+    ) -> Result<Option<Vec<Journal>>, NoMemory> {
+        play_in_threads(rt, alloc, table, plan, gates)
+    }
+}
+
 #[test]
 fn each_call_comes(rt: HostRuntime) -> Result<(), Fail> {
     let alloc = rt.alloc();
     let table = CallTable::new(alloc);
     let plan = cluster_plan(alloc, 2, 20, 2)?;
-    let mut threads = Threads::new(&rt, alloc);
+    let gates: Vec<OpenGate> = Vec::new(alloc);
+    let mut threads = Threads::new(&rt, alloc, gates);
     assert!(rt; threads.journals().is_empty());
     for _ in 0..2u32 {
         threads.play(alloc, &table, &plan)?;
@@ -43,6 +212,53 @@ fn each_call_comes(rt: HostRuntime) -> Result<(), Fail> {
         assert_eq!(rt; journals.len(), 2);
         for (journal, script) in journals.iter().zip(plan.scripts.as_slice()) {
             assert_eq!(rt; count_asked(journal), count_calls(script.as_slice()));
+        }
+    }
+    Ok(())
+}
+
+// Which node is held, how often each client writes, and whether a message is the first that comes to node 0. With the nodes in
+// turn it is always its own call.
+const TABLE: [(u32, usize, bool); 4] = [
+    (0, 1, true),
+    (1, 1, false),
+    (0, 100, true),
+    (1, 100, false),
+];
+
+#[test]
+fn gates_say_who_comes_first(rt: HostRuntime) -> Result<(), Fail> {
+    let alloc = rt.alloc();
+    let table = CallTable::new(alloc);
+    for (held, times, arrival) in TABLE {
+        let plan = two_writers(alloc, times)?;
+        let second = Arc::new(alloc, AtomicU64::new(0))?;
+        let late = Arc::new(alloc, AtomicU64::new(0))?;
+        let mut gates = Vec::new(alloc);
+        for _ in 0..2u32 {
+            let gate = Turnstile {
+                held,
+                second: Arc::try_clone(&second)?,
+                late: Arc::try_clone(&late)?,
+            };
+            gates.push(gate)?;
+        }
+        let mut threads = Threads::new(&rt, alloc, gates);
+        threads.play(alloc, &table, &plan)?;
+        assert_eq!(rt;
+            late.load(Ordering::SeqCst),
+            0,
+            "node {held} was held too long"
+        );
+        let journals = threads.journals();
+        assert_eq!(rt; journals.len(), 2);
+        assert_eq!(rt;
+            begins_with_arrival(&journals[0]),
+            Some(arrival),
+            "node {held} was held, {times} writes"
+        );
+        for journal in journals {
+            assert_eq!(rt; count_written(journal), times);
         }
     }
     Ok(())

@@ -3,13 +3,12 @@ ghost use Rattle.std.specs.Prelude.{◌≡◌, []};
 ghost use Rattle.std.specs.Thread.{IsSync};
 ghost use Rattle.ct_turns.specs.Stages.{AllHaveArrived};
 
+use crate::gate::ThreadGate;
 use ct_bytes::items::Items;
 use ct_bytes::memory::NoMemory;
 use ct_call::table::CallTable;
 use ct_frame::plan::Plan;
 use ct_journal::journal::Journal;
-use ct_outside::gate::OpenGate;
-use ct_threaded::threaded::play_in_threads;
 use ct_troupe::troupe::{PlayFault, Troupe};
 use ct_turns::turns::Turns;
 use std::alloc::Global;
@@ -17,10 +16,12 @@ use std::marker::Model;
 use std::sync::Wait;
 use std::thread::Threads as Spawns;
 
-/// Plays plans with one thread a node, through open gates. Where what the threads did is no play of the plan, it is played again on one thread, with the nodes in turn.
+/// Plays plans with one thread a node. Node n passes the gate at place n, or an open gate where there is none. Where what the
+/// threads did is no play of the plan, it is played again on one thread, with the nodes in turn.
 #[derive(Drop)]
-pub struct Threads<R> {
+pub struct Threads<R, G> {
     rt: R,
+    gates: Vec<G>,
     /// The journals of the threads, where the last play is theirs.
     own: Items<Journal>,
     turns: Turns,
@@ -28,7 +29,7 @@ pub struct Threads<R> {
     again: bool,
 }
 
-impl<R> Model for Threads<R> {
+impl<R, G> Model for Threads<R, G> {
     ghost use Rattle.std.specs.Prelude.{List};
     ghost use Rattle.ct_journal.specs.declared.journal.Journal.{Journal as Told};
     ghost use Rattle.ct_threads.specs.Threads.{told};
@@ -41,14 +42,15 @@ impl<R> Model for Threads<R> {
     ghost invariant = { λ a. AllHaveArrived (told a.again a.turns.journals a.own) };
 }
 
-impl<R: Drop> Threads<R> {
+impl<R: Drop, G: Drop> Threads<R, G> {
     /// No plan was played. It takes no memory.
     #[tactic(auto, using(ct_turns::proofs::Ending::none_left))]
-    pub fn new(rt: R, alloc: Global) -> Threads<R>
+    pub fn new(rt: R, alloc: Global, gates: Vec<G>) -> Threads<R, G>
         ensures { result ≡ [] }
     {
         Threads {
             rt,
+            gates,
             own: Items::empty(alloc),
             turns: Turns::new(alloc),
             again: false,
@@ -63,7 +65,7 @@ impl<R: Drop> Threads<R> {
     }
 }
 
-impl<R: Spawns + Wait + Sync> Troupe for Threads<R> {
+impl<R: Spawns + Wait + Sync, G: ThreadGate> Troupe for Threads<R, G> {
     ghost told = { λ t. t };
 
     ghost faults = { λ _. 0 };
@@ -76,8 +78,7 @@ impl<R: Spawns + Wait + Sync> Troupe for Threads<R> {
     fn play(&mut self, alloc: Global, table: &CallTable, plan: &Plan) -> Result<(), PlayFault> {
         self.own = Items::empty(alloc);
         self.again = false;
-        let mut gates: [OpenGate; 0] = [];
-        match play_in_threads(&self.rt, alloc, table, plan, &mut gates) {
+        match G::play_through(&self.rt, alloc, table, plan, self.gates.as_mut_slice()) {
             Ok(Some(journals)) => {
                 self.own = Items::new(journals);
                 Ok(())

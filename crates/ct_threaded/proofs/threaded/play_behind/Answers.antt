@@ -10,4 +10,4 @@ returns-then-branch-clause-played g c =
     let gathered = subst (λ o. IfSome o (λ v. c.in_ok-all.all.items ≡ map served v.items)) c.in-Some.is c.in_ok-journals.ensures in
     let settled = subst (λ b. MatchBool b (AreSettled c.as_slice.result.now) (AreSettled c.as_slice.result.now → ⊥)) c.if-branch.true c.in_ok-are_settled.ensures in
     are_played (rules_of c.args.table.now) c.args.plan.now c.in_ok-all.all.items c.in-Some.journals.items c.requires c.in_ok-all.ensures.count c.in_ok-all.ensures.each gathered
-    (subst (λ js. AreSettled js) c.as_slice.ensures.value settled)
+    (subst (λ js. AreSettled js) c.as_slice.ensures.value settled).in_order
