@@ -15,12 +15,12 @@ rest_of js f n = drop (taken_of f n) (entries_of js n)
 
 -- ---- lists
 
-got_set : (xs : List ℕ) (n x : ℕ) → n < length xs → slice_get (set xs n x) n ≡ Some x
+pub got_set : (xs : List ℕ) (n x : ℕ) → n < length xs → slice_get (set xs n x) n ≡ Some x
 got_set [] n x l = absurd (omega arith)
 got_set (y ∷ ys) zero x l = refl
 got_set (y ∷ ys) (suc n) x l = got_set ys n x (omega arith)
 
-got_other : (xs : List ℕ) (n m x : ℕ) → m ≢ n → slice_get (set xs n x) m ≡ slice_get xs m
+pub got_other : (xs : List ℕ) (n m x : ℕ) → m ≢ n → slice_get (set xs n x) m ≡ slice_get xs m
 got_other [] n m x ne = refl
 got_other (y ∷ ys) zero zero x ne = absurd (ne refl)
 got_other (y ∷ ys) zero (suc m) x ne = refl
@@ -32,12 +32,12 @@ drop_next [] k x e = absurd (cc)
 drop_next (y ∷ ys) zero x e = cc
 drop_next (y ∷ ys) (suc k) x e = (let more : suc (k + 1) ≡ suc k + 1 = omega arith in drop_next ys k x e ∙ ap (λ (m : ℕ). x ∷ drop m (y ∷ ys)) more)
 
-take_next : (xs : List JournalEntry) (k : ℕ) (x : JournalEntry) → slice_get xs k ≡ Some x → take (k + 1) xs ≡ take k xs ++ x ∷ []
+pub take_next : (xs : List JournalEntry) (k : ℕ) (x : JournalEntry) → slice_get xs k ≡ Some x → take (k + 1) xs ≡ take k xs ++ x ∷ []
 take_next [] k x e = absurd (cc)
 take_next (y ∷ ys) zero x e = cc
 take_next (y ∷ ys) (suc k) x e = (let more : suc k + 1 ≡ suc (k + 1) = omega arith in ap (λ (m : ℕ). take m (y ∷ ys)) more) ∙ ap (λ (l : List JournalEntry). y ∷ l) (take_next ys k x e)
 
-none_taken : (k m : ℕ) → or_zero (slice_get (replicate k 0) m) ≡ 0
+pub none_taken : (k m : ℕ) → or_zero (slice_get (replicate k 0) m) ≡ 0
 unfolding or_zero
 none_taken zero m = refl
 none_taken (suc k) zero = refl
@@ -141,7 +141,7 @@ pub left_after : (js : List Journal) (f : Front) (n : ℕ) (x : JournalEntry) �
 unfolding next_entry entries_of taken_of front_after
 left_after js f n x l next = left_set js f.taken n x l next
 
-sent_both : (xs ys : List JournalEntry) → count_sent (xs ++ ys) ≡ count_sent xs + count_sent ys
+pub sent_both : (xs ys : List JournalEntry) → count_sent (xs ++ ys) ≡ count_sent xs + count_sent ys
 unfolding count_sent
 sent_both [] ys = omega arith
 sent_both (x ∷ xs) ys = let r = sent_both xs ys in omega arith

@@ -134,7 +134,7 @@ pub own_asks : (n a : ℕ) (x : Noted) → x.node ≡ n → is_asked n a x ≡ i
 unfolding is_asked
 own_asks n a x same = ap (λ (b : Bool). b && is_call a x.entry.event) (eq-eqb x.node n same)
 
-asked_more : (e : Event) (k : ℕ) → k ≤ asked_after e k
+pub asked_more : (e : Event) (k : ℕ) → k ≤ asked_after e k
 unfolding asked_after
 asked_more (event.Client call o) k = omega arith
 asked_more _ k = omega arith

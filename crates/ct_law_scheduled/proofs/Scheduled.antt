@@ -28,7 +28,7 @@ use Rattle.ct_law_scheduled.specs.Scheduling.{Scheduling, first_scheduling, sche
 -- ---- the entries in their order
 
 -- the entries that stand from one front to another
-laid : (js : List Journal) (f : Front) (order : List ℕ) (g : Front) → Stand js f order g → List Noted
+unfoldable pub laid : (js : List Journal) (f : Front) (order : List ℕ) (g : Front) → Stand js f order g → List Noted
 unfolding Stand
 laid js f [] g s = []
 laid js f (n ∷ ns) g s = record { node = n; entry = s.0 } ∷ laid js (front_after n s.0.event f) ns g s.3
@@ -95,7 +95,7 @@ at_each A zero n x l = absurd (omega arith)
 at_each A (suc k) zero x l = refl
 at_each A (suc k) (suc n) x l = at_each A k n x (omega arith)
 
-has_entries : (js : List Journal) (n : ℕ) → n < length js → (j : Journal) × (slice_get js n ≡ Some j)
+pub has_entries : (js : List Journal) (n : ℕ) → n < length js → (j : Journal) × (slice_get js n ≡ Some j)
 has_entries [] n l = absurd (omega arith)
 has_entries (j ∷ js) zero l = (j, refl)
 has_entries (j ∷ js) (suc n) l = has_entries js n (omega arith)
@@ -190,6 +190,15 @@ module _ (sends : SendsRenumbered) (renumbers : JournalsRenumbered) (c : Config)
       same = ap (map (entry_under (number n))) (sym (all_at n)) ∙ sym (renumbered_at number n all);
     });
   }
+
+-- At the opening nothing is made, and each call of all entries has a number among all calls
+pub record Starts (c : Config) (rules : Rules) (js : List Journal) (o : AreInOrder js) : Type 0 where
+  pub number : ℕ → ℕ → ℕ
+  pub reached : Reached c rules js number (opening c) (first_scheduling js) (laid js (first_front js) o.order o.end o.stand)
+
+pub starts : (c : Config) (rules : Rules) (js : List Journal) → AreRuns c rules js → (o : AreInOrder js) → Starts c rules js o
+unfolding all
+starts c rules js runs o = record { number = number sends_renumbered journals_renumbered c rules js runs o; reached = opens sends_renumbered journals_renumbered c rules js runs o }
 
 pub in_order_is_scheduled : InOrderIsScheduled
 in_order_is_scheduled c rules js runs o = scheduled sends_renumbered journals_renumbered c rules js runs o

@@ -1,5 +1,5 @@
 -- The cluster goes along with journals in order, entry by entry.
-use Rattle.std.proofs.Common.{◌≡◌, ◌≢◌, ℕ, zero, suc, ◌+◌, ◌^◌, ◌<◌, ◌≤◌, ◌&&◌, Bool, true, false, List, [], ◌∷◌, ◌++◌, length, map, set, replicate, Option, Some, length-append, length-set, arith, refl, sym, ap, ap₂, ◌∙◌, subst, ⊎_elim}
+use Rattle.std.proofs.Common.{◌≡◌, ◌≢◌, ℕ, zero, suc, ◌+◌, ◌^◌, ◌<◌, ◌≤◌, ◌&&◌, Bool, true, false, List, [], ◌∷◌, ◌++◌, length, map, set, replicate, Option, Some, append_assoc, length-append, length-set, arith, refl, sym, ap, ap₂, ◌∙◌, subst, ⊎_elim}
 use Rattle.std.proofs.lemmas.Bool.{and_parts, cases_eq, eq-eqb, eqb-true, lt-ltb, or_left}
 use Rattle.std.proofs.lemmas.List.{length-map}
 use Rattle.std.specs.List.{list_all}
@@ -16,7 +16,9 @@ use Rattle.ct_rules_node.specs.Node.{Node, is_among}
 use Rattle.ct_rules_node.specs.Steps.{stepped}
 use Rattle.ct_rules_node.specs.Turn.{Turn}
 use Rattle.ct_cluster.specs.Cluster.{Cluster, Delivered, Sent, is_true, is_up, node_at, or_absent}
-use Rattle.ct_cluster.specs.Steps.{frames_of, is_counted}
+use Rattle.ct_cluster.specs.Steps.{frames_of, is_counted, lines_of}
+use Rattle.ct_cluster.specs.declared.step.Line.{Line}
+use Rattle.ct_cluster.specs.declared.step.Line.TheVariants as line
 use Rattle.ct_cluster.specs.declared.step.Step.{Step}
 use Rattle.ct_cluster.specs.declared.step.Step.TheVariants as step
 use Rattle.ct_journal.specs.Order.{Front, MayStand, frames_in, front_after, is_from, next_entry, numbers_of_calls, past_of, ticket_after}
@@ -29,7 +31,7 @@ use Rattle.ct_law_scheduled.proofs.Carrying.{Rising, rising_more, sent_rising, s
 use Rattle.ct_law_scheduled.proofs.Fronts.{has_journal, left_after, left_of, past_other, past_own, rest_of, rest_other, rest_own, size_after}
 use Rattle.ct_law_scheduled.proofs.Numbering.{asked_after, call_later, calls_later, first_once, number_in, number_later, number_now, other_asks, own_asks}
 use Rattle.ct_law_scheduled.proofs.Queues.{Mailed, frames_wait, message_comes, messages_go, none_comes}
-use Rattle.ct_law_scheduled.proofs.Taking.{Makes, became, client_makes, message_makes, round_makes}
+use Rattle.ct_law_scheduled.proofs.Taking.{Makes, Prints, became, client_makes, client_prints, message_makes, message_prints, own_lines, round_makes, round_prints, yield_lines}
 use Rattle.ct_law_scheduled.specs.Scheduling.{Carried, Scheduling, carried_after, carried_of, holder_after, scheduling_after, steps_for, yields}
 
 -- ---- an event under another number
@@ -52,7 +54,7 @@ holder_under f n (event.Vacuum db) h = refl
 holder_under f n (event.BeginRound t members) h = refl
 holder_under f n (event.BeginTakeover able) h = refl
 
-asked_under : (f : ℕ → ℕ) (e : Event) (k : ℕ) → asked_after (event_under f e) k ≡ asked_after e k
+pub asked_under : (f : ℕ → ℕ) (e : Event) (k : ℕ) → asked_after (event_under f e) k ≡ asked_after e k
 unfolding asked_after event_under
 asked_under f (event.Client call o) k = refl
 asked_under f (event.Arrive m) k = refl
@@ -69,7 +71,7 @@ one_more js f n (event.BeginRound t members) k may = (let same = may.0 in omega 
 one_more js f n _ k may = omega arith
 
 -- who holds the lock then is a node where all that may are
-still_node : (n bound : ℕ) (e : Event) (h : Option ℕ) → n < bound → ((i : ℕ) → h ≡ Some i → i < bound) → (i : ℕ) → holder_after n e h ≡ Some i → i < bound
+pub still_node : (n bound : ℕ) (e : Event) (h : Option ℕ) → n < bound → ((i : ℕ) → h ≡ Some i → i < bound) → (i : ℕ) → holder_after n e h ≡ Some i → i < bound
 unfolding holder_after
 still_node n bound (event.BeginRound t members) h l old i is = (let same : n ≡ i = cc in omega arith)
 still_node n bound _ h l old i is = old i is
@@ -81,20 +83,20 @@ carried_rising n j _ ms r = r
 
 -- ---- lists
 
-node_own : (n : ℕ) (x : Node) (xs : List Node) → n < length xs → or_absent (slice_get (set xs n x) n) ≡ x
+pub node_own : (n : ℕ) (x : Node) (xs : List Node) → n < length xs → or_absent (slice_get (set xs n x) n) ≡ x
 unfolding or_absent
 node_own n x [] l = absurd (omega arith)
 node_own zero x (y ∷ ys) l = refl
 node_own (suc n) x (y ∷ ys) l = node_own n x ys (omega arith)
 
-node_other : (n m : ℕ) (x : Node) (xs : List Node) → m ≢ n → slice_get (set xs n x) m ≡ slice_get xs m
+pub node_other : (n m : ℕ) (x : Node) (xs : List Node) → m ≢ n → slice_get (set xs n x) m ≡ slice_get xs m
 node_other n m x [] ne = refl
 node_other zero zero x (y ∷ ys) ne = absurd (ne refl)
 node_other zero (suc m) x (y ∷ ys) ne = refl
 node_other (suc n) zero x (y ∷ ys) ne = refl
 node_other (suc n) (suc m) x (y ∷ ys) ne = node_other n m x ys (λ e. ne (ap suc e))
 
-all_true : (k n : ℕ) → n < k → is_true (slice_get (replicate k true) n) ≡ true
+pub all_true : (k n : ℕ) → n < k → is_true (slice_get (replicate k true) n) ≡ true
 unfolding is_true
 all_true zero n l = absurd (omega arith)
 all_true (suc k) zero l = refl
@@ -197,6 +199,7 @@ module _ (c : Config) (rules : Rules) (js : List Journal) (number : ℕ → ℕ 
       pub size : length sent ≡ length w.sent
       pub mail : Mailed sent (carried_after n x.event k.carried) (past_of js k.front) (past_of js after)
       pub makes : Makes c rules w (steps_for n x.event k) n given (turn_of n x state) (became n given (turn_of n x state) sent w)
+      pub prints : Prints c rules w (steps_for n x.event k) n given (own_lines n given w.holder ++ lines_of n (length sent + 1) (turn_of n x state).outs) (became n given (turn_of n x state) sent w)
 
     past_own_is : past_of js after n ≡ past_of js k.front n ++ x ∷ []
     unfolding after
@@ -283,8 +286,14 @@ module _ (c : Config) (rules : Rules) (js : List Journal) (number : ℕ → ℕ 
       own_makes : (d : Event) → given ≡ d → (ss : List Sent) (steps : List Step) → steps_for n x.event k ≡ steps → Makes c rules w steps n d t (became n d t ss w) → Makes c rules w (steps_for n x.event k) n given t (became n given t ss w)
       own_makes d is ss steps these m = subst (λ (xs : List Step). Makes c rules w xs n given t (became n given t ss w)) (sym these) (subst (λ (d : Event). Makes c rules w steps n d t (became n d t ss w)) (sym is) m)
 
+      own_prints : (d : Event) → given ≡ d → (ss : List Sent) (steps : List Step) → steps_for n x.event k ≡ steps → Prints c rules w steps n d (own_lines n d w.holder ++ lines_of n (length ss + 1) t.outs) (became n d t ss w)
+          → Prints c rules w (steps_for n x.event k) n given (own_lines n given w.holder ++ lines_of n (length ss + 1) t.outs) (became n given t ss w)
+      own_prints d is ss steps these p =
+          subst (λ (xs : List Step). Prints c rules w xs n given (own_lines n given w.holder ++ lines_of n (length ss + 1) t.outs) (became n given t ss w)) (sym these)
+          (subst (λ (d : Event). Prints c rules w steps n d (own_lines n d w.holder ++ lines_of n (length ss + 1) t.outs) (became n d t ss w)) (sym is) p)
+
       calls : (call : ℕ) (o : ClientOp) → x.event ≡ event.Client call o → Goes
-      unfolding given event_under may_come steps_for carried_after after is_from is_call has_call
+      unfolding given event_under may_come steps_for carried_after after is_from is_call has_call own_lines
       calls call o is =
           let own : is_call call x.event ≡ true = ap (is_call call) is ∙ eq-eqb call call refl in
           let has : has_call call (rest_of js k.front n) ≡ true = subst (λ (xs : List JournalEntry). has_call call xs ≡ true) (sym (rest_own js k.front n x has_place next)) (or_left (is_call call x.event) (has_call call (rest_of js after n)) own) in
@@ -301,10 +310,12 @@ module _ (c : Config) (rules : Rules) (js : List Journal) (number : ℕ → ℕ 
                 (none_comes w.sent k.carried (past_of js k.front) (past_of js after) n x past_own_is past_other_is (λ a. ap (is_from a) is) h.mail);
             makes = own_makes d ev w.sent (step.Client n o ∷ []) (ap (λ (d : Event). steps_for n d k) is)
                 (client_makes c rules w n o t (and_parts (is_allowed_op o) (is_after_pending (w.calls + 1) (node_at n w)) (own_coming d ev)).0 is_node (ups n is_node) (own_turn d ev) (own_counted d ev w.sent refl));
+            prints = own_prints d ev w.sent (step.Client n o ∷ []) (ap (λ (d : Event). steps_for n d k) is)
+                (client_prints c rules w n o t (and_parts (is_allowed_op o) (is_after_pending (w.calls + 1) (node_at n w)) (own_coming d ev)).0 is_node (ups n is_node) (own_turn d ev) (own_counted d ev w.sent refl));
           }
 
       arrives : (m : Frame) → x.event ≡ event.Arrive m → Goes
-      unfolding given event_under may_come steps_for carried_after after MayStand
+      unfolding given event_under may_come steps_for carried_after after MayStand own_lines
       arrives m is =
           let ev : given ≡ event.Arrive m = ap (event_under (number n)) is in
           let r : m.receiver ≡ n = eqb-true m.receiver n (and_parts (well_formed m) (nat_eq m.receiver n) (own_coming (event.Arrive m) ev)).1 in
@@ -324,10 +335,15 @@ module _ (c : Config) (rules : Rules) (js : List Journal) (number : ℕ → ℕ 
                 (message_makes c rules w comes.before m t comes.is (ups m.receiver (let l = is_node in omega (arith, l, r)))
                 (subst (λ (q : ℕ). stepped c rules q (event.Arrive m) (node_at q w) ≡ Some t) (sym r) (own_turn (event.Arrive m) ev))
                 (subst (λ (q : ℕ). is_counted (became q (event.Arrive m) t ss w) ≡ true) (sym r) (own_counted (event.Arrive m) ev ss size))));
+            prints = own_prints (event.Arrive m) ev ss (step.Deliver (suc comes.before) ∷ []) (ap (λ (d : Event). steps_for n d k) is ∙ ap (λ (q : ℕ). step.Deliver q ∷ []) comes.first)
+                (subst (λ (q : ℕ). Prints c rules w (step.Deliver (suc comes.before) ∷ []) q (event.Arrive m) (lines_of q (length ss + 1) t.outs) (became q (event.Arrive m) t ss w)) r
+                (message_prints c rules w comes.before m t comes.is (ups m.receiver (let l = is_node in omega (arith, l, r)))
+                (subst (λ (q : ℕ). stepped c rules q (event.Arrive m) (node_at q w) ≡ Some t) (sym r) (own_turn (event.Arrive m) ev))
+                (subst (λ (q : ℕ). is_counted (became q (event.Arrive m) t ss w) ≡ true) (sym r) (own_counted (event.Arrive m) ev ss size))));
           }
 
       begins_round : (ticket : ℕ) (members : List ℕ) → x.event ≡ event.BeginRound ticket members → Goes
-      unfolding given event_under may_come steps_for carried_after after MayStand is_from
+      unfolding given event_under may_come steps_for carried_after after MayStand is_from own_lines
       begins_round ticket members is =
           let stands : MayStand js k.front n (event.BeginRound ticket members) = subst (λ (d : Event). MayStand js k.front n d) is may in
           let d : Event = event.BeginRound (w.ticket + 1) members in
@@ -344,6 +360,9 @@ module _ (c : Config) (rules : Rules) (js : List Journal) (number : ℕ → ℕ 
                 (none_comes w.sent k.carried (past_of js k.front) (past_of js after) n x past_own_is past_other_is (λ a. ap (is_from a) is) h.mail);
             makes = own_makes d ev w.sent (yields n w.holder ++ step.Recover n members ∷ []) (ap (λ (d : Event). steps_for n d k) is ∙ ap (λ (i : Option ℕ). yields n i ++ step.Recover n members ∷ []) (sym h.holder))
                 (round_makes c rules w n members t q.0 q.1 p.1 is_node (λ i held. h.member i (sym h.holder ∙ held)) ups (own_turn d ev) (own_counted d ev w.sent refl));
+            prints = own_prints d ev w.sent (yields n w.holder ++ step.Recover n members ∷ []) (ap (λ (d : Event). steps_for n d k) is ∙ ap (λ (i : Option ℕ). yields n i ++ step.Recover n members ∷ []) (sym h.holder))
+                (subst (λ (ls : List Line). Prints c rules w (yields n w.holder ++ step.Recover n members ∷ []) n d ls (became n d t w.sent w)) (sym (append_assoc (yield_lines n w.holder) (line.Ticket (w.ticket + 1) n ∷ []) (lines_of n (length w.sent + 1) t.outs)))
+                (round_prints c rules w n members t q.0 q.1 p.1 is_node (λ i held. h.member i (sym h.holder ∙ held)) ups (own_turn d ev) (own_counted d ev w.sent refl)));
           }
 
       goes_at : (d : Event) → x.event ≡ d → MayStand js k.front n d → Goes
