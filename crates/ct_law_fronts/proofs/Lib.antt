@@ -1,0 +1,12 @@
+pub mod Cutting
+pub mod Steps
+pub mod Told
+pub mod Playing
+pub mod Weights
+pub mod Sending
+pub mod Held
+pub mod Makes
+pub mod Marks
+pub mod OneMore
+pub mod Whole
+pub mod Computed

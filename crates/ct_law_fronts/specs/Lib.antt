@@ -1,0 +1,4 @@
+pub mod Counts
+pub mod Making
+pub mod Laws
+pub mod Worked
