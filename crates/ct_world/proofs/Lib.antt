@@ -5,7 +5,7 @@ mod Kept
 mod Messages
 mod Missing
 mod Numbers
-mod Opened
+pub mod Opened
 mod Pending
 mod Given
 mod Seated

@@ -7,7 +7,5 @@ mod feed;
 mod lines;
 mod parts;
 mod steps;
-#[cfg(test)]
-mod tests;
 pub mod view;
 pub mod world;

@@ -1,8 +1,8 @@
 //! The cluster.
-ghost use Rattle.std.specs.Prelude.{◌≡◌, true, IfOk, map, replicate};
+ghost use Rattle.std.specs.Prelude.{◌≡◌, true, IfOk, MatchOption, None, Some, map, replicate};
 ghost use Rattle.ct_cluster.specs.Cluster as cluster;
 ghost use Rattle.ct_call.specs.Shown.{rules_of};
-ghost use Rattle.ct_cluster.specs.Cluster.{numbers, pending, pending_from};
+ghost use Rattle.ct_cluster.specs.Cluster.{Sent, numbers, pending, pending_from, sent_at};
 ghost use Rattle.ct_cluster.specs.Faults.{is_allowed};
 ghost use Rattle.ct_cluster.specs.Steps.{applied};
 ghost use Rattle.ct_mail.specs.Mail.{next_waiting};
@@ -17,6 +17,7 @@ use ct_bytes::memory::NoMemory;
 use ct_call::table::CallTable;
 use ct_cluster::step::{Line, PendingCall, Step, StepFault};
 use ct_core::machine::Core;
+use ct_frame::frame::Frame;
 use ct_mail::mail::Mail;
 use ct_msg::config::Config;
 use ct_pending::pending::by_number;
@@ -122,6 +123,34 @@ impl World {
         ensures { result ≡ next_waiting self.now.cluster.sent }
     {
         self.parts.mail.next_waiting()
+    }
+
+    /// For each node, whether it is marked as able.
+    pub fn able(&self) -> &[bool]
+        ensures { result.now ≡ self.now.cluster.able }
+    {
+        self.parts.able.as_slice()
+    }
+
+    /// The last ticket of the recovery lock.
+    pub fn ticket(&self) -> u64
+        ensures { result ≡ self.now.cluster.ticket }
+    {
+        self.parts.books.ticket
+    }
+
+    /// The node that holds the recovery lock.
+    pub fn holder(&self) -> Option<u32>
+        ensures { result ≡ self.now.cluster.holder }
+    {
+        self.parts.books.holder
+    }
+
+    /// The message of this number, where one was sent.
+    pub fn message(&self, number: u64) -> Option<&Frame>
+        ensures { MatchOption result (sent_at number self.now.cluster ≡ None) (λ f. (s : Sent) × (sent_at number self.now.cluster ≡ Some s) × (s.frame ≡ f.now)) }
+    {
+        self.parts.mail.frame(number)
     }
 
     /// The client calls that wait at all nodes, by number.

@@ -3,7 +3,6 @@ ghost use Rattle.std.specs.Prelude.{◌≡◌, true, IfOk, nat_lt};
 ghost use Rattle.ct_frame.specs.Fields.{ascends};
 ghost use Rattle.ct_promise.specs.Promises.{IsConfig};
 
-use crate::world::World;
 use ct_bytes::items::Items;
 use ct_bytes::key::Key;
 use ct_bytes::name::DbName;
@@ -12,11 +11,12 @@ use ct_cluster::step::Step;
 use ct_msg::client::ClientOp;
 use ct_msg::config::{Config, DbDecl, DbKind};
 use ct_tool::line::line_text;
+use ct_world::world::World;
 use std::alloc::Global;
 use std::test::Fail;
 
 /// So many nodes with the databases `g_lock` and `t`, which is volatile.
-#[tactic(auto, using(crate::proofs::Opened::is_config))]
+#[tactic(auto, using(ct_world::proofs::Opened::is_config))]
 fn config(alloc: Global, nodes: u32) -> Result<Config, Fail>
     ensures { IfOk result (λ c. IsConfig c) }
 {
