@@ -1,5 +1,5 @@
 -- The messages that a node was sent and that had not arrived.
-use Rattle.std.specs.Prelude.{ℕ, ◌+◌, List, [], ◌∷◌, ◌++◌, Option, None, Some, slice_get, slice_set}
+use Rattle.std.specs.Prelude.{◌≡◌, ℕ, ◌+◌, ◌<◌, List, [], ◌∷◌, ◌++◌, length, map, Option, None, Some, slice_get, slice_index_or, slice_set}
 use Rattle.ct_frame.specs.declared.frame.Frame.{Frame}
 use Rattle.ct_journal.specs.Order.{frames_in, frames_to}
 use Rattle.ct_journal.specs.declared.journal.Journal.{Journal}
@@ -23,6 +23,35 @@ despatched n count (x ∷ xs) = sent_by (count + 1) (frames_to n (frames_in x.ou
 -- the messages to node n of a journal
 abbrev pub letters_of : ℕ → Journal → List Despatched
 letters_of n j = despatched n 0 j.entries
+
+-- ---- the messages to each node
+
+-- these messages are put behind the others of their sender; of nobody, nowhere
+unfoldable pub put_behind : ℕ → List Despatched → List (List Despatched) → List (List Despatched)
+put_behind sender more all = slice_set all sender (slice_index_or all sender [] ++ more)
+
+-- the messages to node n, and none where there is no such node
+unfoldable pub letters_at : ℕ → List (List (List Despatched)) → List (List Despatched)
+letters_at n receivers = slice_index_or receivers n []
+
+-- a message is put behind the others of its sender to its receiver; to what is no node, nowhere
+unfoldable pub put_letter : ℕ → Despatched → List (List (List Despatched)) → List (List (List Despatched))
+put_letter sender l receivers = slice_set receivers l.frame.receiver (put_behind sender (l ∷ []) (letters_at l.frame.receiver receivers))
+
+-- each of these messages, sent by the last of so many entries
+unfoldable pub put_letters : ℕ → ℕ → List Frame → List (List (List Despatched)) → List (List (List Despatched))
+put_letters sender count [] receivers = receivers
+put_letters sender count (f ∷ fs) receivers = put_letters sender count fs (put_letter sender (record { frame = f; count = count }) receivers)
+
+-- each of the messages of these entries, before which so many stand
+unfoldable pub put_all_letters : ℕ → ℕ → List JournalEntry → List (List (List Despatched)) → List (List (List Despatched))
+put_all_letters sender count [] receivers = receivers
+put_all_letters sender count (x ∷ xs) receivers = put_all_letters sender (count + 1) xs (put_letters sender (count + 1) (frames_in x.outs) receivers)
+
+-- to each node there are the messages of each journal
+pub record AllLetters (js : List Journal) (receivers : List (List (List Despatched))) : Type 0 where
+  pub count : length receivers ≡ length js
+  pub each : (n : ℕ) → n < length js → letters_at n receivers ≡ map (letters_of n) js
 
 -- ---- taking the first
 

@@ -6,7 +6,7 @@ ghost use Rattle.ct_order.specs.Letters.{letters_of};
 ghost use Rattle.ct_order.specs.Demands.{AllWaited, AreWaited, Waits, WaitsToArrive, letters_after};
 
 use crate::demand::Demand;
-use crate::letter::{Letter, Letters, letters_to, take_letter};
+use crate::letter::{Letter, Letters, all_letters, take_letter, take_letters};
 use crate::same::same;
 use ct_bytes::items::Items;
 use ct_bytes::memory::NoMemory;
@@ -74,11 +74,16 @@ fn entries_at(journals: &[Journal], node: usize) -> &[JournalEntry]
     }
 }
 
-/// What each entry of the node waits for.
-fn demands_of(alloc: Global, journals: &[Journal], node: usize) -> Result<Items<Demand>, NoMemory>
+/// What each entry of the node waits for, where these are the messages to it.
+fn demands_of(
+    alloc: Global,
+    journals: &[Journal],
+    node: usize,
+    mut letters: Vec<Letters>,
+) -> Result<Items<Demand>, NoMemory>
+    requires { letters.items ≡ map (letters_of node) journals.now }
     ensures { IfOk result (λ ds. AreWaited node (entries_of journals.now node) (map (letters_of node) journals.now) ds) }
 {
-    let mut letters = letters_to(alloc, node, journals)?;
     let mut demands = Vec::new(alloc);
     let entries = entries_at(journals, node);
     for entry in entries {
@@ -88,13 +93,14 @@ fn demands_of(alloc: Global, journals: &[Journal], node: usize) -> Result<Items<
 }
 
 /// What each entry of each journal waits for.
-#[tactic(auto, using(crate::proofs::Bridging::waited_more))]
 pub fn all_demands(alloc: Global, journals: &[Journal]) -> Result<Vec<Items<Demand>>, NoMemory>
     ensures { IfOk result (λ v. AllWaited journals.now v.items) }
 {
+    let mut receivers = all_letters(alloc, journals)?;
     let mut all = Vec::new(alloc);
     for node in 0..journals.len() {
-        all.push(demands_of(alloc, journals, node)?)?;
+        let letters = take_letters(alloc, &mut receivers, node);
+        all.push(demands_of(alloc, journals, node, letters)?)?;
     }
     Ok(all)
 }

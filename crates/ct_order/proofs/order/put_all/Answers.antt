@@ -1,4 +1,4 @@
-use Rattle.std.proofs.Common.{IsTrue, ◌↔◌, List, refl, subst}
+use Rattle.std.proofs.Common.{IsTrue, ◌↔◌, List, subst}
 use Rattle.ct_order.proofs.Bridging.{stand_not, stands}
 use Rattle.ct_order.proofs.order.put_all.Goals as goal
 use Rattle.ct_order.specs.Demands.{Ends, HasAll}

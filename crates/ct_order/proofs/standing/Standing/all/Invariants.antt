@@ -1,5 +1,5 @@
-use Rattle.std.proofs.Common.{◌≡◌, ◌+◌, length, false, if◌then◌else◌}
-use Rattle.ct_order.specs.Demands.{AllHeld, Leads, left, none_stands}
+use Rattle.std.proofs.Common.{◌+◌, if◌then◌else◌}
+use Rattle.ct_order.specs.Demands.{left}
 use Rattle.ct_order.proofs.Meeting.{Sweeping}
 use Rattle.ct_order.proofs.standing.Standing.all.Given as goal
 
