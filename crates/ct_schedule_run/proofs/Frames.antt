@@ -23,7 +23,7 @@ use Rattle.ct_schedule_run.specs.Counted.{if_taken, last_frame, step_done, steps
 
 -- ---- lines
 
-frame_on : (n : ℕ) (xs ys : List Line) → last_frame n (xs ++ ys) ≡ last_frame (last_frame n xs) ys
+pub frame_on : (n : ℕ) (xs ys : List Line) → last_frame n (xs ++ ys) ≡ last_frame (last_frame n xs) ys
 frame_on n [] ys = refl
 frame_on n (x ∷ xs) ys = frame_on _ xs ys
 

@@ -1,6 +1,7 @@
 -- Steps that are played one after the other are a run, and their text is that of the run.
 use Rattle.std.proofs.Common.{◌≡◌, ◌∙◌, ◌+◌, ◌<◌, ◌++◌, ℕ, zero, suc, Bool, true, cond, List, [], ◌∷◌, length, drop, get_or, Result, Ok, Err, refl, sym, ap, ap₂, subst, append_assoc, arith, add-one, drop-cons}
 use Rattle.std.proofs.lemmas.Bool.{and_parts}
+use Rattle.std.proofs.lemmas.Grind.{flat_map-append}
 use Rattle.std.specs.List.{flat_map, list_all}
 use Rattle.ct_call.specs.Rules.{Rules}
 use Rattle.ct_cluster.specs.Cluster.{Cluster, opening, pending}
@@ -15,22 +16,40 @@ use Rattle.ct_tool.specs.Line.{line_text, pending_text}
 use Rattle.ct_schedule_run.specs.Counted.{if_taken, last_frame, step_done, steps_done, with_lines}
 use Rattle.ct_schedule_run.specs.Schedule.{schedule_text, summary_text}
 use Rattle.ct_schedule_run.specs.declared.schedule.Summary.{Summary}
-use Rattle.ct_schedule_run.proofs.Frames.{all_lead}
+use Rattle.ct_schedule_run.proofs.Frames.{all_lead, frame_on}
 
 -- ---- the loop
 
+-- a cluster, the text of lines, and the number of the last message that they tell of
+pub record Told : Type 0 where
+  pub cluster : Cluster
+  pub text : List ℕ
+  pub last : ℕ
+
+-- this text and this number, and then what is told of what was done
+abbrev pub told_after : Config → List ℕ → ℕ → Stepped → Told
+told_after c text last x = record { cluster = x.cluster; text = text ++ flat_map (line_text c) x.lines; last = last_frame last x.lines }
+
+-- some lines are told, and the others later
+told_later : (c : Config) (text : List ℕ) (last : ℕ) (lines : List Line) (x : Stepped)
+    → told_after c (text ++ flat_map (line_text c) lines) (last_frame last lines) x ≡ told_after c text last (with_lines lines x)
+told_later c text last lines x =
+    ap₂ (λ (t : List ℕ) (n : ℕ). record { cluster = x.cluster; text = t; last = n })
+    (append_assoc text (flat_map (line_text c) lines) (flat_map (line_text c) x.lines) ∙ ap (λ (t : List ℕ). text ++ t) (sym (flat_map-append (line_text c) lines x.lines)))
+    (sym (frame_on last lines x.lines))
+
 -- one more
-pub one_more : (c : Config) (rules : Rules) (ss : List Step) (i : ℕ) (s : Step) (w v : Cluster) (before now : List Line) (whole : Stepped) → i < length ss → s ≡ get_or ss i s
-    → v ≡ (step_done c rules w s).cluster → now ≡ before ++ (step_done c rules w s).lines
-    → with_lines before (steps_done c rules w (drop i ss)) ≡ whole → with_lines now (steps_done c rules v (drop (i + 1) ss)) ≡ whole
-one_more c rules ss i s w v before now whole h is e n left =
+pub one_more : (c d : Config) (rules : Rules) (ss : List Step) (i : ℕ) (s : Step) (w v : Cluster) (text now : List ℕ) (last new : ℕ) (whole : Told) → i < length ss → s ≡ get_or ss i s
+    → v ≡ (step_done c rules w s).cluster → now ≡ text ++ flat_map (line_text d) (step_done c rules w s).lines → new ≡ last_frame last (step_done c rules w s).lines
+    → told_after d text last (steps_done c rules w (drop i ss)) ≡ whole → told_after d now new (steps_done c rules v (drop (i + 1) ss)) ≡ whole
+one_more c d rules ss i s w v text now last new whole h is e t n left =
     let x = step_done c rules w s in
     let rest = drop (suc i) ss in
-    let later = steps_done c rules x.cluster rest in
-    ap (λ (j : ℕ). with_lines now (steps_done c rules v (drop j ss))) (add-one i)
-    ∙ ap₂ (λ (l : List Line) (u : Cluster). with_lines l (steps_done c rules u rest)) n e
-    ∙ (λ j. record { cluster = later.cluster; lines = append_assoc before x.lines later.lines j })
-    ∙ ap (λ (l : List Step). with_lines before (steps_done c rules w l)) (ap (λ (t : Step). t ∷ rest) is ∙ sym (drop-cons ss i s h))
+    ap (λ (j : ℕ). told_after d now new (steps_done c rules v (drop j ss))) (add-one i)
+    ∙ ap (λ (u : Cluster). told_after d now new (steps_done c rules u rest)) e
+    ∙ ap₂ (λ (a : List ℕ) (k : ℕ). told_after d a k (steps_done c rules x.cluster rest)) t n
+    ∙ told_later d text last x.lines (steps_done c rules x.cluster rest)
+    ∙ ap (λ (l : List Step). told_after d text last (steps_done c rules w l)) (ap (λ (u : Step). u ∷ rest) is ∙ sym (drop-cons ss i s h))
     ∙ left
 
 -- each is allowed
@@ -71,14 +90,15 @@ sent_none : (c : Config) → length (opening c).sent ≡ 0
 unfolding opening
 sent_none c = refl
 
-pub told_so : (c : Config) (rules : Rules) (ss : List Step) (x : Summary) (w : Cluster) (lines : List Line) → list_all is_allowed ss ≡ true
-    → w ≡ (steps_done c rules (opening c) ss).cluster → lines ≡ (steps_done c rules (opening c) ss).lines
-    → flat_map (line_text c) lines ++ flat_map (pending_text c) (pending w) ++ summary_text c.nodes x (last_frame 0 lines) ≡ schedule_text c rules ss x
-told_so c rules ss x w lines h e n =
+pub told_so : (c : Config) (rules : Rules) (ss : List Step) (x : Summary) (w : Cluster) (text : List ℕ) (last : ℕ) → list_all is_allowed ss ≡ true
+    → w ≡ (steps_done c rules (opening c) ss).cluster → text ≡ flat_map (line_text c) (steps_done c rules (opening c) ss).lines
+    → last ≡ last_frame 0 (steps_done c rules (opening c) ss).lines
+    → text ++ flat_map (pending_text c) (pending w) ++ summary_text c.nodes x last ≡ schedule_text c rules ss x
+told_so c rules ss x w text last h e t n =
     let all = all_agree c rules (opening c) (opening c) [] ss refl h in
     let same : w ≡ (ran c rules (opening c) [] ss).cluster = e ∙ sym all.cluster_is in
-    let printed : lines ≡ (ran c rules (opening c) [] ss).lines = n ∙ sym all.lines_are in
-    let frames : last_frame 0 lines ≡ length w.sent =
-    ap (last_frame 0) n ∙ sym (ap (λ (k : ℕ). last_frame k (steps_done c rules (opening c) ss).lines) (sent_none c)) ∙ all_lead c rules (opening c) ss ∙ sym (ap (λ (u : Cluster). length u.sent) e) in
-    ap (λ (k : ℕ). flat_map (line_text c) lines ++ flat_map (pending_text c) (pending w) ++ summary_text c.nodes x k) frames
-    ∙ ap₂ (λ (l : List Line) (u : Cluster). flat_map (line_text c) l ++ flat_map (pending_text c) (pending u) ++ summary_text c.nodes x (length u.sent)) printed same
+    let printed : text ≡ flat_map (line_text c) (ran c rules (opening c) [] ss).lines = t ∙ ap (flat_map (line_text c)) (sym all.lines_are) in
+    let frames : last ≡ length w.sent =
+    n ∙ sym (ap (λ (k : ℕ). last_frame k (steps_done c rules (opening c) ss).lines) (sent_none c)) ∙ all_lead c rules (opening c) ss ∙ sym (ap (λ (u : Cluster). length u.sent) e) in
+    ap (λ (k : ℕ). text ++ flat_map (pending_text c) (pending w) ++ summary_text c.nodes x k) frames
+    ∙ ap₂ (λ (l : List ℕ) (u : Cluster). l ++ flat_map (pending_text c) (pending u) ++ summary_text c.nodes x (length u.sent)) printed same

@@ -12,7 +12,7 @@ use ct_bytes::memory::NoMemory;
 use ct_call::table::CallTable;
 use ct_cluster::step::{Line, PendingCall, Step, StepFault};
 use ct_msg::config::Config;
-use ct_tool::line::{line_text, pending_text};
+use ct_tool::line::{push_line, push_pending};
 use ct_tool::words::{push, push_number};
 use ct_world::world::World;
 use std::alloc::Global;
@@ -28,47 +28,6 @@ pub struct Summary {
     pub entries: u64,
 }
 
-/// One step, whose lines come after these. One that is refused does nothing.
-fn add(
-    world: &mut World,
-    table: &CallTable,
-    step: &Step,
-    lines: &mut Vec<Line>,
-) -> Result<(), NoMemory>
-    requires { is_allowed step.now ≡ true }
-    ensures config { OnOk result (world.new.config ≡ world.old.config) }
-    ensures cluster { OnOk result (world.new.cluster ≡ (step_done world.old.config (rules_of table.now) world.old.cluster step.now).cluster) }
-    ensures lines { OnOk result (lines.new.items ≡ lines.old.items ++ (step_done world.old.config (rules_of table.now) world.old.cluster step.now).lines) }
-{
-    match world.apply(table, step) {
-        Ok(mut more) => {
-            lines.append(&mut more)?;
-            Ok(())
-        }
-        Err(StepFault::NoMemory) => Err(NoMemory),
-        Err(_) => Ok(()),
-    }
-}
-
-/// The steps, one after the other: the lines that they print.
-#[tactic(auto, using(crate::proofs::Steps::one_more, crate::proofs::Steps::one_allowed))]
-fn play(
-    alloc: Global,
-    world: &mut World,
-    table: &CallTable,
-    steps: &[Step],
-) -> Result<Vec<Line>, NoMemory>
-    requires { list_all is_allowed steps.now ≡ true }
-    ensures cluster { OnOk result (world.new.cluster ≡ (steps_done world.old.config (rules_of table.now) world.old.cluster steps.now).cluster) }
-    ensures lines { IfOk result (λ lines. lines.items ≡ (steps_done world.old.config (rules_of table.now) world.old.cluster steps.now).lines) }
-{
-    let mut lines = Vec::new(alloc);
-    for step in steps {
-        add(world, table, step, &mut lines)?;
-    }
-    Ok(lines)
-}
-
 fn frame_by(before: u64, line: &Line) -> u64
     ensures { result ≡ frame_by before line.now }
 {
@@ -78,11 +37,11 @@ fn frame_by(before: u64, line: &Line) -> u64
     }
 }
 
-/// The number of the last message that lines tell of, or 0.
-fn last_frame(lines: &[Line]) -> u64
-    ensures { result ≡ last_frame 0 lines.now }
+/// The number of the last message that lines tell of, or the one before.
+fn last_frame(before: u64, lines: &[Line]) -> u64
+    ensures { result ≡ last_frame before lines.now }
 {
-    let mut last = 0;
+    let mut last = before;
     for line in lines {
         last = frame_by(last, line);
     }
@@ -90,33 +49,69 @@ fn last_frame(lines: &[Line]) -> u64
 }
 
 /// Adds the text of each line.
-fn push_lines(
-    text: &mut Vec<u8>,
-    alloc: Global,
-    lines: &[Line],
-    config: &Config,
-) -> Result<(), NoMemory>
+fn push_lines(text: &mut Vec<u8>, lines: &[Line], config: &Config) -> Result<(), NoMemory>
     ensures { OnOk result (text.new.items ≡ text.old.items ++ flat_map (line_text config.now) lines.now) }
 {
     for line in lines {
-        let more = line_text(alloc, line, config)?;
-        push(text, &more)?;
+        push_line(text, line, config)?;
     }
     Ok(())
 }
 
-/// Adds a line for each client call that waits.
-fn push_pending(
+/// Takes one step, and adds the text of the lines that it prints: the number of the last message that was told of, where this
+/// was the one before. A step that is refused does nothing.
+fn add(
     text: &mut Vec<u8>,
-    alloc: Global,
-    calls: &[PendingCall],
+    world: &mut World,
+    table: &CallTable,
     config: &Config,
-) -> Result<(), NoMemory>
+    step: &Step,
+    before: u64,
+) -> Result<u64, NoMemory>
+    requires { is_allowed step.now ≡ true }
+    ensures config { OnOk result (world.new.config ≡ world.old.config) }
+    ensures cluster { OnOk result (world.new.cluster ≡ (step_done world.old.config (rules_of table.now) world.old.cluster step.now).cluster) }
+    ensures text { OnOk result (text.new.items ≡ text.old.items ++ flat_map (line_text config.now) (step_done world.old.config (rules_of table.now) world.old.cluster step.now).lines) }
+    ensures last { IfOk result (λ last. last ≡ last_frame before (step_done world.old.config (rules_of table.now) world.old.cluster step.now).lines) }
+{
+    match world.apply(table, step) {
+        Ok(lines) => {
+            push_lines(text, &lines, config)?;
+            Ok(last_frame(before, &lines))
+        }
+        Err(StepFault::NoMemory) => Err(NoMemory),
+        Err(_) => Ok(before),
+    }
+}
+
+/// Adds the text of all lines that the steps print, one after the other: the number of the last message that they tell of, or
+/// 0. The lines of a step become text as soon as it is taken.
+#[tactic(auto, using(crate::proofs::Steps::one_more, crate::proofs::Steps::one_allowed))]
+fn play(
+    text: &mut Vec<u8>,
+    world: &mut World,
+    table: &CallTable,
+    config: &Config,
+    steps: &[Step],
+) -> Result<u64, NoMemory>
+    requires { list_all is_allowed steps.now ≡ true }
+    ensures cluster { OnOk result (world.new.cluster ≡ (steps_done world.old.config (rules_of table.now) world.old.cluster steps.now).cluster) }
+    ensures text { OnOk result (text.new.items ≡ text.old.items ++ flat_map (line_text config.now) (steps_done world.old.config (rules_of table.now) world.old.cluster steps.now).lines) }
+    ensures last { IfOk result (λ last. last ≡ last_frame 0 (steps_done world.old.config (rules_of table.now) world.old.cluster steps.now).lines) }
+{
+    let mut last = 0;
+    for step in steps {
+        last = add(text, world, table, config, step, last)?;
+    }
+    Ok(last)
+}
+
+/// Adds a line for each client call that waits.
+fn push_calls(text: &mut Vec<u8>, calls: &[PendingCall], config: &Config) -> Result<(), NoMemory>
     ensures { OnOk result (text.new.items ≡ text.old.items ++ flat_map (pending_text config.now) calls.now) }
 {
     for call in calls {
-        let more = pending_text(alloc, call, config)?;
-        push(text, &more)?;
+        push_pending(text, call, config)?;
     }
     Ok(())
 }
@@ -133,7 +128,7 @@ fn push_command(text: &mut Vec<u8>, net: bool) -> Result<(), NoMemory>
 }
 
 /// Adds the line that counts.
-fn push_summary(
+pub fn push_summary(
     text: &mut Vec<u8>,
     nodes: u32,
     summary: &Summary,
@@ -165,11 +160,10 @@ pub fn schedule_text(
     ensures { IfOk result (λ text. text.items ≡ schedule_text config.now (rules_of table.now) steps.now summary.now) }
 {
     let mut world = World::new(alloc, config)?;
-    let lines = play(alloc, &mut world, table, steps)?;
-    let calls = world.pending()?;
     let mut text = Vec::new(alloc);
-    push_lines(&mut text, alloc, &lines, config)?;
-    push_pending(&mut text, alloc, &calls, config)?;
-    push_summary(&mut text, config.nodes, summary, last_frame(&lines))?;
+    let last = play(&mut text, &mut world, table, config, steps)?;
+    let calls = world.pending()?;
+    push_calls(&mut text, &calls, config)?;
+    push_summary(&mut text, config.nodes, summary, last)?;
     Ok(text)
 }

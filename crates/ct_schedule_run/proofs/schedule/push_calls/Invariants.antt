@@ -1,7 +1,7 @@
 use Rattle.std.proofs.Common.{◌≡◌, ◌++◌, drop}
 use Rattle.std.specs.List.{flat_map}
 use Rattle.ct_tool.specs.Line.{pending_text}
-use Rattle.ct_schedule_run.proofs.schedule.push_pending.Given as goal
+use Rattle.ct_schedule_run.proofs.schedule.push_calls.Given as goal
 
 -- the text before, and the calls that are left
 abbrev pub invariant-loop-call : goal.invariant-loop-call
