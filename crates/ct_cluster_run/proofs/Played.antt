@@ -1,21 +1,32 @@
 -- What is known of journals that were played.
-use Rattle.std.proofs.Common.{◌≡◌, ℕ, ◌<◌, ◌-◌, ◌^◌, Bool, true, false, List, [], ◌∷◌, length, Option, None, Some, refl, ap, subst, ◌∙◌, inl, inr, arith}
-use Rattle.std.specs.List.{list_all}
+use Rattle.std.proofs.Common.{◌≡◌, ℕ, ◌<◌, ◌-◌, ◌^◌, Bool, true, false, List, [], ◌∷◌, ◌++◌, length, Option, None, Some, refl, sym, ap, ap₂, subst, ◌∙◌, inl, inr, arith}
+use Rattle.std.specs.List.{AllByRecursion, flat_map, list_all}
+use Rattle.std.proofs.lemmas.List.{append-nil}
+use Rattle.ct_msg.specs.declared.client.ClientOp.{ClientOp}
 use Rattle.ct_msg.specs.declared.config.Config.{Config}
 use Rattle.ct_call.specs.Rules.{Rules}
 use Rattle.ct_frame.specs.declared.plan.Plan.{Plan}
-use Rattle.ct_cluster.specs.Cluster.{Cluster, opening}
+use Rattle.ct_cluster.specs.Cluster.{Cluster, opening, pending}
 use Rattle.ct_cluster.specs.Faults.{is_allowed}
+use Rattle.ct_cluster.specs.Traces.{OpenCall, Ran, asked_in, ran}
+use Rattle.ct_cluster.specs.declared.step.PendingCall.{PendingCall}
 use Rattle.ct_cluster.specs.declared.step.Step.{Step}
 use Rattle.ct_journal.specs.Order.{AreInOrder, all_entries}
 use Rattle.ct_journal.specs.Schedules.{IsSchedule, Noted, after_step, keeps_all_up, made_by, none_made, with_made}
 use Rattle.ct_journal.specs.declared.journal.Journal.{Journal}
 use Rattle.ct_join.specs.Joining.{SchedulesRuns}
 pub use Rattle.ct_law_promise.proofs.Running.{law_of_marks, promise}
-use Rattle.ct_order.specs.Order.{tally_of}
+use Rattle.ct_law_scheduled.proofs.Scheduled.{in_order_is_scheduled}
+use Rattle.ct_law_scheduled.specs.Scheduling.{schedule_of}
+use Rattle.ct_law_told.proofs.Walking.{lines_are_those_of_the_run}
+use Rattle.ct_law_told.specs.Laws.{TellsRun}
+use Rattle.ct_order.specs.Order.{IsOrderOf, tally_of}
 use Rattle.ct_plan.specs.Sound.{IsSound, script_of}
 use Rattle.ct_promise.specs.Promises.{IsConfig}
-use Rattle.ct_schedule_run.specs.Schedule.{schedule_text}
+use Rattle.ct_schedule_run.specs.Schedule.{schedule_text, summary_text, told_run}
+use Rattle.ct_schedule_run.specs.declared.schedule.Summary.{Summary}
+use Rattle.ct_telling.specs.Telling.{AreLines, ToldLines, first_telling, told_from}
+use Rattle.ct_tool.specs.Line.{line_text, pending_text}
 use Rattle.ct_troupe.specs.Played.{ArePlayed}
 use Rattle.ct_cluster_run.specs.Running.{HasRunCause, IsScheduleText, Runs, Writes, plan_of, summary_of}
 use Rattle.ct_cluster_run.specs.declared.running.End.{End}
@@ -91,6 +102,35 @@ pub schedule_told : (rules : Rules) (x : Wanted) (p : Plan) (js : List Journal) 
     → text ≡ schedule_text p.config rules ss (summary_of x js) → IsScheduleText rules x js text
 schedule_told rules x p js ss text e sound a s told =
     told_for rules x js ss text (subst IsSound e sound) (subst (λ (q : Plan). ArePlayed rules q js) e a) s (told ∙ ap (λ (q : Plan). schedule_text q.config rules ss (summary_of x js)) e)
+
+not_both : (o : Option (ℕ × ClientOp)) (p : ℕ × ClientOp) → o ≡ None → o ≡ Some p → ⊥
+not_both o p none some = cc
+
+-- no call waits in a cluster where none is open
+none_waits : (xs : List PendingCall) (log : List OpenCall) → AllByRecursion (λ x. asked_in x.call log ≡ Some (x.node, x.op)) xs → ((call : ℕ) → asked_in call log ≡ None) → xs ≡ []
+none_waits [] log all none = refl
+none_waits (x ∷ xs) log all none = absurd (not_both (asked_in x.call log) (x.node, x.op) (none x.call) all.0)
+
+-- the text of a run that tells these lines and ends with no open call
+run_told : (c : Config) (x : Summary) (r : Ran) (u : ToldLines) (lines text : List ℕ) (sent : ℕ) → TellsRun u r → pending r.cluster ≡ [] → lines ≡ flat_map (line_text c) u.lines → sent ≡ u.telling.sent → text ≡ lines ++ summary_text c.nodes x sent
+    → text ≡ told_run c x r
+run_told c x r u lines text sent t none lines_are sent_is is =
+    is
+    ∙ ap₂ (λ (l : List ℕ) (k : ℕ). l ++ summary_text c.nodes x k) (lines_are ∙ ap (flat_map (line_text c)) (sym t.lines) ∙ sym (append-nil (flat_map (line_text c) r.lines))) (sent_is ∙ sym t.sent)
+    ∙ ap (λ (ps : List PendingCall). (flat_map (line_text c) r.lines ++ flat_map (pending_text c) ps) ++ summary_text c.nodes x (length r.cluster.sent)) (sym none)
+
+-- lines that are told of the journals' entries, and then what is counted, are the text of a schedule
+pub lines_told : (rules : Rules) (x : Wanted) (p : Plan) (js : List Journal) (order : List ℕ) (lines text : List ℕ) (sent : ℕ) → p ≡ plan_of x → IsSound p → IsOrderOf js order → AreLines p.config js order lines sent
+    → text ≡ lines ++ summary_text p.config.nodes (summary_of x js) sent → ArePlayed rules p js → IsScheduleText rules x js text
+lines_told rules x p js order lines text sent e sound io al is a =
+    let c : Config = p.config in
+    let o = io.in_order in
+    let ss : List Step = schedule_of js o.order in
+    let r : Ran = ran c rules (opening c) [] ss in
+    let told = lines_are_those_of_the_run c rules js a.runs o al.told (subst (λ (ns : List ℕ). told_from js ns (first_telling js) ≡ Some al.told) io.same al.are_told) in
+    let stands = (promise c rules ss sound.config).3 in
+    let none = none_waits (pending r.cluster) r.log stands.waiting (told.closed al.none_open) in
+    schedule_told rules x p js ss text e sound a (λ d rs runs. in_order_is_scheduled d rs js runs o) (run_told c (summary_of x js) r al.told lines text sent told none al.text_is al.sent_is is)
 
 -- ---- ends
 

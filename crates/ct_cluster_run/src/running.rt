@@ -1,5 +1,6 @@
 //! From the numbers of a plan to the text of what its nodes did.
-ghost use Rattle.std.specs.Prelude.{◌≡◌, ◌≤◌, length, IfOk};
+ghost use Rattle.std.specs.Prelude.{◌≡◌, ◌≤◌, ◌<◌, ◌^◌, length, IfOk, IfSome};
+ghost use Rattle.ct_call.specs.Rules.{Rules};
 ghost use Rattle.ct_call.specs.Shown.{rules_of};
 ghost use Rattle.ct_journal.specs.Order.{AreInOrder, all_entries};
 ghost use Rattle.ct_outside.specs.Causes.{Rose};
@@ -11,13 +12,15 @@ ghost use Rattle.ct_cluster_run.specs.declared.running.End.TheVariants as ended;
 use ct_bytes::memory::NoMemory;
 use ct_call::table::CallTable;
 use ct_frame::plan::Plan;
-use ct_join::join::{JoinFault, join};
+use ct_join::join::{InOrderFault, join_in_order};
 use ct_journal::journal::Journal;
 use ct_order::counts::Tally;
+use ct_order::order::order_of;
 use ct_outside::fault::SinkFault;
 use ct_outside::sink::{Sink, write_all};
 use ct_plan::scripts::cluster_plan;
-use ct_schedule_run::schedule::{Summary, schedule_text};
+use ct_schedule_run::schedule::{Summary, push_summary, schedule_text};
+use ct_telling::telling::{Lines, lines_of};
 use ct_troupe::troupe::{PlayFault, Troupe};
 use std::alloc::Global;
 
@@ -75,8 +78,57 @@ fn summary_of(wanted: &Wanted, journals: &[Journal]) -> Summary
     }
 }
 
-/// The text of a schedule of the journals that a plan left.
+/// The text of a schedule of the journals that a plan left, told from their entries alone. None where that does not tell all.
+#[tactic(auto, using(crate::proofs::Played::lines_told, crate::proofs::Played::few_journals, crate::proofs::Played::in_order_of))]
+fn told_text(
+    alloc: Global,
+    wanted: &Wanted,
+    plan: &Plan,
+    journals: &[Journal],
+) -> Result<Option<Vec<u8>>, NoMemory>
+    requires plan { plan.now ≡ plan_of wanted.now }
+    requires sound { IsSound plan.now }
+    requires few { length journals.now < 2 ^ 32 }
+    requires in_order { AreInOrder journals.now }
+    ensures { IfOk result (λ o. IfSome o (λ text. (rules : Rules) → ArePlayed rules plan.now journals.now → IsScheduleText rules wanted.now journals.now text.items)) }
+{
+    let Some(order) = order_of(alloc, journals)? else {
+        return Ok(None);
+    };
+    let Some(Lines { mut text, sent }) = lines_of(alloc, &plan.config, journals, order.as_slice())?
+    else {
+        return Ok(None);
+    };
+    let summary = summary_of(wanted, journals);
+    push_summary(&mut text, plan.config.nodes, &summary, sent)?;
+    Ok(Some(text))
+}
+
+/// The text of a schedule of the journals that a plan left, as a cluster plays it.
 #[tactic(auto, using(crate::proofs::Played::schedule_told, crate::proofs::Played::few_journals, crate::proofs::Played::in_order_of, crate::proofs::Played::not_refused))]
+fn played_text(
+    alloc: Global,
+    table: &CallTable,
+    wanted: &Wanted,
+    plan: &Plan,
+    journals: &[Journal],
+) -> Result<Vec<u8>, NoMemory>
+    requires plan { plan.now ≡ plan_of wanted.now }
+    requires sound { IsSound plan.now }
+    requires played { ArePlayed (rules_of table.now) plan.now journals.now }
+    ensures { IfOk result (λ text. IsScheduleText (rules_of table.now) wanted.now journals.now text.items) }
+{
+    let steps = match join_in_order(alloc, journals) {
+        Ok(steps) => steps,
+        Err(InOrderFault::NotInOrder) => unreachable!(),
+        Err(InOrderFault::NoMemory) => return Err(NoMemory),
+    };
+    let summary = summary_of(wanted, journals);
+    schedule_text(alloc, table, &plan.config, steps.as_slice(), &summary)
+}
+
+/// The text of a schedule of the journals that a plan left.
+#[tactic(auto, using(crate::proofs::Played::few_journals, crate::proofs::Played::in_order_of))]
 fn text_of(
     alloc: Global,
     table: &CallTable,
@@ -89,13 +141,10 @@ fn text_of(
     requires played { ArePlayed (rules_of table.now) plan.now journals.now }
     ensures { IfOk result (λ text. IsScheduleText (rules_of table.now) wanted.now journals.now text.items) }
 {
-    let steps = match join(alloc, journals) {
-        Ok(steps) => steps,
-        Err(JoinFault::NotInOrder) => unreachable!(),
-        Err(JoinFault::NoMemory) => return Err(NoMemory),
-    };
-    let summary = summary_of(wanted, journals);
-    schedule_text(alloc, table, &plan.config, steps.as_slice(), &summary)
+    match told_text(alloc, wanted, plan, journals)? {
+        Some(text) => Ok(text),
+        None => played_text(alloc, table, wanted, plan, journals),
+    }
 }
 
 /// Writes a text, which ends the run.

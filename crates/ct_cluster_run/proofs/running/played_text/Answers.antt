@@ -3,7 +3,7 @@ use Rattle.std.specs.List.{list_all}
 use Rattle.ct_call.specs.Shown.{rules_of}
 use Rattle.ct_cluster.specs.Faults.{is_allowed}
 use Rattle.ct_cluster_run.proofs.Played.{steps_allowed}
-use Rattle.ct_cluster_run.proofs.running.text_of.Goals as goal
+use Rattle.ct_cluster_run.proofs.running.played_text.Goals as goal
 
 pub schedule_text-requires-clause-allowed : goal.schedule_text-requires-clause-allowed
 schedule_text-requires-clause-allowed g c =
