@@ -1,4 +1,4 @@
-pub mod Taking
+pub mod Carrying
 pub mod Passing
 pub mod Testing
 pub mod Joining

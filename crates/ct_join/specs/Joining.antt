@@ -8,15 +8,15 @@ use Rattle.ct_journal.specs.Order.{AreInOrder}
 use Rattle.ct_journal.specs.Schedules.{IsSchedule}
 use Rattle.ct_journal.specs.declared.journal.Journal.{Journal}
 use Rattle.ct_law_scheduled.specs.Laws.{AreRuns}
-use Rattle.ct_join.specs.declared.join.JoinFault.{JoinFault}
-use Rattle.ct_join.specs.declared.join.JoinFault.TheVariants.{NotInOrder, NoMemory}
+use Rattle.ct_join.specs.declared.join.InOrderFault.{InOrderFault}
+use Rattle.ct_join.specs.declared.join.InOrderFault.TheVariants.{NotInOrder, NoMemory}
 
 -- Schedules: whatever the configuration and the rules by which the journals are runs, the steps are a schedule of them
 abbrev pub SchedulesRuns : List Journal → List Step → Type 0
 SchedulesRuns js ss = (c : Config) (rules : Rules) → AreRuns c rules js → IsSchedule c rules js ss
 
 -- Schedules: journals are joined exactly where they are in order
-abbrev pub Joins : Result (Vec Step Global) JoinFault → List Journal → Type 0
+abbrev pub Joins : Result (Vec Step Global) InOrderFault → List Journal → Type 0
 Joins (Ok steps) js = AreInOrder js × SchedulesRuns js steps.items
 Joins (Err NotInOrder) js = AreInOrder js → ⊥
 Joins (Err NoMemory) js = Unit {0}

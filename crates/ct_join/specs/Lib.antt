@@ -1,3 +1,3 @@
-pub mod Carried
+pub mod Queues
 pub mod Passing
 pub mod Joining

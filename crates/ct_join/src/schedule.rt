@@ -22,7 +22,7 @@ pub fn schedule(alloc: Global, journals: &[Journal], order: &[u32]) -> Result<It
     ensures steps { IfOk result (λ ss. ss ≡ schedule_of journals.now order.now) }
     ensures scheduled { IfOk result (λ ss. (c : Config) (rules : Rules) → AreRuns c rules journals.now → (x : AreInOrder journals.now) → x.order ≡ order.now → IsSchedule c rules journals.now ss) }
 {
-    let mut scheduler = Scheduler::new(alloc, journals.len())?;
+    let mut scheduler = Scheduler::new(alloc, journals)?;
     let mut steps = Vec::new(alloc);
     for node in order {
         scheduler.advance(journals, *node, &mut steps)?;

@@ -1,11 +1,12 @@
 //! How far steps are made.
-ghost use Rattle.std.specs.Prelude.{◌≡◌, ◌+◌, ◌<◌, ◌^◌, ◌++◌, [], replicate, length, IfOk, OnOk, MatchOption, None, Some, slice_get, slice_set};
+ghost use Rattle.std.specs.Prelude.{◌≡◌, ℕ, List, ◌+◌, ◌<◌, ◌^◌, ◌++◌, length, IfOk, OnOk, MatchOption, None, Some, slice_get, slice_set};
 ghost use Rattle.ct_rules_node.specs.Node.{or_zero};
-ghost use Rattle.ct_journal.specs.Order.{entries_of, frames_in, next_entry, taken_of, ticket_after};
-ghost use Rattle.ct_law_scheduled.specs.Scheduling.{carried_after, holder_after, scheduling_after, scheduling_next, steps_for, steps_next, yields};
-ghost use Rattle.ct_join.specs.Passing.{MayPass};
+ghost use Rattle.ct_journal.specs.Order.{frames_in, next_entry, taken_of, ticket_after};
+ghost use Rattle.ct_law_scheduled.specs.Scheduling.{Carried, Scheduling, carried_after, first_scheduling, holder_after, scheduling_after, scheduling_next, steps_for, steps_next, yields};
+ghost use Rattle.ct_join.specs.Passing.{AgreesWith, MayPass};
+ghost use Rattle.ct_join.specs.Queues.{Carry};
 
-use crate::carried::{Carried, drop_first, first_between, post};
+use crate::queues::{Outgoing, drop_first, first_between, no_messages, post};
 use ct_bytes::copies::Duplicate;
 use ct_bytes::memory::NoMemory;
 use ct_cluster::step::Step;
@@ -15,22 +16,22 @@ use std::alloc::Global;
 use std::marker::Model;
 
 /// How far steps are made: how many entries of each journal they make and the last ticket, how many messages these entries
-/// sent, those of them that have not arrived, and who holds the recovery lock.
+/// sent, those of each node that have not arrived, and who holds the recovery lock.
 #[derive(Drop)]
 pub struct Scheduler {
     taken: Vec<usize>,
     ticket: u64,
     sent: u64,
-    carried: Vec<Carried>,
+    outgoing: Vec<Outgoing>,
     holder: Option<u32>,
 }
 
 impl Model for Scheduler {
-    ghost use Rattle.ct_law_scheduled.specs.Scheduling.{Scheduling};
+    ghost use Rattle.ct_join.specs.Passing.{Queueing};
 
-    ghost Value = { Scheduling };
+    ghost Value = { Queueing };
 
-    ghost view = { λ a. record { front = record { taken = a.taken.items; ticket = a.ticket }; sent = a.sent; carried = a.carried.items; holder = a.holder } };
+    ghost view = { λ a. record { front = record { taken = a.taken.items; ticket = a.ticket }; sent = a.sent; outgoing = a.outgoing.items; holder = a.holder } };
 }
 
 /// How many entries of a node are made.
@@ -86,11 +87,12 @@ fn holder_after(node: u32, event: &Event, holder: Option<u32>) -> Option<u32>
 
 /// A message that arrives is taken off.
 #[tactic(auto, unfolding(ct_law_scheduled::specs::Scheduling::carried_after))]
-fn drop_arrived(carried: &mut Vec<Carried>, node: u32, event: &Event)
-    ensures { carried.new.items ≡ carried_after node event.now carried.old.items }
+fn drop_arrived(outgoing: &mut Vec<Outgoing>, node: u32, event: &Event)
+    ensures size { length outgoing.new.items ≡ length outgoing.old.items }
+    ensures carried { (nodes : ℕ) (ms : List Carried) → Carry nodes outgoing.old.items ms → Carry nodes outgoing.new.items (carried_after node event.now ms) }
 {
     match event {
-        Event::Arrive(frame) => drop_first(carried, frame.sender, node),
+        Event::Arrive(frame) => drop_first(outgoing, frame.sender, node),
         Event::Client { .. } => {}
         Event::Retry => {}
         Event::Vacuum { .. } => {}
@@ -113,15 +115,16 @@ fn add_yield(steps: &mut Vec<Step>, node: u32, holder: Option<u32>) -> Result<()
 }
 
 impl Scheduler {
-    /// No steps are made, for so many journals.
-    pub fn new(alloc: Global, journals: usize) -> Result<Scheduler, NoMemory>
-        ensures { IfOk result (λ k. k ≡ record { front = record { taken = replicate journals 0; ticket = 1 }; sent = 0; carried = []; holder = None }) }
+    /// No steps are made, of these journals.
+    #[tactic(auto, using(crate::proofs::Passing::first_agrees))]
+    pub fn new(alloc: Global, journals: &[Journal]) -> Result<Scheduler, NoMemory>
+        ensures { IfOk result (AgreesWith (first_scheduling journals.now)) }
     {
         Ok(Scheduler {
-            taken: Vec::from_elem(alloc, 0, journals)?,
+            taken: Vec::from_elem(alloc, 0, journals.len())?,
             ticket: 1,
             sent: 0,
-            carried: Vec::new(alloc),
+            outgoing: no_messages(alloc, journals.len())?,
             holder: None,
         })
     }
@@ -143,7 +146,8 @@ impl Scheduler {
     /// Adds the steps for an entry of a node with this event.
     #[tactic(auto, unfolding(ct_law_scheduled::specs::Scheduling::steps_for))]
     pub fn add_steps(&self, node: u32, event: &Event, steps: &mut Vec<Step>) -> Result<(), NoMemory>
-        ensures { OnOk result (steps.new.items ≡ steps.old.items ++ steps_for node event.now self.now) }
+        requires { node < length self.now.front.taken }
+        ensures { OnOk result ((k : Scheduling) → AgreesWith k self.now → steps.new.items ≡ steps.old.items ++ steps_for node event.now k) }
     {
         match event {
             Event::Client { op, .. } => steps.push(Step::Client {
@@ -151,7 +155,7 @@ impl Scheduler {
                 op: op.copy()?,
             })?,
             Event::Arrive(frame) => {
-                let number = first_between(self.carried.as_slice(), frame.sender, node);
+                let number = first_between(self.outgoing.as_slice(), frame.sender, node);
                 steps.push(Step::Deliver(number))?
             }
             Event::Retry => steps.push(Step::Retry(node))?,
@@ -172,12 +176,13 @@ impl Scheduler {
     #[tactic(auto, unfolding(ct_law_scheduled::specs::Scheduling::scheduling_after, ct_journal::specs::Order::front_after, ct_journal::specs::Order::taken_of))]
     pub fn pass(&mut self, node: u32, entry: &JournalEntry) -> Result<(), NoMemory>
         requires there { node < length self.old.front.taken }
+        requires sends { node < length self.old.outgoing }
         requires taken { taken_of self.old.front node < 2 ^ 62 }
         requires sent { self.old.sent + length (frames_in entry.now.outs) < 2 ^ 62 }
-        ensures { OnOk result (self.new ≡ scheduling_after node entry.now self.old) }
+        ensures { OnOk result ((k : Scheduling) → AgreesWith k self.old → AgreesWith (scheduling_after node entry.now k) self.new) }
     {
-        drop_arrived(&mut self.carried, node, &entry.event);
-        self.sent = post(&mut self.carried, self.sent, node, entry.outs.as_slice())?;
+        drop_arrived(&mut self.outgoing, node, &entry.event);
+        self.sent = post(&mut self.outgoing, self.sent, node, entry.outs.as_slice())?;
         count_taken(&mut self.taken, node);
         self.ticket = ticket_after(&entry.event, self.ticket);
         self.holder = holder_after(node, &entry.event, self.holder);
@@ -193,8 +198,8 @@ impl Scheduler {
         steps: &mut Vec<Step>,
     ) -> Result<(), NoMemory>
         requires { MayPass node (next_entry journals.now self.old.front node) self.old }
-        ensures steps { OnOk result (steps.new.items ≡ steps.old.items ++ steps_next node (next_entry journals.now self.old.front node) self.old) }
-        ensures passed { OnOk result (self.new ≡ scheduling_next node (next_entry journals.now self.old.front node) self.old) }
+        ensures steps { OnOk result ((k : Scheduling) → AgreesWith k self.old → steps.new.items ≡ steps.old.items ++ steps_next node (next_entry journals.now k.front node) k) }
+        ensures passed { OnOk result ((k : Scheduling) → AgreesWith k self.old → AgreesWith (scheduling_next node (next_entry journals.now k.front node) k) self.new) }
     {
         match self.next_entry(journals, node) {
             Some(entry) => {

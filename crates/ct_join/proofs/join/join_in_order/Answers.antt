@@ -4,7 +4,7 @@ use Rattle.ct_cluster.specs.declared.step.Step.{Step}
 use Rattle.ct_journal.specs.Order.{AreInOrder}
 use Rattle.ct_order.specs.Order.{IsOrderOf}
 use Rattle.ct_join.proofs.Joining.{joins}
-use Rattle.ct_join.proofs.join.join.Goals as goal
+use Rattle.ct_join.proofs.join.join_in_order.Goals as goal
 use Rattle.ct_join.specs.Joining.{SchedulesRuns}
 
 pub returns : goal.returns
