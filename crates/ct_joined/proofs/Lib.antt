@@ -1,0 +1,9 @@
+pub mod Searching
+pub mod Deciding
+pub mod Marking
+pub mod Stepping
+pub mod Reached
+pub mod Rounds
+pub mod Outcome
+pub mod Computed
+pub mod Testing

@@ -1,0 +1,4 @@
+pub mod Going
+pub mod Reaching
+pub mod Joined
+pub mod Worked

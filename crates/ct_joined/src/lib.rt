@@ -1,0 +1,12 @@
+//! The join of any journals that are runs: the steps of a cluster that make their entries, or how far such steps reach at most.
+//!
+//! `joined::join` joins journals; `reach` makes their entries one by one, as long as one may be made; `going` says whether an entry
+//! may be made next, and `making` by which steps.
+#![tactic(auto)]
+
+pub mod going;
+pub mod joined;
+pub mod making;
+pub mod reach;
+#[cfg(test)]
+mod tests;
