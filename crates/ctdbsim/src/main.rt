@@ -1,5 +1,5 @@
 //! The program: standard input, output and error in the place of what the top call reads and writes, three call functions, and
-//! a troupe of one thread a node.
+//! a troupe of one thread a node, whose nodes talk over sockets where it is asked for.
 #![tactic(auto)]
 
 ghost use Rattle.std.specs.Prelude.{◌≡◌, ◌∷◌, [], IfSome};
@@ -7,10 +7,13 @@ ghost use Rattle.ct_call.specs.Rules.{Arg, Join, Old};
 ghost use Rattle.ct_call.specs.Seen.{seen};
 ghost use Rattle.ct_call.specs.Shown.{rules_of};
 
+use ct_both::both::Both;
 use ct_call::rule::Rule;
 use ct_call::table::CallTable;
+use ct_loopback::loopback::Loopback;
 use ct_main::run::run;
 use ct_outside::adapters::{StdSink, StdSource};
+use ct_outside::gate::OpenGate;
 use ct_threads::threads::Threads;
 use std::alloc::Global;
 use std::env::{self, Env};
@@ -58,7 +61,8 @@ fn main(rt: HostRuntime) -> ExitCode {
     let mut input = StdSource::new(rt.stdin());
     let mut out = StdSink::new(rt.stdout());
     let mut err = StdSink::new(rt.stderr());
-    let mut troupe = Threads::new(&rt, alloc);
+    let gates: Vec<OpenGate> = Vec::new(alloc);
+    let mut troupe = Both::new(Threads::new(&rt, alloc, gates), Loopback::new(&rt, alloc));
     ExitCode::from(run(
         alloc,
         words.as_slice(),
