@@ -11,8 +11,9 @@ use Rattle.ct_journal.specs.declared.journal.Journal.{Journal}
 use Rattle.ct_journal.specs.declared.journal.JournalEntry.{JournalEntry}
 use Rattle.ct_join.specs.Passing.{AgreesWith, MayPass, Queueing}
 use Rattle.ct_join.specs.Queues.{Carry}
-use Rattle.ct_law_scheduled.proofs.Fronts.{has_journal, left_after, left_first, left_of, size_after}
+use Rattle.ct_law_scheduled.proofs.Fronts.{has_journal, left_after, left_first, left_of}
 use Rattle.ct_journal.specs.Schedules.{IsSchedule}
+use Rattle.ct_journal.proofs.Ends.{size_after}
 use Rattle.ct_law_scheduled.proofs.Scheduled.{in_order_is_scheduled}
 use Rattle.ct_law_scheduled.specs.Laws.{AreRuns}
 use Rattle.ct_law_scheduled.specs.Scheduling.{Carried, Scheduling, carried_after, carried_of, first_scheduling, holder_after, schedule_from, schedule_of, scheduling_after, scheduling_next, steps_next}

@@ -14,7 +14,7 @@ use Rattle.ct_journal.specs.declared.journal.JournalEntry.{JournalEntry}
 
 -- ---- lists
 
-got_set : (xs : List ℕ) (n x : ℕ) → n < length xs → slice_get (set xs n x) n ≡ Some x
+pub got_set : (xs : List ℕ) (n x : ℕ) → n < length xs → slice_get (set xs n x) n ≡ Some x
 got_set [] n x l = absurd (omega arith)
 got_set (y ∷ ys) zero x l = refl
 got_set (y ∷ ys) (suc n) x l = got_set ys n x (omega arith)
@@ -25,7 +25,7 @@ got_most [] n x = omega arith
 got_most (y ∷ ys) zero x = omega arith
 got_most (y ∷ ys) (suc n) x = got_most ys n x
 
-got_other : (xs : List ℕ) (n m x : ℕ) → m ≢ n → slice_get (set xs n x) m ≡ slice_get xs m
+pub got_other : (xs : List ℕ) (n m x : ℕ) → m ≢ n → slice_get (set xs n x) m ≡ slice_get xs m
 got_other [] n m x ne = refl
 got_other (y ∷ ys) zero zero x ne = absurd (ne refl)
 got_other (y ∷ ys) zero (suc m) x ne = refl
@@ -37,18 +37,18 @@ got_short [] i x e = absurd (cc)
 got_short (y ∷ ys) zero x e = omega arith
 got_short (y ∷ ys) (suc i) x e = let l = got_short ys i x e in omega arith
 
-none_taken : (k m : ℕ) → or_zero (slice_get (replicate k 0) m) ≡ 0
+pub none_taken : (k m : ℕ) → or_zero (slice_get (replicate k 0) m) ≡ 0
 unfolding or_zero
 none_taken zero m = refl
 none_taken (suc k) zero = refl
 none_taken (suc k) (suc m) = none_taken k m
 
-replicated : (k x : ℕ) → length (replicate k x) ≡ k
+pub replicated : (k x : ℕ) → length (replicate k x) ≡ k
 replicated zero x = refl
 replicated (suc k) x = ap suc (replicated k x)
 
 -- who has an entry has a journal
-is_there : (js : List Journal) (n k : ℕ) (x : JournalEntry) → slice_get (or_no_entries (slice_get js n)) k ≡ Some x → n < length js
+pub is_there : (js : List Journal) (n k : ℕ) (x : JournalEntry) → slice_get (or_no_entries (slice_get js n)) k ≡ Some x → n < length js
 unfolding or_no_entries
 is_there [] n k x e = absurd (cc)
 is_there (j ∷ js) zero k x e = omega arith
@@ -56,11 +56,11 @@ is_there (j ∷ js) (suc n) k x e = let l = is_there js n k x e in omega arith
 
 -- ---- one entry more
 
-taken_other : (f : Front) (n m : ℕ) (e : Event) → m ≢ n → taken_of (front_after n e f) m ≡ taken_of f m
+pub taken_other : (f : Front) (n m : ℕ) (e : Event) → m ≢ n → taken_of (front_after n e f) m ≡ taken_of f m
 unfolding taken_of front_after
 taken_other f n m e ne = ap or_zero (got_other f.taken n m (or_zero (slice_get f.taken n) + 1) ne)
 
-taken_own : (f : Front) (n : ℕ) (e : Event) → n < length f.taken → taken_of (front_after n e f) n ≡ taken_of f n + 1
+pub taken_own : (f : Front) (n : ℕ) (e : Event) → n < length f.taken → taken_of (front_after n e f) n ≡ taken_of f n + 1
 unfolding taken_of front_after or_zero
 taken_own f n e l = ap or_zero (got_set f.taken n (or_zero (slice_get f.taken n) + 1) l)
 
@@ -131,7 +131,7 @@ has_journal : (js : List Journal) (f : Front) (n : ℕ) (x : JournalEntry) → C
 unfolding next_entry entries_of
 has_journal js f n x h next = let l = is_there js n (taken_of f n) x next in let s = h.size in omega arith
 
-size_after : (f : Front) (n : ℕ) (e : Event) → length (front_after n e f).taken ≡ length f.taken
+pub size_after : (f : Front) (n : ℕ) (e : Event) → length (front_after n e f).taken ≡ length f.taken
 unfolding front_after
 size_after f n e = length-set f.taken n (taken_of f n + 1)
 

@@ -6,7 +6,6 @@ use Rattle.ct_rules_node.specs.Coming.{may_come}
 use Rattle.ct_rules_node.specs.Node.{Node, opening, or_zero}
 use Rattle.ct_rules_node.specs.Rounds.{on_freezeack}
 use Rattle.ct_rules_node.specs.Steps.{arrives, happens, if_sound}
-use Rattle.ct_rules_node.specs.Turn.{begins}
 use Rattle.ct_cluster.specs.Cluster.{everyone, numbers, sent_at}
 use Rattle.ct_cluster.specs.Cluster.{opening as cluster_opening}
 use Rattle.ct_frame.specs.declared.event.Event.{Event}
@@ -16,6 +15,7 @@ use Rattle.ct_journal.specs.Runs.{IsRun}
 use Rattle.ct_journal.specs.Worked.{pair_config}
 use Rattle.ct_journal.specs.declared.journal.Journal.{Journal}
 use Rattle.ct_journal.specs.declared.journal.JournalEntry.{JournalEntry}
+use Rattle.ct_journal.proofs.Computed.{turned}
 use Rattle.ct_law_scheduled.specs.Laws.{AreRuns, IsRunOf}
 use Rattle.ct_law_fronts.specs.Counts.{AreGreatest, AreNotTooMany, count_at, entry_after, has_ticket, begins_round}
 use Rattle.ct_law_fronts.specs.Laws.{NoneMayGo}
@@ -24,10 +24,6 @@ use Rattle.ct_law_fronts.specs.Worked.{NoneIsReached, unsent, unsent_journals}
 use Rattle.ct_law_fronts.proofs.Held.{held_is_greatest}
 use Rattle.ct_law_fronts.proofs.OneMore.{none_is_made}
 use Rattle.ct_law_fronts.proofs.Whole.{less_is_stuck}
-
--- the node after a step that is not refused
-turned : ℕ → Event → Node → Node
-turned me e n = (happens pair_config [] me (begins n) e).node
 
 first_runs : (end : Node) × (IsRun pair_config [] 0 (opening pair_config (everyone pair_config)) (record { event = event.Arrive unsent; outs = [] } ∷ []) end)
 unfolding IsRun turned happens arrives if_sound is_sound named_in members_in table_in ptables_in addresses_in is_listed are_all on_freezeack opening everyone numbers may_come

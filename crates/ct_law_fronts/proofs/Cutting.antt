@@ -11,7 +11,7 @@ use Rattle.ct_journal.specs.Order.{entries_of, or_no_entries}
 use Rattle.ct_journal.specs.Schedules.{entry_under, event_under, has_call, is_call}
 use Rattle.ct_journal.specs.declared.journal.Journal.{Journal}
 use Rattle.ct_journal.specs.declared.journal.JournalEntry.{JournalEntry}
-use Rattle.ct_law_scheduled.proofs.Fronts.{got_other, got_set, none_taken}
+use Rattle.ct_journal.proofs.Ends.{got_set, got_other, none_taken}
 use Rattle.ct_law_fronts.specs.Counts.{count_at, cut_journal, cut_to, has_ticket, begins_round, with_one_more}
 use Rattle.ct_law_fronts.specs.Making.{no_counts}
 

@@ -8,8 +8,9 @@ use Rattle.ct_cluster.specs.Cluster.{Cluster, Sent, sent_at}
 use Rattle.ct_journal.specs.Order.{frames_in}
 use Rattle.ct_journal.specs.Schedules.{Noted, entry_under, made_at}
 use Rattle.ct_journal.specs.declared.journal.JournalEntry.{JournalEntry}
+use Rattle.ct_journal.proofs.Computed.{not_made}
 use Rattle.ct_law_renumbered.proofs.Runs.{sends_renumbered}
-use Rattle.ct_law_scheduled.proofs.Numbering.{made_other, made_own}
+use Rattle.ct_law_scheduled.proofs.Numbering.{made_own}
 use Rattle.ct_law_fronts.specs.Making.{is_not_dropped}
 use Rattle.ct_law_fronts.proofs.Steps.{frames}
 use Rattle.ct_law_fronts.proofs.Told.{sent_by}
@@ -54,7 +55,7 @@ sent_at_one m (y ∷ ys) h = ⊎_elim
       l.0,
       ⊎_elim
           (λ (same : y.node ≡ l.0). subst (λ (xs : List JournalEntry). Has m (sent_in xs)) (sym (made_own l.0 y ys same)) (has_right m (frames_in y.entry.outs) (sent_in (made_at l.0 ys)) l.1))
-          (λ (ne : y.node ≡ l.0 → ⊥). subst (λ (xs : List JournalEntry). Has m (sent_in xs)) (sym (made_other l.0 y ys ne)) l.1)
+          (λ (ne : y.node ≡ l.0 → ⊥). subst (λ (xs : List JournalEntry). Has m (sent_in xs)) (sym (not_made l.0 y ys ne)) l.1)
           (cases_eq y.node l.0),
     )))
     (has_cases m (frames_in y.entry.outs) (sent_by ys) h)
@@ -67,7 +68,7 @@ sent_of_one m n (y ∷ ys) h = ⊎_elim
     (λ (now : Has m (frames_in y.entry.outs)). has_left m (frames_in y.entry.outs) (sent_by ys) now)
     (λ (later : Has m (sent_in (made_at n ys))). has_right m (frames_in y.entry.outs) (sent_by ys) (sent_of_one m n ys later))
     (has_cases m (frames_in y.entry.outs) (sent_in (made_at n ys)) (subst (λ (xs : List JournalEntry). Has m (sent_in xs)) (made_own n y ys same) h)))
-    (λ (ne : y.node ≡ n → ⊥). has_right m (frames_in y.entry.outs) (sent_by ys) (sent_of_one m n ys (subst (λ (xs : List JournalEntry). Has m (sent_in xs)) (made_other n y ys ne) h)))
+    (λ (ne : y.node ≡ n → ⊥). has_right m (frames_in y.entry.outs) (sent_by ys) (sent_of_one m n ys (subst (λ (xs : List JournalEntry). Has m (sent_in xs)) (not_made n y ys ne) h)))
     (cases_eq y.node n)
 
 -- messages have no numbers of calls

@@ -20,7 +20,8 @@ use Rattle.ct_cluster.specs.declared.step.Step.{Step}
 use Rattle.ct_journal.specs.Order.{frames_in, ticket_after}
 use Rattle.ct_journal.specs.Schedules.{Given, Noted, after_step, given_by, has_call, is_call, made_at, made_by, none_made, noted_of, outs_in, with_made}
 use Rattle.ct_journal.specs.declared.journal.JournalEntry.{JournalEntry}
-use Rattle.ct_law_scheduled.proofs.Numbering.{asked_after, asked_more, asked_most, made_other, made_own}
+use Rattle.ct_journal.proofs.Computed.{not_made}
+use Rattle.ct_law_scheduled.proofs.Numbering.{asked_after, asked_more, asked_most, made_own}
 use Rattle.ct_law_scheduled.proofs.Taking.{became}
 use Rattle.ct_law_scheduled.proofs.Walking.{all_true, node_other, node_own, still_node}
 use Rattle.ct_law_fronts.specs.Counts.{has_ticket, begins_round}
@@ -71,7 +72,7 @@ made_now n ms x = made_more n ms (record { node = n; entry = x } ∷ []) ∙ ap 
 
 pub made_else : (n m : ℕ) (ms : List Noted) (x : JournalEntry) → m ≢ n → made_at m (ms ++ record { node = n; entry = x } ∷ []) ≡ made_at m ms
 unfolding made_at
-made_else n m ms x ne = made_more m ms (record { node = n; entry = x } ∷ []) ∙ ap (λ (l : List JournalEntry). made_at m ms ++ l) (made_other m (record { node = n; entry = x }) [] (λ e. ne (sym e))) ∙ append-nil (made_at m ms)
+made_else n m ms x ne = made_more m ms (record { node = n; entry = x } ∷ []) ∙ ap (λ (l : List JournalEntry). made_at m ms ++ l) (not_made m (record { node = n; entry = x }) [] (λ e. ne (sym e))) ∙ append-nil (made_at m ms)
 
 pub sent_more : (ms : List Noted) (y : Noted) → sent_by (ms ++ y ∷ []) ≡ sent_by ms ++ frames_in y.entry.outs
 unfolding sent_by

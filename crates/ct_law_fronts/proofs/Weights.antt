@@ -6,9 +6,10 @@ use Rattle.ct_journal.specs.Order.{all_entries, count_sent, entries_of, frames_i
 use Rattle.ct_journal.specs.Schedules.{IsRenumbered, Noted, entry_under, made_at}
 use Rattle.ct_journal.specs.declared.journal.Journal.{Journal}
 use Rattle.ct_journal.specs.declared.journal.JournalEntry.{JournalEntry}
+use Rattle.ct_journal.proofs.Computed.{not_made}
 use Rattle.ct_law_renumbered.proofs.Runs.{sends_renumbered}
 use Rattle.ct_law_scheduled.proofs.Fronts.{sent_both, weight}
-use Rattle.ct_law_scheduled.proofs.Numbering.{made_other, made_own}
+use Rattle.ct_law_scheduled.proofs.Numbering.{made_own}
 use Rattle.ct_law_fronts.specs.Counts.{AreNotTooMany}
 use Rattle.ct_law_fronts.proofs.Told.{ArePlaced, sent_by}
 
@@ -59,7 +60,7 @@ placed_now c y ys p = ⊎_elim
 placed_later : (c : Config) (y : Noted) (ys : List Noted) → ArePlaced c (y ∷ ys) → ArePlaced c ys
 placed_later c y ys p n g = ⊎_elim
     (λ (e : y.node ≡ n). absurd (let l = placed_now c y ys p in omega arith))
-    (λ (ne : y.node ≡ n → ⊥). sym (made_other n y ys ne) ∙ p n g)
+    (λ (ne : y.node ≡ n → ⊥). sym (not_made n y ys ne) ∙ p n g)
     (cases_eq y.node n)
 
 made_total : (c : Config) (ms : List Noted) → ArePlaced c ms → total c.nodes (λ n. weight (made_at n ms)) ≡ length ms + length (sent_by ms)
@@ -71,7 +72,7 @@ made_total c (y ∷ ys) p =
     let l = length-append (frames_in y.entry.outs) (sent_by ys) in
     let b = total_more c.nodes y.node d (λ n. weight (made_at n ys)) (λ n. weight (made_at n (y ∷ ys))) (placed_now c y ys p)
     (ap weight (made_own y.node y ys refl) ∙ omega arith)
-    (λ m ne. ap weight (made_other m y ys (λ e. ne (sym e)))) in
+    (λ m ne. ap weight (not_made m y ys (λ e. ne (sym e)))) in
     omega arith
 
 weight_under : (f : ℕ → ℕ) (xs : List JournalEntry) → weight (map (entry_under f) xs) ≡ weight xs

@@ -12,7 +12,8 @@ use Rattle.ct_journal.specs.Order.{Front, MayStand, Stand, entries_of, first_fro
 use Rattle.ct_journal.specs.Schedules.{IsRenumbered, IsSchedule, made_at}
 use Rattle.ct_journal.specs.declared.journal.Journal.{Journal}
 use Rattle.ct_journal.specs.declared.journal.JournalEntry.{JournalEntry}
-use Rattle.ct_law_scheduled.proofs.Fronts.{has_journal, past_first, past_other, past_own, size_after}
+use Rattle.ct_journal.proofs.Ends.{size_after}
+use Rattle.ct_law_scheduled.proofs.Fronts.{has_journal, past_first, past_other, past_own}
 use Rattle.ct_law_scheduled.proofs.Scheduled.{in_order_is_scheduled}
 use Rattle.ct_law_scheduled.specs.Scheduling.{schedule_of}
 use Rattle.ct_law_fronts.specs.Counts.{AreAll, AreReached, count_at, cut_to, has_ticket, begins_round}

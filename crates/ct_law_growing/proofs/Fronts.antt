@@ -1,17 +1,17 @@
 -- A list of entries stays as it is while journals get more at their ends.
-use Rattle.std.proofs.Common.{◌≡◌, ◌≢◌, ℕ, zero, suc, ◌+◌, ◌<◌, ◌≤◌, ⊎_elim, List, [], ◌∷◌, ◌++◌, length, take, Some, arith, refl, sym, ap, ◌∙◌, subst}
+use Rattle.std.proofs.Common.{◌≡◌, ℕ, ◌+◌, ◌<◌, ◌≤◌, ⊎_elim, List, [], ◌∷◌, ◌++◌, length, take, Some, arith, refl, sym, ap, ◌∙◌, subst}
 use Rattle.std.proofs.lemmas.Bool.{cases_eq}
-use Rattle.std.proofs.lemmas.List.{length-set, take-append-le}
+use Rattle.std.proofs.lemmas.List.{take-append-le}
 use Rattle.std.proofs.lemmas.Option.{slice_get_within}
 use Rattle.std.specs.Prelude.{replicate, slice_get}
 use Rattle.ct_frame.specs.declared.event.Event.{Event}
 use Rattle.ct_frame.specs.declared.event.Event.TheVariants as event
-use Rattle.ct_rules_node.specs.Node.{or_zero}
 use Rattle.ct_journal.specs.Order.{Front, MayStand, Stand, entries_of, first_front, front_after, next_entry, past_of, taken_of}
 use Rattle.ct_journal.specs.declared.journal.Journal.{Journal}
 use Rattle.ct_journal.specs.declared.journal.JournalEntry.{JournalEntry}
+use Rattle.ct_journal.proofs.Ends.{none_taken, replicated, size_after, taken_other, taken_own}
 use Rattle.ct_law_growing.specs.Growing.{grown}
-use Rattle.ct_law_growing.proofs.Lists.{append_nil, got_before, got_other, got_set, grown_other, grown_own, has_journal}
+use Rattle.ct_law_growing.proofs.Lists.{append_nil, got_before, grown_other, grown_own, has_journal}
 
 -- each journal has the entries of the other, and perhaps more behind them
 abbrev pub IsFrontOf : List Journal → List Journal → Type 0
@@ -24,28 +24,6 @@ grown_front n x js l m = ⊎_elim
     (cases_eq m n)
 
 -- ---- one entry more in a front
-
-pub taken_other : (f : Front) (n m : ℕ) (e : Event) → m ≢ n → taken_of (front_after n e f) m ≡ taken_of f m
-unfolding taken_of front_after
-taken_other f n m e ne = ap or_zero (got_other f.taken n m (or_zero (slice_get f.taken n) + 1) ne)
-
-pub taken_own : (f : Front) (n : ℕ) (e : Event) → n < length f.taken → taken_of (front_after n e f) n ≡ taken_of f n + 1
-unfolding taken_of front_after or_zero
-taken_own f n e l = ap or_zero (got_set f.taken n (or_zero (slice_get f.taken n) + 1) l)
-
-pub size_after : (f : Front) (n : ℕ) (e : Event) → length (front_after n e f).taken ≡ length f.taken
-unfolding front_after
-size_after f n e = length-set f.taken n (taken_of f n + 1)
-
-none_taken : (k m : ℕ) → or_zero (slice_get (replicate k 0) m) ≡ 0
-unfolding or_zero
-none_taken zero m = refl
-none_taken (suc k) zero = refl
-none_taken (suc k) (suc m) = none_taken k m
-
-replicated : (k x : ℕ) → length (replicate k x) ≡ k
-replicated zero x = refl
-replicated (suc k) x = ap suc (replicated k x)
 
 pub first_none : (js : List Journal) (m : ℕ) → taken_of (first_front js) m ≡ 0
 unfolding first_front taken_of

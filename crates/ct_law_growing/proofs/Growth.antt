@@ -11,9 +11,10 @@ use Rattle.ct_journal.specs.Going.{IsWhole}
 use Rattle.ct_journal.specs.Order.{Front, MayStand, Stand, all_entries, arrived_from, count_arrived, count_sent, entries_of, first_front, frames_in, frames_to, front_after, next_entry, past_of, sent_to, taken_of, ticket_after}
 use Rattle.ct_journal.specs.declared.journal.Journal.{Journal}
 use Rattle.ct_journal.specs.declared.journal.JournalEntry.{JournalEntry}
+use Rattle.ct_journal.proofs.Ends.{size_after, taken_other, taken_own}
 use Rattle.ct_law_growing.specs.Growing.{Carries, IsUnderWay, MayFollow, count_queued, from_node, grown, is_own, posted, queue_at, taken_off}
 use Rattle.ct_law_growing.specs.Laws.{AllArrives, BeginsToGrow, CountsGrown, GoesOn, GrowsInOrder}
-use Rattle.ct_law_growing.proofs.Fronts.{first_below, first_none, first_places, first_same, first_ticket, grown_front, may_same, one_more, size_after, still_stand, taken_other, taken_own}
+use Rattle.ct_law_growing.proofs.Fronts.{first_below, first_none, first_places, first_same, first_ticket, grown_front, may_same, one_more, still_stand}
 use Rattle.ct_law_growing.proofs.Lists.{append_nil, arrived_one, got_after, grown_arrived, grown_count, grown_length, grown_other, grown_own, grown_sent, no_entries, sent_one, take_all}
 use Rattle.ct_law_growing.proofs.Queues.{carries_more, count_posted, count_taken, from_more, from_other, from_own, none_queued, posted_at, posted_length, taken_carries, taken_length, taken_others}
 

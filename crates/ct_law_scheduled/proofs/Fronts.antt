@@ -1,5 +1,5 @@
 -- What an entry more makes of a front: what stands in the list of its node, and what is left.
-use Rattle.std.proofs.Common.{◌≡◌, ◌≢◌, ℕ, zero, suc, ◌+◌, ◌<◌, List, [], ◌∷◌, ◌++◌, length, set, drop, take, replicate, Some, append-nil, append_assoc, true, false, length-append, length-set, arith, refl, sym, ap, ◌∙◌}
+use Rattle.std.proofs.Common.{◌≡◌, ◌≢◌, ℕ, zero, suc, ◌+◌, ◌<◌, List, [], ◌∷◌, ◌++◌, length, set, drop, take, Some, append-nil, append_assoc, true, false, length-append, arith, refl, sym, ap, ◌∙◌}
 use Rattle.std.proofs.lemmas.List.{drop_all}
 use Rattle.std.specs.Prelude.{slice_get}
 use Rattle.ct_frame.specs.declared.event.Event.{Event}
@@ -8,24 +8,13 @@ use Rattle.ct_rules_node.specs.Node.{or_zero}
 use Rattle.ct_journal.specs.Order.{Front, all_entries, arrived_from, count_sent, entries_of, first_front, frames_in, frames_to, front_after, is_from, next_entry, or_no_entries, past_of, sent_to, taken_of}
 use Rattle.ct_journal.specs.declared.journal.Journal.{Journal}
 use Rattle.ct_journal.specs.declared.journal.JournalEntry.{JournalEntry}
+use Rattle.ct_journal.proofs.Ends.{none_taken, is_there, taken_other, taken_own}
 
 -- the entries of node n that do not stand in the list so far
 unfoldable pub rest_of : List Journal → Front → ℕ → List JournalEntry
 rest_of js f n = drop (taken_of f n) (entries_of js n)
 
 -- ---- lists
-
-pub got_set : (xs : List ℕ) (n x : ℕ) → n < length xs → slice_get (set xs n x) n ≡ Some x
-got_set [] n x l = absurd (omega arith)
-got_set (y ∷ ys) zero x l = refl
-got_set (y ∷ ys) (suc n) x l = got_set ys n x (omega arith)
-
-pub got_other : (xs : List ℕ) (n m x : ℕ) → m ≢ n → slice_get (set xs n x) m ≡ slice_get xs m
-got_other [] n m x ne = refl
-got_other (y ∷ ys) zero zero x ne = absurd (ne refl)
-got_other (y ∷ ys) zero (suc m) x ne = refl
-got_other (y ∷ ys) (suc n) zero x ne = refl
-got_other (y ∷ ys) (suc n) (suc m) x ne = got_other ys n m x (λ e. ne (ap suc e))
 
 drop_next : (xs : List JournalEntry) (k : ℕ) (x : JournalEntry) → slice_get xs k ≡ Some x → drop k xs ≡ x ∷ drop (k + 1) xs
 drop_next [] k x e = absurd (cc)
@@ -37,32 +26,7 @@ take_next [] k x e = absurd (cc)
 take_next (y ∷ ys) zero x e = cc
 take_next (y ∷ ys) (suc k) x e = (let more : suc k + 1 ≡ suc (k + 1) = omega arith in ap (λ (m : ℕ). take m (y ∷ ys)) more) ∙ ap (λ (l : List JournalEntry). y ∷ l) (take_next ys k x e)
 
-pub none_taken : (k m : ℕ) → or_zero (slice_get (replicate k 0) m) ≡ 0
-unfolding or_zero
-none_taken zero m = refl
-none_taken (suc k) zero = refl
-none_taken (suc k) (suc m) = none_taken k m
-
--- who has an entry has a journal
-pub is_there : (js : List Journal) (n k : ℕ) (x : JournalEntry) → slice_get (or_no_entries (slice_get js n)) k ≡ Some x → n < length js
-unfolding or_no_entries
-is_there [] n k x e = absurd (cc)
-is_there (j ∷ js) zero k x e = omega arith
-is_there (j ∷ js) (suc n) k x e = let l = is_there js n k x e in omega arith
-
 -- ---- one entry more
-
-taken_other : (f : Front) (n m : ℕ) (e : Event) → m ≢ n → taken_of (front_after n e f) m ≡ taken_of f m
-unfolding taken_of front_after
-taken_other f n m e ne = ap or_zero (got_other f.taken n m (or_zero (slice_get f.taken n) + 1) ne)
-
-taken_own : (f : Front) (n : ℕ) (e : Event) → n < length f.taken → taken_of (front_after n e f) n ≡ taken_of f n + 1
-unfolding taken_of front_after or_zero
-taken_own f n e l = ap or_zero (got_set f.taken n (or_zero (slice_get f.taken n) + 1) l)
-
-pub size_after : (f : Front) (n : ℕ) (e : Event) → length (front_after n e f).taken ≡ length f.taken
-unfolding front_after
-size_after f n e = length-set f.taken n (taken_of f n + 1)
 
 pub has_journal : (js : List Journal) (f : Front) (n : ℕ) (x : JournalEntry) → next_entry js f n ≡ Some x → n < length js
 unfolding next_entry entries_of

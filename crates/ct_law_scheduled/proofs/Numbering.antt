@@ -8,6 +8,7 @@ use Rattle.ct_frame.specs.declared.event.Event.TheVariants as event
 use Rattle.ct_journal.specs.Order.{numbers_of_calls}
 use Rattle.ct_journal.specs.Schedules.{Noted, has_call, is_call, made_at}
 use Rattle.ct_journal.specs.declared.journal.JournalEntry.{JournalEntry}
+use Rattle.ct_journal.proofs.Computed.{not_made}
 
 -- how many calls were asked once an event has come
 unfoldable pub asked_after : Event → ℕ → ℕ
@@ -113,10 +114,6 @@ pub made_own : (n : ℕ) (x : Noted) (xs : List Noted) → x.node ≡ n → made
 unfolding made_at
 made_own n x xs same = ap (λ (b : Bool). cond b (x.entry ∷ made_at n xs) (made_at n xs)) (eq-eqb x.node n same)
 
-pub made_other : (n : ℕ) (x : Noted) (xs : List Noted) → x.node ≢ n → made_at n (x ∷ xs) ≡ made_at n xs
-unfolding made_at
-made_other n x xs ne = ap (λ (b : Bool). cond b (x.entry ∷ made_at n xs) (made_at n xs)) (ne_eqb x.node n ne)
-
 -- another call than the first gets its number later
 pub number_later : (k : ℕ) (x : Noted) (xs : List Noted) (n a : ℕ) → is_asked n a x ≡ false → number_in k (x ∷ xs) n a ≡ number_in (asked_after x.entry.event k) xs n a
 unfolding number_in
@@ -159,7 +156,7 @@ number_more k (x ∷ xs) n a h = cond_both (is_asked n a x) (k + 1) (number_in (
     (λ no. (
     let later : has_call a (made_at n xs) ≡ true = ⊎_elim
     (λ (same : x.node ≡ n). not_first a x.entry (made_at n xs) (subst (λ (l : List JournalEntry). has_call a l ≡ true) (made_own n x xs same) h) (sym (own_asks n a x same) ∙ no))
-    (λ (ne : x.node ≢ n). subst (λ (l : List JournalEntry). has_call a l ≡ true) (made_other n x xs ne) h)
+    (λ (ne : x.node ≢ n). subst (λ (l : List JournalEntry). has_call a l ≡ true) (not_made n x xs ne) h)
     (cases_eq x.node n) in
     let f = number_more (asked_after x.entry.event k) xs n a later in
     let m = asked_more x.entry.event k in
@@ -196,7 +193,7 @@ numbers_rise k (x ∷ xs) n a b asc ha hb l = ⊎_elim
     (cases_Bool (is_call b x.entry.event))))
     (cases_Bool (is_call a x.entry.event))))
     (λ (ne : x.node ≡ n → ⊥). (
-    let same = made_other n x xs ne in
+    let same = not_made n x xs ne in
     let r = numbers_rise (asked_after x.entry.event k) xs n a b
     (subst (λ (l : List JournalEntry). ascends nat_lt (numbers_of_calls l) ≡ true) same asc)
     (subst (λ (l : List JournalEntry). has_call a l ≡ true) same ha)

@@ -14,12 +14,14 @@ use Rattle.ct_journal.specs.Runs.{IsRun}
 use Rattle.ct_journal.specs.Schedules.{IsSchedule, Noted, entry_under, has_call, made_at, made_by, none_made, with_made}
 use Rattle.ct_journal.specs.declared.journal.Journal.{Journal}
 use Rattle.ct_journal.specs.declared.journal.JournalEntry.{JournalEntry}
+use Rattle.ct_journal.proofs.Computed.{not_made}
+use Rattle.ct_journal.proofs.Ends.{size_after}
 use Rattle.ct_law_renumbered.proofs.Runs.{journals_renumbered, sends_renumbered}
 use Rattle.ct_law_renumbered.specs.Laws.{JournalsRenumbered, SendsRenumbered}
 use Rattle.ct_law_renumbered.specs.Renumbered.{node_under}
 use Rattle.ct_law_scheduled.proofs.Carrying.{Rising, between}
-use Rattle.ct_law_scheduled.proofs.Fronts.{has_journal, left_after, left_first, left_of, past_first, rest_first, rest_of, rest_other, rest_own, rest_whole, size_after}
-use Rattle.ct_law_scheduled.proofs.Numbering.{made_other, made_own, number_few, number_in, numbers_rise}
+use Rattle.ct_law_scheduled.proofs.Fronts.{has_journal, left_after, left_first, left_of, past_first, rest_first, rest_of, rest_other, rest_own, rest_whole}
+use Rattle.ct_law_scheduled.proofs.Numbering.{made_own, number_few, number_in, numbers_rise}
 use Rattle.ct_law_scheduled.proofs.Queues.{Mailed, Queue}
 use Rattle.ct_law_scheduled.proofs.Walking.{Reached, Runs, given, goes, goes_on}
 use Rattle.ct_law_scheduled.specs.Laws.{AreRuns, InOrderIsScheduled}
@@ -47,7 +49,7 @@ laid_at js f (m ∷ ns) g s n size whole =
     let r : made_at n more ≡ rest_of js (front_after m x.event f) n = laid_at js (front_after m x.event f) ns g s.3 n (size_after f m x.event ∙ size) whole in
     ⊎_elim
     (λ (same : m ≡ n). made_own n head more same ∙ ap (λ (l : List JournalEntry). x ∷ l) r ∙ subst (λ (i : ℕ). x ∷ rest_of js (front_after m x.event f) i ≡ rest_of js f i) same (sym (rest_own js f m x (has_place js f m x size s.1) s.1)))
-    (λ (ne : m ≡ n → ⊥). made_other n head more ne ∙ r ∙ rest_other js f m n x.event (λ q. ne (sym q)))
+    (λ (ne : m ≡ n → ⊥). not_made n head more ne ∙ r ∙ rest_other js f m n x.event (λ q. ne (sym q)))
     (cases_eq m n)
 
 laid_few : (js : List Journal) (f : Front) (order : List ℕ) (g : Front) (s : Stand js f order g) → length f.taken ≡ length js → length (laid js f order g s) ≤ left_of js f.taken
@@ -72,7 +74,7 @@ renumbered_at number n (y ∷ ys) = ⊎_elim
     ∙ subst (λ (i : ℕ). entry_under (number y.node) y.entry ∷ made_at n (map (renumbered number) ys) ≡ entry_under (number i) y.entry ∷ map (entry_under (number n)) (made_at n ys)) same
     (ap (λ (l : List JournalEntry). entry_under (number y.node) y.entry ∷ l) (renumbered_at number n ys))
     ∙ ap (map (entry_under (number n))) (sym (made_own n y ys same)))
-    (λ (ne : y.node ≡ n → ⊥). made_other n (renumbered number y) (map (renumbered number) ys) ne ∙ renumbered_at number n ys ∙ ap (map (entry_under (number n))) (sym (made_other n y ys ne)))
+    (λ (ne : y.node ≡ n → ⊥). not_made n (renumbered number y) (map (renumbered number) ys) ne ∙ renumbered_at number n ys ∙ ap (map (entry_under (number n))) (sym (not_made n y ys ne)))
     (cases_eq y.node n)
 
 walk : (c : Config) (rules : Rules) (js : List Journal) (number : ℕ → ℕ → ℕ) → SendsRenumbered → length js ≡ c.nodes → (order : List ℕ) (w : Cluster) (k : Scheduling) (g : Front) (s : Stand js k.front order g) →

@@ -26,9 +26,10 @@ use Rattle.ct_journal.specs.Runs.{IsEntry, IsRun}
 use Rattle.ct_journal.specs.Schedules.{Noted, entry_under, event_under, has_call, is_call, out_under}
 use Rattle.ct_journal.specs.declared.journal.Journal.{Journal}
 use Rattle.ct_journal.specs.declared.journal.JournalEntry.{JournalEntry}
+use Rattle.ct_journal.proofs.Ends.{size_after}
 use Rattle.ct_law_renumbered.specs.Laws.{SendsRenumbered}
 use Rattle.ct_law_scheduled.proofs.Carrying.{Rising, rising_more, sent_rising, still_rising, waiting}
-use Rattle.ct_law_scheduled.proofs.Fronts.{has_journal, left_after, left_of, past_other, past_own, rest_of, rest_other, rest_own, size_after}
+use Rattle.ct_law_scheduled.proofs.Fronts.{has_journal, left_after, left_of, past_other, past_own, rest_of, rest_other, rest_own}
 use Rattle.ct_law_scheduled.proofs.Numbering.{asked_after, call_later, calls_later, first_once, number_in, number_later, number_now, other_asks, own_asks}
 use Rattle.ct_law_scheduled.proofs.Queues.{Mailed, frames_wait, message_comes, messages_go, none_comes}
 use Rattle.ct_law_scheduled.proofs.Taking.{Makes, Prints, became, client_makes, client_prints, message_makes, message_prints, own_lines, round_makes, round_prints, yield_lines}
