@@ -1,50 +1,22 @@
 -- A core is in form at the opening of a cluster and after a stop.
-use Rattle.std.proofs.Common.{◌≡◌, ◌≢◌, ◌∙◌, ℕ, zero, suc, ◌+◌, ◌<◌, ◌≤◌, true, false, List, [], ◌∷◌, ◌++◌, Option, None, Some, get_or, length, ⊎_elim, refl, sym, ap, subst, arith}
-use Rattle.std.proofs.lemmas.Bool.{and_from, lt-ltb}
+use Rattle.std.proofs.Common.{◌≡◌, ◌≢◌, ◌∙◌, ℕ, zero, suc, ◌<◌, ◌≤◌, false, List, [], Option, None, Some, get_or, length, ⊎_elim, sym, ap, subst, arith}
+use Rattle.std.proofs.lemmas.Bool.{lt-ltb}
 use Rattle.std.proofs.lemmas.Option.{slice_get_cases, slice_get_past}
-use Rattle.std.specs.Prelude.{map, nat_lt, slice_get}
-use Rattle.std.specs.List.{list_all}
+use Rattle.std.specs.Prelude.{map, slice_get}
 use Rattle.std.specs.List.Sorted.{IsStrictlyIncreasing}
 use Rattle.ct_msg.specs.declared.config.Config.{Config}
 use Rattle.ct_msg.specs.declared.config.DbDecl.{DbDecl}
-use Rattle.ct_frame.specs.Fields.{ascends, ascends_after}
 use Rattle.ct_cluster.specs.Cluster.{everyone, numbers}
 use Rattle.ct_rules_node.specs.Node.{Database, Node, is_persistent, kind_at, kind_in, opening, restarted}
 use Rattle.ct_node_form.specs.Whole.{HasLimits, is_node_of}
 use Rattle.ct_node_form.proofs.Whole.{opens_in_form, restarts_in_form}
 use Rattle.ct_node_placed.proofs.Placed.{opens_placed, restarts_placed}
 use Rattle.ct_node_state.proofs.Ascending.{ascending}
+pub use Rattle.ct_cluster.proofs.Numbers.{numbers_more}
+use Rattle.ct_cluster.proofs.Numbers.{numbers_below, numbers_ascend}
 use Rattle.ct_core.specs.Core.{CoreInForm}
 
 -- ---- all nodes
-
-numbers_from : (i n : ℕ) → numbers i (suc n) ≡ numbers i n ++ (i + n) ∷ []
-unfolding numbers
-numbers_from i zero = ap (λ (k : ℕ). k ∷ []) (omega arith)
-numbers_from i (suc n) =
-    let e : i + 1 + n ≡ i + suc n = omega arith in
-    ap (λ (l : List ℕ). i ∷ l) (subst (λ (k : ℕ). numbers (i + 1) (suc n) ≡ numbers (i + 1) n ++ k ∷ []) e (numbers_from (i + 1) n))
-
-pub numbers_more : (n : ℕ) → numbers 0 (n + 1) ≡ numbers 0 n ++ n ∷ []
-numbers_more n =
-    let one : suc n ≡ n + 1 = omega arith in
-    let none : 0 + n ≡ n = omega arith in
-    subst (λ (k : ℕ). numbers 0 k ≡ numbers 0 n ++ n ∷ []) one (subst (λ (m : ℕ). numbers 0 (suc n) ≡ numbers 0 n ++ m ∷ []) none (numbers_from 0 n))
-
-numbers_after : (x i k : ℕ) → x < i → ascends_after nat_lt x (numbers i k) ≡ true
-unfolding numbers
-numbers_after x i zero l = refl
-numbers_after x i (suc k) l = and_from _ _ (lt-ltb x i l) (numbers_after i (i + 1) k (omega arith))
-
-numbers_ascend : (i k : ℕ) → ascends nat_lt (numbers i k) ≡ true
-unfolding numbers
-numbers_ascend i zero = refl
-numbers_ascend i (suc k) = numbers_after i (i + 1) k (omega arith)
-
-numbers_below : (b i k : ℕ) → i + k ≤ b → list_all (λ n. nat_lt n b) (numbers i k) ≡ true
-unfolding numbers
-numbers_below b i zero l = refl
-numbers_below b i (suc k) l = and_from _ _ (lt-ltb i b (omega arith)) (numbers_below b (i + 1) k (omega arith))
 
 pub everyone_ascends : (c : Config) → IsStrictlyIncreasing (everyone c)
 unfolding everyone

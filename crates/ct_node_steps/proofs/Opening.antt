@@ -1,29 +1,14 @@
 -- At the opening of a cluster every node is in form.
-use Rattle.std.proofs.Common.{◌≡◌, ℕ, zero, suc, ◌+◌, ◌<◌, ◌≤◌, true, refl, arith}
-use Rattle.std.proofs.lemmas.Bool.{and_from, lt-ltb}
+use Rattle.std.proofs.Common.{◌≡◌, true, arith}
 use Rattle.std.specs.Prelude.{nat_lt}
 use Rattle.std.specs.List.{list_all}
 use Rattle.ct_msg.specs.declared.config.Config.{Config}
-use Rattle.ct_frame.specs.Fields.{ascends, ascends_after}
-use Rattle.ct_cluster.specs.Cluster.{everyone, numbers}
+use Rattle.ct_frame.specs.Fields.{ascends}
+use Rattle.ct_cluster.specs.Cluster.{everyone}
 use Rattle.ct_node_form.specs.Whole.{is_node_of}
 use Rattle.ct_node_form.proofs.Whole.{configs_have_limits, opens_in_form}
+use Rattle.ct_cluster.proofs.Numbers.{numbers_below, numbers_ascend}
 use Rattle.ct_node_steps.specs.Laws.{EveryoneOpensInForm}
-
-numbers_after : (x i k : ℕ) → x < i → ascends_after nat_lt x (numbers i k) ≡ true
-unfolding numbers
-numbers_after x i zero l = refl
-numbers_after x i (suc k) l = and_from _ _ (lt-ltb x i l) (numbers_after i (i + 1) k (omega arith))
-
-numbers_ascend : (i k : ℕ) → ascends nat_lt (numbers i k) ≡ true
-unfolding numbers
-numbers_ascend i zero = refl
-numbers_ascend i (suc k) = numbers_after i (i + 1) k (omega arith)
-
-numbers_below : (b i k : ℕ) → i + k ≤ b → list_all (λ n. nat_lt n b) (numbers i k) ≡ true
-unfolding numbers
-numbers_below b i zero l = refl
-numbers_below b i (suc k) l = and_from _ _ (lt-ltb i b (omega arith)) (numbers_below b (i + 1) k (omega arith))
 
 everyone_ascends : (c : Config) → ascends nat_lt (everyone c) ≡ true
 unfolding everyone

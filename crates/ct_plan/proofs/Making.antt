@@ -1,5 +1,5 @@
 -- The configuration of a plan, and the texts of its numbers.
-use Rattle.std.proofs.Common.{◌≡◌, ◌∙◌, ◌+◌, ◌-◌, ◌/◌, ◌<◌, ◌≤◌, ℕ, zero, suc, List, [], ◌∷◌, ◌++◌, length, None, Ok, refl, sym, ap, subst, arith}
+use Rattle.std.proofs.Common.{◌≡◌, ◌∙◌, ◌+◌, ◌-◌, ◌/◌, ◌<◌, ◌≤◌, ℕ, zero, suc, List, [], ◌∷◌, ◌++◌, length, None, Ok, refl, sym, ap, arith}
 use Rattle.std.proofs.lemmas.Fmt.{length-decimal-le}
 use Rattle.std.proofs.lemmas.List.{append_assoc, append-nil, map-append, nil_from_length}
 use Rattle.std.proofs.lemmas.List.Sorted.{IsPermutation-refl, length_permutation}
@@ -12,6 +12,7 @@ use Rattle.ct_cluster.specs.Cluster.{numbers}
 use Rattle.ct_msg.specs.Config.{Configures, config_fault, lock_db}
 use Rattle.ct_msg.specs.declared.config.Config.{Config}
 use Rattle.ct_msg.specs.declared.config.DbDecl.{DbDecl}
+use Rattle.ct_cluster.proofs.Numbers.{numbers_more}
 use Rattle.ct_plan.specs.Scripts.{drawn, planned_config, planned_dbs}
 
 -- ---- the configuration
@@ -48,19 +49,6 @@ makes nodes some few = (faultless_so nodes some few, refl, refl, IsPermutation-r
 -- the text of a number below 1,000 is a value
 pub short : (n : ℕ) → n < 1000 → length (decimal n) ≤ 1024
 short n h = let l = length-decimal-le 3 n (omega arith) (omega (arith, h)) (omega (arith, h)) in omega (arith, l)
-
-numbers_from : (i n : ℕ) → numbers i (suc n) ≡ numbers i n ++ (i + n) ∷ []
-unfolding numbers
-numbers_from i zero = ap (λ (k : ℕ). k ∷ []) (omega arith)
-numbers_from i (suc n) =
-    let e : i + 1 + n ≡ i + suc n = omega arith in
-    ap (λ (l : List ℕ). i ∷ l) (subst (λ (k : ℕ). numbers (i + 1) (suc n) ≡ numbers (i + 1) n ++ k ∷ []) e (numbers_from (i + 1) n))
-
-pub numbers_more : (n : ℕ) → numbers 0 (n + 1) ≡ numbers 0 n ++ n ∷ []
-numbers_more n =
-    let one : suc n ≡ n + 1 = omega arith in
-    let none : 0 + n ≡ n = omega arith in
-    subst (λ (k : ℕ). numbers 0 k ≡ numbers 0 n ++ n ∷ []) one (subst (λ (m : ℕ). numbers 0 (suc n) ≡ numbers 0 n ++ m ∷ []) none (numbers_from 0 n))
 
 pub map_more : {X : Type 0} (f : ℕ → X) (n : ℕ) → map f (numbers 0 (n + 1)) ≡ map f (numbers 0 n) ++ f n ∷ []
 map_more f n = ap (map f) (numbers_more n) ∙ map-append f (numbers 0 n) (n ∷ [])

@@ -1,38 +1,23 @@
 -- The plan that a seed makes is sound.
 use Rattle.std.proofs.Common.{◌≡◌, ◌∙◌, ◌+◌, ◌*◌, ◌/◌, ◌<◌, ◌≤◌, ℕ, zero, suc, Bool, true, false, List, [], ◌∷◌, ◌++◌, length, drop, take, None, Some, refl, sym, ap, subst, arith}
-use Rattle.std.proofs.lemmas.Bool.{and_from, cond_both, eqb-true, lt-ltb, ltb-false, ltb-true}
+use Rattle.std.proofs.lemmas.Bool.{and_from, cond_both, eqb-true, ltb-false, ltb-true}
 use Rattle.std.proofs.lemmas.List.{length-append, length-drop, length-map, length-take-le}
 use Rattle.std.proofs.lemmas.List.Folds.{list_all-append, list_any-append}
 use Rattle.std.proofs.lemmas.Option.{slice_get-map}
 use Rattle.std.specs.List.{flat_map, list_all, list_any}
 use Rattle.std.specs.Prelude.{nat_eq, nat_lt, option_map, slice_get, ◌||◌}
 use Rattle.ct_cluster.specs.Cluster.{everyone, numbers}
-use Rattle.ct_frame.specs.Fields.{ascends, ascends_after}
 use Rattle.ct_frame.specs.declared.plan.PlanItem.{PlanItem}
 use Rattle.ct_frame.specs.declared.plan.PlanItem.TheVariants.{Round}
 use Rattle.ct_msg.specs.declared.config.Config.{Config}
 use Rattle.ct_rules_node.specs.Coming.{is_allowed_op}
 use Rattle.ct_rules_node.specs.Node.{is_among}
+use Rattle.ct_cluster.proofs.Numbers.{numbers_below, numbers_ascend}
 use Rattle.ct_plan.specs.Scripts.{asked_by, asked_kind, asked_op, cluster_plan, drawn, generator_of, led_by, locked_commit, planned_config, planned_dbs, planned_script, script_by}
 use Rattle.ct_plan.specs.Sound.{IsSound, has_round, is_round, may_be_told, or_no_items, script_of}
 use Rattle.ct_plan.proofs.Making.{length_drawn, makes}
 
 -- ---- all nodes
-
-numbers_after : (x i k : ℕ) → x < i → ascends_after nat_lt x (numbers i k) ≡ true
-unfolding numbers
-numbers_after x i zero l = refl
-numbers_after x i (suc k) l = and_from _ _ (lt-ltb x i l) (numbers_after i (i + 1) k (omega arith))
-
-numbers_ascend : (i k : ℕ) → ascends nat_lt (numbers i k) ≡ true
-unfolding numbers
-numbers_ascend i zero = refl
-numbers_ascend i (suc k) = numbers_after i (i + 1) k (omega arith)
-
-numbers_below : (b i k : ℕ) → i + k ≤ b → list_all (λ n. nat_lt n b) (numbers i k) ≡ true
-unfolding numbers
-numbers_below b i zero l = refl
-numbers_below b i (suc k) l = and_from _ _ (lt-ltb i b (omega arith)) (numbers_below b (i + 1) k (omega arith))
 
 length_numbers : (i k : ℕ) → length (numbers i k) ≡ k
 unfolding numbers
