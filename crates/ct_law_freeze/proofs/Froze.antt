@@ -17,9 +17,9 @@ use Rattle.ct_rules_node.specs.Clients.{is_locked, any_locked, frozen_if_unlocke
 use Rattle.ct_rules_node.specs.Rounds.{frozen_state, frozen_db, changed, lead_from, freezes, ends_commit, ends_commits, on_freeze}
 use Rattle.ct_rules_node.specs.Admission.{is_sound}
 use Rattle.ct_rules_node.specs.Steps.{if_sound, arrives, happens}
-use Rattle.ct_rules_node.specs.Laws.{AllAscend, NodeAscends}
-use Rattle.ct_rules_node.proofs.Keys.{changed_ascends}
+use Rattle.ct_rules_node.specs.Laws.{NodeAscends}
 use Rattle.ct_rules_node.proofs.Rounds.{freezes_each, sees_locks}
+use Rattle.ct_rules_node.proofs.BesideRecords.{frozen_order}
 use Rattle.ct_law_line.proofs.Resting.{freezes_state}
 use Rattle.ct_law_freeze.proofs.Ends.{Ends, Untracked, is_ended, is_gone, ends_outs, unlock, ends_all, none_left}
 use Rattle.ct_law_node.proofs.Events.{guarded}
@@ -52,11 +52,6 @@ pub record Freeze_turn (c : Config) (n g h : ℕ) (x : Node) (u : Turn) : Type 0
 
 -- ---- the node that freezes
 
-all_frozen : (dbs : List Database) → AllAscend dbs → AllAscend (map frozen_db dbs)
-unfolding AllAscend frozen_db
-all_frozen [] h = tt
-all_frozen (d ∷ ds) h = (changed_ascends frozen_state d.records h.0, all_frozen ds h.1)
-
 as_many : (dbs : List Database) → length (map frozen_db dbs) ≡ length dbs
 as_many [] = refl
 as_many (d ∷ ds) = ap suc (as_many ds)
@@ -79,7 +74,7 @@ module _ (c : Config) (n g h : ℕ) (x : Node) (order : NodeAscends x) (some : 0
 
   order1 : NodeAscends t1.node
   unfolding freezes with_node
-  order1 = all_frozen x.dbs order
+  order1 = frozen_order x.dbs order
 
   size1 : length t1.node.dbs ≡ length x.dbs
   unfolding freezes with_node

@@ -1,5 +1,5 @@
 -- A client's call at a record leaves the node in form.
-use Rattle.std.proofs.Common.{◌≡◌, ℕ, ◌<◌, Bool, true, false, cond, ◌&&◌, ◌||◌, List, length, Option, Some, None, refl, sym, ◌∙◌, ap, subst, arith, ⊎_elim}
+use Rattle.std.proofs.Common.{◌≡◌, ℕ, ◌<◌, Bool, true, false, ◌&&◌, ◌||◌, List, length, Option, Some, None, refl, sym, ◌∙◌, ap, subst, arith, ⊎_elim}
 use Rattle.std.proofs.lemmas.Bool.{cases_Bool, cond_both, or_left, or_parts}
 use Rattle.std.specs.Prelude.{is_none, is_some, nat_eq}
 use Rattle.ct_msg.specs.Client.{is_read, wants_record}
@@ -25,6 +25,7 @@ use Rattle.ct_rules_node.specs.Clients.{any_locked, frozen_if_unlocked, is_locke
 use Rattle.ct_rules_node.specs.Rounds.{frozen_state}
 use Rattle.ct_rules_node.specs.Turn.{Turn}
 use Rattle.ct_rules_node.proofs.Rounds.{sees_locks}
+use Rattle.ct_rules_node.proofs.Quiet.{skipped, taken, not_both, some_none}
 use Rattle.ct_node_form.specs.Form.{IsFormed}
 use Rattle.ct_node_form.specs.Whole.{PhaseInForm, TurnInForm, is_node_of, is_sound_out}
 use Rattle.ct_node_form.proofs.Formed.{left_formed}
@@ -109,28 +110,12 @@ unfolding view reply performs out_of is_sound_out place_of
 reply_in_form c me call db key value t h l =
     acted_in_form c me db key (reply call (answer.Read value) (view db key t.node)) t h l (h.node.formed db key) (h.node.named db key) (rests_of c t.node t.node.phase h.node.phase db key) refl
 
-skipped : {X : Type 0} (b : Bool) (t u : X) → b ≡ false → cond b u t ≡ t
-skipped true t u e = absurd (cc)
-skipped false t u e = refl
-
-taken : {X : Type 0} (b : Bool) (t u : X) → b ≡ true → cond b u t ≡ u
-taken true t u e = refl
-taken false t u e = absurd (cc)
-
-not_second : (a b : Bool) → b ≡ false → (a && b) ≡ false
-not_second true b e = e
-not_second false b e = refl
-
 -- a read of a locked record at its holder is answered
 read_locked : (at : Place) (rules : Rules) (call db : ℕ) (key : List ℕ) (o : Moving) → is_none o.state.locked ≡ false → is_mastered at.me o.state.copy ≡ true → want at rules call (op.Read db key) o ≡ reply call (answer.Read (value_of o.state.copy)) o
 unfolding want opened_at_home want_of is_read
 read_locked at rules call db key o l h =
-    ap (want_of at rules call (op.Read db key)) (skipped (nat_eq at.me at.lmaster && is_none o.state.locked) o _ (not_second _ _ l))
+    ap (want_of at rules call (op.Read db key)) (skipped (nat_eq at.me at.lmaster && is_none o.state.locked) o _ (not_both _ _ l))
     ∙ taken (is_mastered at.me o.state.copy || is_for_reading o.state.copy) _ (reply call (answer.Read (value_of o.state.copy)) o) (or_left _ _ h)
-
-some_none : {X : Type 0} (x : Option X) → is_some x ≡ true → is_none x ≡ false
-some_none None e = absurd (cc)
-some_none (Some x) e = refl
 
 read_in_form : (c : Config) (rules : Rules) (me call db : ℕ) (key : List ℕ) (t : Turn) → TurnInForm c me t → db < length t.node.dbs → is_some (state_at db key t.node).locked ≡ true → TurnInForm c me (at_record c me db key (λ at o. want at rules call (op.Read db key) o) t)
 unfolding at_record view place_of

@@ -1,5 +1,5 @@
 -- A Freeze leaves a node in form: at rest, and frozen where no record is locked.
-use Rattle.std.proofs.Common.{◌≡◌, ℕ, ◌+◌, ◌<◌, ◌≤◌, Bool, true, false, cond, List, [], ◌∷◌, length, map, Option, Some, None, refl, sym, ◌∙◌, ap, subst, arith}
+use Rattle.std.proofs.Common.{◌≡◌, ℕ, ◌+◌, ◌<◌, ◌≤◌, Bool, true, false, cond, List, [], ◌∷◌, length, Option, Some, None, refl, sym, ◌∙◌, ap, subst, arith}
 use Rattle.std.proofs.lemmas.Bool.{cond_both}
 use Rattle.std.proofs.lemmas.List.{length-map}
 use Rattle.std.specs.Prelude.{nat_lt}
@@ -14,14 +14,15 @@ use Rattle.ct_rules.specs.State.{is_quiet}
 use Rattle.ct_rules.specs.declared.event.Place.{Place}
 use Rattle.ct_rules.specs.declared.state.RecState.{RecState}
 use Rattle.ct_rules_node.specs.Databases.{with_commit}
-use Rattle.ct_rules_node.specs.Laws.{AllAscend, NodeAscends, changed_at}
+use Rattle.ct_rules_node.specs.Laws.{NodeAscends, changed_at}
 use Rattle.ct_rules_node.specs.Node.{Node, Committing, Database, Lead, Nothing, Freezes, Pulls, Installs, Completed, Freezing, db_at, is_frozen_in, name_of, or_nothing, state_at, with_db}
 use Rattle.ct_rules_node.specs.Records.{place_of, put_back, with_state}
 use Rattle.ct_rules_node.specs.Rounds.{ends_commit, ends_commits, ends_lock, freezes, frozen_db, frozen_state, lead_from, on_freeze}
 use Rattle.ct_rules_node.specs.Turn.{Turn, answers, does, notes, with_node}
 use Rattle.ct_rules_node.proofs.AtRecord.{at_ascends, blank_is_nothing}
-use Rattle.ct_rules_node.proofs.Keys.{changed_ascends, changed_seen}
+use Rattle.ct_rules_node.proofs.Keys.{changed_seen}
 use Rattle.ct_rules_node.proofs.Rounds.{freezes_each}
+use Rattle.ct_rules_node.proofs.BesideRecords.{frozen_order}
 use Rattle.ct_node_form.specs.Form.{IsFormed}
 use Rattle.ct_node_form.specs.Whole.{StoreInForm, LeadInForm, CommitInForm, NodeInForm, PhaseInForm, TurnInForm, is_node_of}
 use Rattle.ct_node_form.proofs.Formed.{formed_same}
@@ -84,11 +85,6 @@ frozen_at g h db key t asc =
   where
     ascends_at : (db : ℕ) (n : Node) → NodeAscends n → Ascends (db_at db n).records
     ascends_at db n asc = at_ascends n.dbs db asc
-
-frozen_order : (dbs : List Database) → AllAscend dbs → AllAscend (map frozen_db dbs)
-unfolding AllAscend frozen_db
-frozen_order [] h = tt
-frozen_order (d ∷ ds) h = (changed_ascends frozen_state d.records h.0, frozen_order ds h.1)
 
 if_leads : (c : Config) (me : ℕ) (b : Bool) (l : Lead) → LeadInForm c me l → LeadInForm c me (cond b Nothing l)
 unfolding LeadInForm

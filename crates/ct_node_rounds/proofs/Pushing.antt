@@ -35,7 +35,7 @@ use Rattle.ct_rules_node.specs.Records.{place_of}
 use Rattle.ct_rules_node.specs.Rounds.{all_installed, bared, completed, copy_from, entry_from, frozen_state, installed_db, installed_dbs, installed_node, installed_state, installs, is_own, makes_rows, on_push, on_pushack, or_nobody, push_of, releases, row_master, store_from}
 use Rattle.ct_rules_node.specs.Turn.{Turn, does, makes, notes, posts, with_node}
 use Rattle.ct_rules_node.proofs.AtRecord.{at_ascends, blank_is_nothing}
-use Rattle.ct_rules_node.proofs.BesideRecords.{installed_order}
+use Rattle.ct_rules_node.proofs.BesideRecords.{installed_order, installed_length}
 use Rattle.ct_rules_node.proofs.Installed.{installs_at, same_key}
 use Rattle.ct_rules_node.proofs.Rounds.{installs_dbs}
 use Rattle.ct_node_form.specs.Form.{IsFormed}
@@ -249,11 +249,6 @@ store_is db (x ∷ xs) p all h =
     cond_both (nat_eq x.db db) (replaced x) (store_from db xs p) StoreInForm (λ _. replaced_is x a.0) (λ _. store_is db xs p a.1 h)
 
 -- ---- the node
-
-installed_length : (me i : ℕ) (members : List ℕ) (table : List TableRow) (ptables : List PTable) (dbs : List Database) → length (installed_dbs me i members table ptables dbs) ≡ length dbs
-unfolding installed_dbs
-installed_length me i members table ptables [] = refl
-installed_length me i members table ptables (d ∷ ds) = ap suc (installed_length me (i + 1) members table ptables ds)
 
 past : (dbs : List Database) (i : ℕ) → length dbs ≤ i → or_untouched (slice_get dbs i) ≡ untouched
 unfolding or_untouched

@@ -32,6 +32,7 @@ use Rattle.ct_rules_node.specs.Turn.{Turn}
 use Rattle.ct_rules_node.proofs.AtRecord.{at_ascends}
 use Rattle.ct_rules_node.proofs.Numbered.{numbered_all}
 use Rattle.ct_store.specs.Map.{Pairs, look}
+use Rattle.ct_rules_node.proofs.Tables.{all_of_both}
 
 -- ---- a part that only sends
 
@@ -102,10 +103,6 @@ calls_do c me (x ∷ xs) t a w h =
 
 -- ---- the calls that wait are of databases that are there
 
-all_joined : {X : Type 0} (P : X → Type 0) (xs ys : List X) → AllByRecursion P xs → AllByRecursion P ys → AllByRecursion P (xs ++ ys)
-all_joined P [] ys h k = k
-all_joined P (x ∷ xs) ys h k = (h.0, all_joined P xs ys h.1 k)
-
 called_there : (db : ℕ) (key : List ℕ) (w : Option Wish) (n : ℕ) → db < n → AllByRecursion (λ (x : Called). x.db < n) (called_of db key w)
 unfolding called_of
 called_there db key None n l = tt
@@ -114,12 +111,12 @@ called_there db key (Some w) n l = (l, tt)
 calls_there : (db : ℕ) (m : Pairs RecState) (n : ℕ) → db < n → AllByRecursion (λ (x : Called). x.db < n) (calls_of db m)
 unfolding calls_of
 calls_there db [] n l = tt
-calls_there db (e ∷ m) n l = all_joined (λ (x : Called). x.db < n) (called_of db e.0 e.1.wish) (calls_of db m) (called_there db e.0 e.1.wish n l) (calls_there db m n l)
+calls_there db (e ∷ m) n l = all_of_both (λ (x : Called). x.db < n) (called_of db e.0 e.1.wish) (calls_of db m) (called_there db e.0 e.1.wish n l) (calls_there db m n l)
 
 all_there : (i : ℕ) (ds : List Database) (n : ℕ) → i + length ds ≤ n → AllByRecursion (λ (x : Called). x.db < n) (calls_in i ds)
 unfolding calls_in
 all_there i [] n l = tt
-all_there i (d ∷ ds) n l = all_joined (λ (x : Called). x.db < n) (calls_of i d.records) (calls_in (i + 1) ds) (calls_there i d.records n (omega (arith, l))) (all_there (i + 1) ds n (omega (arith, l)))
+all_there i (d ∷ ds) n l = all_of_both (λ (x : Called). x.db < n) (calls_of i d.records) (calls_in (i + 1) ds) (calls_there i d.records n (omega (arith, l))) (all_there (i + 1) ds n (omega (arith, l)))
 
 pub pending_there : (n : Node) → AllByRecursion (λ (x : Called). x.db < length n.dbs) (pending_calls n)
 unfolding pending_calls

@@ -174,7 +174,7 @@ unfolding ends_commits
 ends_commits_steady c i [] u s = s
 ends_commits_steady c i (d ∷ ds) u s = ends_commits_steady c (i + 1) ds _ (ends_commit_steady _ _ _ _ s)
 
-frozen_order : (dbs : List Database) → AllAscend dbs → AllAscend (map frozen_db dbs)
+pub frozen_order : (dbs : List Database) → AllAscend dbs → AllAscend (map frozen_db dbs)
 unfolding AllAscend frozen_db
 frozen_order [] h = tt
 frozen_order (d ∷ ds) h = (changed_ascends frozen_state d.records h.0, frozen_order ds h.1)
@@ -236,7 +236,7 @@ unfolding makes_rows
 makes_rows_node me members [] u = refl
 makes_rows_node me members (row ∷ rows) u = makes_rows_node me members rows _ ∙ made_node _ (row.rsn + 1) u
 
-installed_length : (me i : ℕ) (members : List ℕ) (table : List TableRow) (ptables : List PTable) (dbs : List Database) → length (installed_dbs me i members table ptables dbs) ≡ length dbs
+pub installed_length : (me i : ℕ) (members : List ℕ) (table : List TableRow) (ptables : List PTable) (dbs : List Database) → length (installed_dbs me i members table ptables dbs) ≡ length dbs
 unfolding installed_dbs
 installed_length me i members table ptables [] = refl
 installed_length me i members table ptables (d ∷ ds) = ap suc (installed_length me (i + 1) members table ptables ds)

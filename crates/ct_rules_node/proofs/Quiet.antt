@@ -49,15 +49,15 @@ store_quiet : (c : Config) (me call db : ℕ) (key v : List ℕ) (u : Turn) → 
 unfolding store reply keeps performs out_of view record_sends sends_of_record
 store_quiet c me call db key v u = at_record_quiet c me db key _ u refl
 
-skipped : {X : Type 0} (b : Bool) (t u : X) → b ≡ false → cond b u t ≡ t
+pub skipped : {X : Type 0} (b : Bool) (t u : X) → b ≡ false → cond b u t ≡ t
 skipped true t u e = absurd (cc)
 skipped false t u e = refl
 
-taken : {X : Type 0} (b : Bool) (t u : X) → b ≡ true → cond b u t ≡ u
+pub taken : {X : Type 0} (b : Bool) (t u : X) → b ≡ true → cond b u t ≡ u
 taken true t u e = refl
 taken false t u e = absurd (cc)
 
-not_both : (a b : Bool) → b ≡ false → (a && b) ≡ false
+pub not_both : (a b : Bool) → b ≡ false → (a && b) ≡ false
 not_both true b e = e
 not_both false b e = refl
 
@@ -68,7 +68,7 @@ read_locked at rules call db key o l h =
     ap (want_of at rules call (op.Read db key)) (skipped (nat_eq at.me at.lmaster && is_none o.state.locked) o _ (not_both _ _ l))
     ∙ taken (is_mastered at.me o.state.copy || is_for_reading o.state.copy) _ (reply call (answer.Read (value_of o.state.copy)) o) (or_left _ _ h)
 
-some_none : {X : Type 0} (x : Option X) → is_some x ≡ true → is_none x ≡ false
+pub some_none : {X : Type 0} (x : Option X) → is_some x ≡ true → is_none x ≡ false
 some_none None e = absurd (cc)
 some_none (Some x) e = refl
 

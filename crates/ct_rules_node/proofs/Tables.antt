@@ -137,7 +137,7 @@ less_number a b l = ap (λ (t : Bool). cond t Less (cond (a == b) Equal Greater)
 before_by_db : (x y : TableRow) → x.db < y.db → table_order x y ≡ Less
 before_by_db x y l = ap (λ (o : Ordering). ordering_then o (key_cmp x.key y.key)) (less_number x.db y.db l)
 
-all_of_both : {X : Type 0} (P : X → Type 0) (xs ys : List X) → AllByRecursion P xs → AllByRecursion P ys → AllByRecursion P (xs ++ ys)
+pub all_of_both : {X : Type 0} (P : X → Type 0) (xs ys : List X) → AllByRecursion P xs → AllByRecursion P ys → AllByRecursion P (xs ++ ys)
 all_of_both P [] ys h k = k
 all_of_both P (x ∷ xs) ys h k = (h.0, all_of_both P xs ys h.1 k)
 
