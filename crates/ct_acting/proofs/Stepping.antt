@@ -1,6 +1,5 @@
 -- A node that acts still follows its script.
 use Rattle.std.proofs.Common.{◌≡◌, ◌∙◌, ℕ, ◌+◌, ◌-◌, ◌<◌, ◌≤◌, ◌^◌, true, ◌&&◌, List, [], ◌∷◌, ◌++◌, length, Option, Some, append_assoc, refl, sym, ap, subst, arith}
-use Rattle.std.proofs.lemmas.List.{length-append}
 use Rattle.std.specs.Prelude.{Result, Ok, Err, OnErr, OnOk, slice_get}
 use Rattle.std.proofs.lemmas.Bool.{eq-eqb}
 use Rattle.ct_acting.specs.Acting.{ActsOn, FitsWith, IsActing, MayAsk, cue_with, last_entry}
@@ -21,7 +20,7 @@ use Rattle.ct_law_cues.proofs.Following.{follows_calls, follows_on}
 use Rattle.ct_msg.specs.declared.client.ClientOp.{ClientOp}
 use Rattle.ct_msg.specs.declared.config.Config.{Config}
 use Rattle.ct_node.specs.Journalled.{IsFed, IsRunBy, Journalled, last_outs, with_entry}
-use Rattle.ct_node.proofs.Running.{put_last}
+use Rattle.ct_node.proofs.Running.{put_last, got_put, one_less}
 use Rattle.ct_plan.specs.Sound.{may_be_told}
 use Rattle.ct_rules_node.specs.Coming.{is_allowed_op, may_come}
 use Rattle.ct_rules_node.specs.Node.{Node}
@@ -31,13 +30,6 @@ use Rattle.ct_turn.specs.declared.turn.CoreFault.{CoreFault}
 use Rattle.ct_turn.specs.declared.turn.CoreFault.TheVariants.{Exhausted, NoMemory}
 
 -- ---- the last entry
-
-got_put : (xs : List JournalEntry) (x : JournalEntry) → slice_get (xs ++ x ∷ []) (length xs) ≡ Some x
-got_put [] x = refl
-got_put (y ∷ ys) x = got_put ys x
-
-one_less : (xs : List JournalEntry) (x : JournalEntry) → length (xs ++ x ∷ []) - 1 ≡ length xs
-one_less xs x = omega (arith, length-append xs (x ∷ []))
 
 pub last_put : (xs : List JournalEntry) (x : JournalEntry) → slice_get (xs ++ x ∷ []) (length (xs ++ x ∷ []) - 1) ≡ Some x
 last_put xs x = ap (λ (i : ℕ). slice_get (xs ++ x ∷ []) i) (one_less xs x) ∙ got_put xs x

@@ -32,11 +32,11 @@ pub stepped_runs : (rules : Rules) (e : Event) (outs : List Out) (n : Node) (old
 unfolding IsRunBy
 stepped_runs rules e outs n old may is run = run_longer old.core.config rules old.core.pnn old.entries (record { event = e; outs = outs }) _ old.core.node n run (record { coming = may; steps = is })
 
-got_put : (xs : List JournalEntry) (x : JournalEntry) → slice_get (xs ++ x ∷ []) (length xs) ≡ Some x
+pub got_put : (xs : List JournalEntry) (x : JournalEntry) → slice_get (xs ++ x ∷ []) (length xs) ≡ Some x
 got_put [] x = refl
 got_put (y ∷ ys) x = got_put ys x
 
-one_less : (xs : List JournalEntry) (x : JournalEntry) → length (xs ++ x ∷ []) - 1 ≡ length xs
+pub one_less : (xs : List JournalEntry) (x : JournalEntry) → length (xs ++ x ∷ []) - 1 ≡ length xs
 one_less xs x = omega (arith, length-append xs (x ∷ []))
 
 -- what an entry that was just put does
