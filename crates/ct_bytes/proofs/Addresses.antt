@@ -37,15 +37,15 @@ high_byte a b h = omega arith
 low_byte : (a b : ℕ) → b < 256 → (a * 256 + b) % 256 ≡ b
 low_byte a b h = omega arith
 
-byte_small : (k n : ℕ) → byte_at k n < 256
+pub byte_small : (k n : ℕ) → byte_at k n < 256
 byte_small zero n = omega arith
 byte_small (suc k) n = omega arith
 
-bytes_small : (k n : ℕ) → AllByRecursion (λ x. x < 256) (bytes_high_first k n)
+pub bytes_small : (k n : ℕ) → AllByRecursion (λ x. x < 256) (bytes_high_first k n)
 bytes_small zero n = tt
 bytes_small (suc k) n = (byte_small k n, bytes_small k n)
 
-groups_small : (xs : List ℕ) → AllByRecursion (λ x. x < 256) xs → AllByRecursion (λ x. x < 65536) (segments_of xs)
+pub groups_small : (xs : List ℕ) → AllByRecursion (λ x. x < 256) xs → AllByRecursion (λ x. x < 65536) (segments_of xs)
 groups_small [] small = tt
 groups_small (a ∷ []) small = tt
 groups_small (a ∷ b ∷ xs) small = let first = small.0 in let second = small.1.0 in (omega arith, groups_small xs small.1.1)
@@ -83,7 +83,7 @@ from_be_bytes-to_be_bytes_16 n fits =
 -- ---- the address of std
 
 -- what is below a bound at each place
-below : (bound : ℕ) (xs : List ℕ) → 0 < bound → AllByRecursion (λ x. x < bound) xs → (k : ℕ) → get_or xs k 0 < bound
+pub below : (bound : ℕ) (xs : List ℕ) → 0 < bound → AllByRecursion (λ x. x < bound) xs → (k : ℕ) → get_or xs k 0 < bound
 below bound [] some h k = some
 below bound (x ∷ xs) some h zero = h.0
 below bound (x ∷ xs) some h (suc k) = below bound xs some h.1 k

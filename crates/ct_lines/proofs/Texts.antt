@@ -1,13 +1,12 @@
 -- The bytes that no word of a line has.
-use Rattle.std.proofs.Common.{◌≡◌, ◌≢◌, ℕ, zero, suc, ◌+◌, ◌*◌, ◌/◌, ◌%◌, ◌^◌, ◌<◌, ◌≤◌, ◌⊎◌, inl, inr, Bool, true, false, cond, eqb, List, [], ◌∷◌, ◌++◌, length, map, get_or, codes, Option, Some, None, refl, ap, sym, ◌∙◌, arith}
+use Rattle.std.proofs.Common.{◌≡◌, ◌≢◌, ℕ, ◌+◌, ◌*◌, ◌/◌, ◌%◌, ◌^◌, ◌<◌, ◌≤◌, ◌⊎◌, inl, inr, Bool, true, false, cond, eqb, List, [], ◌∷◌, ◌++◌, length, map, codes, Option, Some, None, refl, ap, sym, ◌∙◌, arith}
 use Rattle.std.proofs.lemmas.Bool.{and_parts, cond_both, false≢true, ne_eqb, eq-eqb, false_from_ne_true}
 use Rattle.std.proofs.lemmas.List.Elements.{All-head, All-tail, All-nil, All-cons, All-append, All-weaker}
 use Rattle.std.proofs.lemmas.List.Splits.{slice_split_none, slice_split_at}
 use Rattle.std.proofs.NetLemmas.Alphabet.{IsDigitOrDot, IsHexOrColon, All-ipv4_text, All-hex_groups_text}
 use Rattle.std.specs.Fmt.{decimal}
-use Rattle.std.specs.Int.{w128, byte_at, bytes_high_first, to_be_bytes}
-use Rattle.std.specs.List.{All, AllByRecursion, list_all, slice_split, join_with_byte}
-use Rattle.std.specs.Net.Addr.{segments_of}
+use Rattle.std.specs.Int.{w128, to_be_bytes}
+use Rattle.std.specs.List.{All, list_all, slice_split, join_with_byte}
 use Rattle.ct_bytes.specs.declared.address.Address.{Address}
 use Rattle.ct_bytes.specs.declared.address.Address.TheVariants.{V4, V6}
 use Rattle.ct_bytes.specs.Address.{octets, groups, address_text}
@@ -16,6 +15,7 @@ use Rattle.ct_bytes.specs.Number.{IsDigit}
 use Rattle.ct_bytes.specs.Spelling.{AreBytes, IsWordByte, spelling}
 use Rattle.ct_bytes.proofs.Numbers.{decimal_digits}
 use Rattle.ct_bytes.proofs.Spellings.{spelling_word_bytes}
+use Rattle.ct_bytes.proofs.Addresses.{bytes_small, groups_small, below}
 
 -- none of these bytes is c
 abbrev pub IsFree : ℕ → List ℕ → Type 0
@@ -84,24 +84,6 @@ name_free i (b ∷ bs) h =
     All-cons (λ x. eqb x 32 ≡ false) b bs (allowed_no_space i b p.0) (name_free (i + 1) bs p.1)
 
 -- ---- the text of an address
-
-byte_small : (k n : ℕ) → byte_at k n < 256
-byte_small zero n = omega arith
-byte_small (suc k) n = omega arith
-
-bytes_small : (k n : ℕ) → AllByRecursion (λ x. x < 256) (bytes_high_first k n)
-bytes_small zero n = tt
-bytes_small (suc k) n = (byte_small k n, bytes_small k n)
-
-groups_small : (xs : List ℕ) → AllByRecursion (λ x. x < 256) xs → AllByRecursion (λ x. x < 65536) (segments_of xs)
-groups_small [] small = tt
-groups_small (a ∷ []) small = tt
-groups_small (a ∷ b ∷ xs) small = let first = small.0 in let second = small.1.0 in (omega arith, groups_small xs small.1.1)
-
-below : (bound : ℕ) (xs : List ℕ) → 0 < bound → AllByRecursion (λ x. x < bound) xs → (k : ℕ) → get_or xs k 0 < bound
-below bound [] some h k = some
-below bound (x ∷ xs) some h zero = h.0
-below bound (x ∷ xs) some h (suc k) = below bound xs some h.1 k
 
 no_space_in_v4 : (b : ℕ) → IsDigitOrDot b → b ≢ 32
 no_space_in_v4 b (inl p) e = let low : 48 ≤ b = p.0 in omega arith
