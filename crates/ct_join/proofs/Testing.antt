@@ -1,13 +1,8 @@
 -- Two journals of few entries.
-use Rattle.std.proofs.Common.{◌≡◌, ◌+◌, ◌^◌, ◌<◌, ◌≤◌, List, [], ◌∷◌, ◌++◌, length, append-nil, length-append, arith}
+use Rattle.std.proofs.Common.{◌+◌, ◌^◌, ◌<◌, ◌≤◌, [], ◌∷◌, length, append-nil, length-append, arith}
 use Rattle.ct_journal.specs.Order.{all_entries, count_sent}
 use Rattle.ct_journal.specs.declared.journal.Journal.{Journal}
-use Rattle.ct_journal.specs.declared.journal.JournalEntry.{JournalEntry}
-
-sent_both : (xs ys : List JournalEntry) → count_sent (xs ++ ys) ≡ count_sent xs + count_sent ys
-unfolding count_sent
-sent_both [] ys = omega arith
-sent_both (x ∷ xs) ys = let r = sent_both xs ys in omega arith
+use Rattle.ct_law_scheduled.proofs.Fronts.{sent_both}
 
 pub both_few : (a b : Journal) → length a.entries + count_sent a.entries ≤ 9 → length b.entries + count_sent b.entries ≤ 9 → length (all_entries (a ∷ b ∷ [])) + count_sent (all_entries (a ∷ b ∷ [])) < 2 ^ 61
 unfolding all_entries

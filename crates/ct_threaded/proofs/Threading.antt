@@ -16,6 +16,7 @@ use Rattle.ct_law_scheduled.specs.Laws.{AreRuns}
 use Rattle.ct_plan.specs.Sound.{IsSound, or_no_items, script_of}
 use Rattle.ct_threaded.specs.Threaded.{HasServed, served}
 use Rattle.ct_troupe.specs.Played.{ArePlayed}
+use Rattle.ct_law_scheduled.proofs.Scheduled.{has_entries}
 
 -- what each node leaves is the journal of a node that served, where it is one
 abbrev pub AllServed : Rules → Plan → List (Result (Option Journal) NoMemory) → Type 0
@@ -31,11 +32,6 @@ each_served rules p all js h is n j e = h n (served j) (ap (λ (rs : List (Resul
 
 count_served : (all : List (Result (Option Journal) NoMemory)) (js : List Journal) → all ≡ map served js → length all ≡ length js
 count_served all js is = ap (λ (rs : List (Result (Option Journal) NoMemory)). length rs) is ∙ length-map js served
-
-got_some : (js : List Journal) (n : ℕ) → n < length js → (j : Journal) × (slice_get js n ≡ Some j)
-got_some [] n l = absurd (omega arith)
-got_some (j ∷ js) zero l = (j, refl)
-got_some (j ∷ js) (suc n) l = got_some js n (omega arith)
 
 own_entries : (js : List Journal) (n : ℕ) (j : Journal) → slice_get js n ≡ Some j → entries_of js n ≡ j.entries
 unfolding entries_of or_no_entries
@@ -56,7 +52,7 @@ no_script = record { rest = []; taken = refl; played = refl; held_up = inl refl 
 scripted : (rules : Rules) (p : Plan) (js : List Journal) → IsSound p → length js ≡ p.config.nodes → ((n : ℕ) (j : Journal) → slice_get js n ≡ Some j → HasServed rules p n j) → (n : ℕ) → IsScripted (script_of p n) (entries_of js n)
 scripted rules p js sound count each n = let b = sound.scripts in ⊎_elim
     (λ (l : n < length js). (
-    let g = got_some js n l in
+    let g = has_entries js n l in
     subst (λ (xs : List JournalEntry). IsScripted (script_of p n) xs) (sym (own_entries js n g.0 g.1)) (each n g.0 g.1).scripted))
     (λ (l : length js ≤ n).
     subst (λ (xs : List JournalEntry). IsScripted (script_of p n) xs) (sym (no_entries_past js n l))
