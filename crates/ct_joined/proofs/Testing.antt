@@ -17,7 +17,7 @@ use Rattle.ct_rules_node.specs.Node.{Node}
 use Rattle.ct_law_scheduled.specs.Laws.{AreRuns, IsRunOf}
 use Rattle.ct_law_fronts.specs.Counts.{AreNotTooMany, HaveOwnTickets, begins_round, has_ticket}
 use Rattle.ct_law_fronts.specs.Worked.{unsent_journals}
-use Rattle.ct_law_fronts.proofs.Computed.{none_is_reached}
+use Rattle.ct_law_fronts.proofs.Computed.{none_is_reached, run_of, not_many}
 use Rattle.ct_promise.specs.Promises.{IsConfig}
 use Rattle.ct_joined.proofs.Computed.{first_crossed_runs, first_straight_runs, second_crossed_runs, second_straight_runs}
 use Rattle.ct_joined.specs.Worked.{MayJoin, crossed_journals, first_crossed, first_straight, second_crossed, second_straight, straight_journals}
@@ -40,9 +40,6 @@ is_pair c dbs addresses h one none = config_of c 2 (lock_db ∷ record { name = 
     (none_left c.addresses (length_permutation addresses c.addresses h.3 ∙ ap length none))
 
 -- ---- two journals
-
-run_of : (n : ℕ) (j k : Journal) → k ≡ j → IsRunOf pair_config [] n k → IsRunOf pair_config [] n j
-run_of n j k same r = subst (λ (i : Journal). IsRunOf pair_config [] n i) same r
 
 both_run : (a b : Journal) → a.node ≡ 0 → b.node ≡ 1 → ((end : Node) × RunsTo pair_config [] a end) → ((end : Node) × RunsTo pair_config [] b end) → AreRuns pair_config [] (a ∷ b ∷ [])
 both_run a b first second one two = record { count = refl; each = each }
@@ -74,10 +71,6 @@ straight_few : AreNotTooMany straight_journals
 unfolding all_entries count_sent frames_in
 straight_few = omega arith
 
-unsent_few : AreNotTooMany unsent_journals
-unfolding all_entries count_sent frames_in
-unsent_few = omega arith
-
 crossed_few : AreNotTooMany crossed_journals
 unfolding all_entries count_sent frames_in
 crossed_few = omega arith
@@ -96,7 +89,7 @@ pub straight_may : (c : Config) (rules : Rules) (js : List Journal) → IsConfig
 straight_may c rules js config pair none same = may_join c rules js straight_journals config pair none same (both_run first_straight second_straight refl refl first_straight_runs second_straight_runs) straight_few straight_tickets
 
 pub unsent_may : (c : Config) (rules : Rules) (js : List Journal) → IsConfig c → c ≡ pair_config → rules ≡ [] → js ≡ unsent_journals → MayJoin c rules js
-unsent_may c rules js config pair none same = may_join c rules js unsent_journals config pair none same none_is_reached.0 unsent_few unsent_tickets
+unsent_may c rules js config pair none same = may_join c rules js unsent_journals config pair none same none_is_reached.0 not_many unsent_tickets
 
 pub crossed_may : (c : Config) (rules : Rules) (js : List Journal) → IsConfig c → c ≡ pair_config → rules ≡ [] → js ≡ crossed_journals → MayJoin c rules js
 crossed_may c rules js config pair none same = may_join c rules js crossed_journals config pair none same (both_run first_crossed second_crossed refl refl first_crossed_runs second_crossed_runs) crossed_few crossed_tickets

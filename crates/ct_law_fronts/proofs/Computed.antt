@@ -33,7 +33,7 @@ second_runs : (end : Node) × (IsRun pair_config [] 1 (opening pair_config (ever
 unfolding IsRun
 second_runs = (opening pair_config (everyone pair_config), refl)
 
-run_of : (n : ℕ) (j k : Journal) → k ≡ j → IsRunOf pair_config [] n k → IsRunOf pair_config [] n j
+pub run_of : (n : ℕ) (j k : Journal) → k ≡ j → IsRunOf pair_config [] n k → IsRunOf pair_config [] n j
 run_of n j k same r = subst (λ (i : Journal). IsRunOf pair_config [] n i) same r
 
 are_runs : AreRuns pair_config [] unsent_journals
@@ -50,7 +50,7 @@ no_ticket t zero h = absurd (cc)
 no_ticket t (suc zero) h = absurd (cc)
 no_ticket t (suc (suc n)) h = absurd (cc)
 
-not_many : AreNotTooMany unsent_journals
+pub not_many : AreNotTooMany unsent_journals
 unfolding all_entries count_sent frames_in
 not_many = omega arith
 
