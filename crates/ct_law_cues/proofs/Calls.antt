@@ -1,5 +1,5 @@
 -- Which calls wait at a node, and how large their numbers are.
-use Rattle.std.proofs.Common.{◌≡◌, ℕ, ◌<◌, ◌^◌, Bool, true, false, cond, ◌&&◌, ◌||◌, List, [], ◌∷◌, Option, Some, None, refl, sym, ap, ◌∙◌, arith}
+use Rattle.std.proofs.Common.{◌≡◌, ℕ, ◌<◌, ◌^◌, Bool, true, cond, ◌&&◌, List, [], ◌∷◌, Option, Some, None, refl, sym, ap, ◌∙◌, arith}
 use Rattle.std.proofs.lemmas.Bool.{and_parts, lt-ltb, le-leb}
 use Rattle.std.specs.Prelude.{nat_le, nat_lt}
 use Rattle.std.specs.List.{AllByRecursion, list_all}
@@ -24,6 +24,7 @@ use Rattle.ct_rules_node.specs.Steps.{happens, unless_spent}
 use Rattle.ct_rules_node.specs.Turn.{Turn, begins, makes}
 use Rattle.ct_rules_node.proofs.Growing.{happens_grows}
 use Rattle.ct_rules_node.proofs.Numbered.{numbered_all}
+use Rattle.ct_law_renumbered.proofs.Runs.{or_again, made_spent}
 
 -- ---- the calls that a run leaves are below a number that all its calls are below
 
@@ -76,19 +77,10 @@ calls_may_come c rules me xs end call run l = pending_below call end (run_below 
 
 -- ---- a call whose number is too large is refused
 
-or_again : (a b : Bool) → ((a || b) || b) ≡ (a || b)
-or_again true b = refl
-or_again false true = refl
-or_again false false = refl
-
 -- a call's own number is spent once, however often it is made
 happens_again : (c : Config) (rules : Rules) (me call : ℕ) (o : ClientOp) (t : Turn) → happens c rules me (makes call t) (event.Client call o) ≡ happens c rules me t (event.Client call o)
 unfolding happens client makes
 happens_again c rules me call o t = ap (λ (b : Bool). serves_or c rules me call o (record t { spent = b }) (refusal c rules t.node o)) (or_again t.spent (nat_le (2 ^ 62) call))
-
-made_spent : (call : ℕ) (t : Turn) → nat_le (2 ^ 62) call ≡ true → t.spent ≡ false → (makes call t).spent ≡ true
-unfolding makes
-made_spent call t e f = (λ i. f i || e i)
 
 none_spent : (t : Turn) → t.spent ≡ true → unless_spent t ≡ None
 none_spent t e = ap (λ (b : Bool). cond b None (Some t)) e

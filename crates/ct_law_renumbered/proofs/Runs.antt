@@ -101,7 +101,7 @@ sends_renumbered number (out.Note x ∷ xs) = sends_renumbered number xs
 
 -- ---- a step that is taken spends no number
 
-or_again : (a b : Bool) → ((a || b) || b) ≡ (a || b)
+pub or_again : (a b : Bool) → ((a || b) || b) ≡ (a || b)
 or_again true b = refl
 or_again false true = refl
 or_again false false = refl
@@ -122,7 +122,7 @@ taken_unspent t u e = by t.spent e
     by true f = absurd (cc)
     by false f = refl
 
-made_spent : (call : ℕ) (t : Turn) → nat_le (2 ^ 62) call ≡ true → t.spent ≡ false → (makes call t).spent ≡ true
+pub made_spent : (call : ℕ) (t : Turn) → nat_le (2 ^ 62) call ≡ true → t.spent ≡ false → (makes call t).spent ≡ true
 unfolding makes
 made_spent call t e f = (λ i. f i || e i)
 
