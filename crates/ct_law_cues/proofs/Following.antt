@@ -177,7 +177,7 @@ follows_first script before = record { cue_is = refl; items = refl; played = ref
 
 -- ---- on
 
-got_item : (w : Option ℕ) (k : ℕ) (script : List PlanItem) (i : PlanItem) → item_unless w k script ≡ Some i → slice_get script k ≡ Some i
+pub got_item : (w : Option ℕ) (k : ℕ) (script : List PlanItem) (i : PlanItem) → item_unless w k script ≡ Some i → slice_get script k ≡ Some i
 unfolding item_unless
 got_item None k script i e = e
 got_item (Some call) k script i e = absurd (cc)
@@ -190,7 +190,7 @@ take_suc (suc k) (y ∷ ys) x e = ap (λ (zs : List PlanItem). y ∷ zs) (take_s
 take_one : (k : ℕ) (xs : List PlanItem) (x : PlanItem) → slice_get xs k ≡ Some x → take (k + 1) xs ≡ take k xs ++ x ∷ []
 take_one k xs x e = let same : k + 1 ≡ suc k = omega arith in ap (λ (n : ℕ). take n xs) same ∙ take_suc k xs x e
 
-next_got : (script : List PlanItem) (cue : Cue) (i : PlanItem) → next_item script cue ≡ Some i → slice_get script cue.taken ≡ Some i
+pub next_got : (script : List PlanItem) (cue : Cue) (i : PlanItem) → next_item script cue ≡ Some i → slice_get script cue.taken ≡ Some i
 unfolding next_item
 next_got script cue i e = got_item cue.waits cue.taken script i e
 

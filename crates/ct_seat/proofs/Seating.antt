@@ -1,5 +1,5 @@
 -- A node of a plan takes an event.
-use Rattle.std.proofs.Common.{◌≡◌, ◌∙◌, ℕ, zero, suc, ◌+◌, ◌<◌, ◌^◌, Bool, true, ◌&&◌, List, [], ◌∷◌, ◌++◌, Option, None, Some, refl, sym, ap, subst, arith}
+use Rattle.std.proofs.Common.{◌≡◌, ◌∙◌, ℕ, zero, suc, ◌+◌, ◌<◌, ◌^◌, Bool, true, ◌&&◌, List, [], ◌∷◌, ◌++◌, Option, Some, refl, sym, ap, subst, arith}
 use Rattle.std.proofs.lemmas.Bool.{and_parts, eqb-true}
 use Rattle.std.proofs.lemmas.Option.{slice_get_within}
 use Rattle.std.specs.Prelude.{Result, Ok, Err, OnOk, nat_eq, nat_lt, slice_get}
@@ -7,7 +7,7 @@ use Rattle.std.specs.List.{list_all}
 use Rattle.ct_acting.specs.Acting.{ActsOn, MayAsk}
 use Rattle.ct_acting.proofs.Stepping as acting
 use Rattle.ct_call.specs.Rules.{Rules}
-use Rattle.ct_cue.specs.Cues.{item_unless, next_item}
+use Rattle.ct_cue.specs.Cues.{next_item}
 use Rattle.ct_cue.specs.declared.cue.Cue.{Cue}
 use Rattle.ct_frame.specs.Fields.{ascends, well_formed}
 use Rattle.ct_frame.specs.declared.event.Event.{Event}
@@ -30,6 +30,7 @@ use Rattle.ct_rules_node.specs.Node.{is_among}
 use Rattle.ct_rules_node.specs.Turn.{Turn}
 use Rattle.ct_turn.specs.declared.turn.CoreFault.{CoreFault}
 use Rattle.ct_queue.specs.Queues.{is_for}
+use Rattle.ct_law_cues.proofs.Following.{next_got}
 use Rattle.ct_seat.specs.Seats.{IsItem, IsSeatOf, Takes, TakesItem}
 use Rattle.ct_seat.specs.declared.seat.Seat.{Seat}
 
@@ -89,15 +90,6 @@ all_at : (q : PlanItem → Bool) (xs : List PlanItem) (k : ℕ) (x : PlanItem) �
 all_at q [] k x h e = absurd (cc)
 all_at q (y ∷ ys) zero x h e = let a = (and_parts (q y) (list_all q ys) h).0 in cc
 all_at q (y ∷ ys) (suc k) x h e = all_at q ys k x (and_parts (q y) (list_all q ys) h).1 e
-
-got_item : (w : Option ℕ) (k : ℕ) (script : List PlanItem) (i : PlanItem) → item_unless w k script ≡ Some i → slice_get script k ≡ Some i
-unfolding item_unless
-got_item None k script i e = e
-got_item (Some call) k script i e = absurd (cc)
-
-next_got : (script : List PlanItem) (cue : Cue) (i : PlanItem) → next_item script cue ≡ Some i → slice_get script cue.taken ≡ Some i
-unfolding next_item
-next_got script cue i e = got_item cue.waits cue.taken script i e
 
 -- an item of a sound plan may be told to its node
 told : (p : Plan) (n : ℕ) (cue : Cue) (i : PlanItem) → IsSound p → next_item (script_of p n) cue ≡ Some i → may_be_told p.config n i ≡ true
