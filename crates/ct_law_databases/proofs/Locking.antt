@@ -27,7 +27,7 @@ use Rattle.ct_law_joined.proofs.Like.{with_others}
 use Rattle.ct_law_gone.proofs.Later.{GoesLater}
 use Rattle.ct_law_gone.proofs.Turns.{Froze_under, Step_does}
 use Rattle.ct_law_gone.proofs.Lost.{Lost, lost_unowned, lost_stays}
-use Rattle.ct_law_gone.proofs.Losing.{froze_lost, stop_lost}
+use Rattle.ct_law_gone.proofs.Losing.{froze_lost, stop_lost, first_or, second_or}
 
 -- does this node own the record?
 unfoldable pub is_owner : ℕ → Option ℕ → Bool
@@ -70,13 +70,6 @@ is_of_owner : (n : ℕ) (o : Option ℕ) → o ≡ Some n → is_owner n o ≡ t
 unfolding is_owner
 is_of_owner n o e = ap (is_owner n) e ∙ eq-eqb n n refl
 
-first_true : (a b : Bool) → a ≡ true → (a || b) ≡ true
-first_true a b e = ap (λ (t : Bool). t || b) e
-
-second_true : (a b : Bool) → b ≡ true → (a || b) ≡ true
-second_true true b e = refl
-second_true false b e = e
-
 either_true : (a b : Bool) → (a || b) ≡ true → (a ≡ true) ⊎ (b ≡ true)
 either_true true b e = inl refl
 either_true false b e = inr e
@@ -87,9 +80,9 @@ pub locks_end : (c : Config) (t : Lines) (gone : Gone) (labels : List Label) (d 
     LocksEnd c (bases (with_others t d p q)) (owners c (with_others t d p q)) (gone_after t gone labels) labels
 unfolding ends_there
 locks_end c t gone labels d p q = record {
-  ended = λ n key i. second_true (gone (t.line n) key) (list_any (ends_there t (t.line n) key) labels)
+  ended = λ n key i. second_or (gone (t.line n) key) (list_any (ends_there t (t.line n) key) labels)
       (any_in (ends_there t (t.line n) key) labels (Noted n (note.Ended 0 key)) i (and_from (nat_eq (t.line n) (t.line n)) (bytes_eq key key) (eq-eqb (t.line n) (t.line n) refl) ((bytes_eq-Decides key key).1 refl)));
-  stopped = λ n db i own. second_true (gone (t.line n) (name_of c db)) (list_any (ends_there t (t.line n) (name_of c db)) labels)
+  stopped = λ n db i own. second_or (gone (t.line n) (name_of c db)) (list_any (ends_there t (t.line n) (name_of c db)) labels)
       (any_in (ends_there t (t.line n) (name_of c db)) labels (Stopped n) i (and_from (nat_eq (t.line n) (t.line n)) (is_owner n (t.records (t.line n) 0 (name_of c db)).owner) (eq-eqb (t.line n) (t.line n) refl) (is_of_owner n (t.records (t.line n) 0 (name_of c db)).owner own)));
 }
 

@@ -34,10 +34,10 @@ unfolding frozen_state
 either_copy true s = refl
 either_copy false s = refl
 
-first_or : (a b : Bool) → a ≡ true → (a || b) ≡ true
+pub first_or : (a b : Bool) → a ≡ true → (a || b) ≡ true
 first_or a b e = ap (λ (t : Bool). t || b) e
 
-second_or : (a b : Bool) → b ≡ true → (a || b) ≡ true
+pub second_or : (a b : Bool) → b ≡ true → (a || b) ≡ true
 second_or true b e = refl
 second_or false b e = e
 
