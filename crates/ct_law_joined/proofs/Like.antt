@@ -26,8 +26,9 @@ use Rattle.ct_register.specs.Lines.{Lines, with_record, joined, stopped, tickete
 use Rattle.ct_register.specs.Placing.{Placing}
 use Rattle.ct_register.specs.Register as register
 use Rattle.ct_register.specs.Register.{Register, AcceptsEnd, AcceptsVacuum, emptied, released}
+use Rattle.ct_register.proofs.Ways.{at_record}
 use Rattle.ct_promise.specs.Generation.{is_note_of_records, speaks_of_records}
-use Rattle.ct_law_parts.proofs.Parts.{Choice, goes, answer_goes, note_goes, register_goes, at_register, DatabasesNeed}
+use Rattle.ct_law_parts.proofs.Parts.{Choice, goes, answer_goes, note_goes, register_goes, DatabasesNeed}
 use Rattle.ct_law_parts.proofs.Rounds.{CanBear, CanTake, RoundsNeed}
 use Rattle.ct_law_parts.proofs.Answers.{OfRecord, Answers}
 use Rattle.ct_law_parts.proofs.Whole.{RecordsNeed}
@@ -89,7 +90,7 @@ kind_persistent k e = ap is_persistent e
 
 -- the same record goes on in the registers that are like these
 record_like : (n db : ℕ) (key : List ℕ) (f : Register → Register) (t s : Lines) (reg : Register) (d : ℕ → ℕ → Database) (p : ℕ → Placing) (q : ℕ → Address → Bool) → reg ≡ f (t.records (t.line n) db key) → s ≡ with_record (t.line n) db key reg t →
-    IsLike (at_register n db key f (with_others t d p q)) s
+    IsLike (at_record n db key f (with_others t d p q)) s
 record_like n db key f t s reg d p q is goes_to = ap (λ (z : Lines). with_others z d p q) (sym (goes_to ∙ ap (λ (y : Register). with_record (t.line n) db key y t) is))
 
 -- ---- answers
@@ -101,7 +102,7 @@ module _ (config : Config) (rules : Rules) (x : Choice) (t : Lines) (d : ℕ →
   answer_record : (n : ℕ) (asked : ClientOp) (given : Answer) (s : Lines) → AtRecord config n (db_of asked) (key_of asked) (register.Accepts rules n asked given) t s → OfRecord config n (db_of asked) (key_of asked) (Answers rules n asked given) r
   answer_record n asked given s a = (a.0, a.1, (register_accepts rules n asked given (t.records (t.line n) (db_of asked) (key_of asked)) a.2 a.3).1)
 
-  answer_like : (n : ℕ) (asked : ClientOp) (given : Answer) (s : Lines) → AtRecord config n (db_of asked) (key_of asked) (register.Accepts rules n asked given) t s → IsLike (at_register n (db_of asked) (key_of asked) (register_goes n asked given) r) s
+  answer_like : (n : ℕ) (asked : ClientOp) (given : Answer) (s : Lines) → AtRecord config n (db_of asked) (key_of asked) (register.Accepts rules n asked given) t s → IsLike (at_record n (db_of asked) (key_of asked) (register_goes n asked given) r) s
   answer_like n asked given s a = record_like n (db_of asked) (key_of asked) (register_goes n asked given) t s a.2 d p q (register_accepts rules n asked given (t.records (t.line n) (db_of asked) (key_of asked)) a.2 a.3).0 a.4
 
   -- an answer on a record

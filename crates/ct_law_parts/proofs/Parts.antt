@@ -21,9 +21,10 @@ use Rattle.ct_register.specs.Register.{Register, owned_by, seen_by, with_version
 use Rattle.ct_register.specs.Database.{Database, IsOpen, all_seen, value_after}
 use Rattle.ct_register.specs.Placing as placing
 use Rattle.ct_register.specs.Placing.{Placing, IsPushedAlike, given_placement, take_list, IsAssigned}
-use Rattle.ct_register.specs.Lines.{Lines, with_record, with_database, with_placing, with_address, ticketed, joined, stopped}
+use Rattle.ct_register.specs.Lines.{Lines, with_placing, with_address, ticketed, joined, stopped}
 use Rattle.ct_register.specs.Births.{born_of}
 use Rattle.ct_register.specs.Legal.{lock_owner}
+use Rattle.ct_register.proofs.Ways.{at_record, at_database}
 
 -- what one step leaves open: what a birth takes over of records and of databases, and how many commits a read has seen
 pub record Choice : Type 0 where
@@ -48,22 +49,16 @@ database_goes x members n asked (answer.Unsure number missing) d = record d { se
 database_goes x members n asked (answer.Read v) d = record d { seen = at n x.seen d.seen }
 database_goes x members n asked given d = d
 
-abbrev pub at_register : ℕ → ℕ → List ℕ → (Register → Register) → Lines → Lines
-at_register n db key f r = with_record (r.line n) db key (f (r.records (r.line n) db key)) r
-
-abbrev pub at_database : ℕ → ℕ → (Database → Database) → Lines → Lines
-at_database n db f r = with_database (r.line n) db (f (r.databases (r.line n) db)) r
-
 unfoldable pub answer_goes : Config → Choice → ℕ → ClientOp → Answer → Lines → Lines
-answer_goes config x n asked (answer.Refused (why.TooLong m)) r = at_register n (db_of asked) (key_of asked) (λ t. t) r
+answer_goes config x n asked (answer.Refused (why.TooLong m)) r = at_record n (db_of asked) (key_of asked) (λ t. t) r
 answer_goes config x n asked (answer.Refused w) r = r
 answer_goes config x n asked given r =
     if is_persistent (kind_at config (db_of asked)) then at_database n (db_of asked) (database_goes x (r.members (r.line n)) n asked given) r
-    else at_register n (db_of asked) (key_of asked) (register_goes n asked given) r
+    else at_record n (db_of asked) (key_of asked) (register_goes n asked given) r
 
 unfoldable pub note_goes : Choice → ℕ → Note → Lines → Lines
-note_goes x n (note.Vacuumed db key) r = at_register n db key emptied r
-note_goes x n (note.Ended db key) r = at_register n db key released r
+note_goes x n (note.Vacuumed db key) r = at_record n db key emptied r
+note_goes x n (note.Ended db key) r = at_record n db key released r
 note_goes x n (note.Round g members p q) r = born_of g p x.counts q x.kept r
 note_goes x n (note.Installed g) r = joined g n r
 note_goes x n (note.Thawed g) r = r

@@ -191,7 +191,7 @@ begun_counted n writes owner d e p f = subst IsCounted (sym p.2) (let more : len
       seen = at_all (λ c. c ≤ length (d.commits ++ writes ∷ [])) n (length (d.commits ++ writes ∷ [])) d.seen (same _) (λ m. (let k = f.seen m in omega arith));
     })
 
-all_seen_counted : (all : ℕ) (members missing : List ℕ) (seen : ℕ → ℕ) → ((m : ℕ) → seen m ≤ all) → (m : ℕ) → Database.all_seen all members missing seen m ≤ all
+pub all_seen_counted : (all : ℕ) (members missing : List ℕ) (seen : ℕ → ℕ) → ((m : ℕ) → seen m ≤ all) → (m : ℕ) → Database.all_seen all members missing seen m ≤ all
 unfolding Database.all_seen
 all_seen_counted all members missing seen within m = cond_both (is_among m members && not (is_among m missing)) all (seen m) (λ c. c ≤ all) (λ _. same all) (λ _. within m)
 

@@ -36,7 +36,7 @@ pub opened_state : (c : Config) (n db : ℕ) (key : List ℕ) → node.state_at 
 unfolding node.state_at node.untouched node.or_nothing
 opened_state c n db key = ap (λ (d : node.Database). node.or_nothing (look key d.records)) (opened_db c n db)
 
-opened_held : (c : Config) (n : ℕ) → (cluster.node_at n (cluster.opening c)).held ≡ []
+pub opened_held : (c : Config) (n : ℕ) → (cluster.node_at n (cluster.opening c)).held ≡ []
 unfolding node.opening cluster.node_at cluster.opening cluster.absent
 opened_held c n = one_of_all (λ (x : Node). x.held ≡ []) (node.opening c (cluster.everyone c)) refl refl c.nodes n
 

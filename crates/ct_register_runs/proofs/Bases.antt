@@ -1,7 +1,6 @@
 -- The runs that are legal, and what the registers show then: a commit, and a round after it.
 use Rattle.std.proofs.Common.{◌≡◌, ℕ, ◌≤◌, List, [], ◌∷◌, length, refl, sym, subst}
-use Rattle.std.specs.Prelude.{None, not, ◌&&◌}
-use Rattle.std.proofs.lemmas.Bool.{cond_both}
+use Rattle.std.specs.Prelude.{None}
 use Rattle.ct_msg.specs.declared.client.Answer.TheVariants as answer
 use Rattle.ct_persist.specs.Updates
 use Rattle.ct_persist.specs.Persisted
@@ -19,6 +18,7 @@ use Rattle.ct_register_runs.specs.Runs.{config, x, both, one_write, locks_databa
 use Rattle.ct_register.proofs.Places.{Everywhere, everywhere_at, at_all, at_twice, at_key_twice, of_one}
 use Rattle.ct_register.proofs.Small.{one_not_zero, nought, same, below_next}
 use Rattle.ct_register.proofs.Ways.{labels_after, database_after, begun_after}
+use Rattle.ct_register.proofs.Formed.{all_seen_counted}
 use Rattle.ct_register_runs.proofs.Rounds.{Unowned, unowned_at, unowned_by, nobody, births, persistent_births}
 
 -- nobody has seen any version
@@ -28,10 +28,6 @@ SeenNone x = (m : ℕ) → x.seen m ≤ 0
 -- as many commits are acknowledged, and seen by each node, as there are at most
 abbrev pub Within : Database → Type 0
 Within d = (d.acked ≤ length d.commits) × ((m : ℕ) → d.seen m ≤ length d.commits)
-
-within_all : (all : ℕ) (members missing : List ℕ) (seen : ℕ → ℕ) → ((m : ℕ) → seen m ≤ all) → (m : ℕ) → Database.all_seen all members missing seen m ≤ all
-unfolding Database.all_seen
-within_all all members missing seen within m = cond_both (is_among m members && not (is_among m missing)) all (seen m) (λ c. c ≤ all) (λ _. same all) (λ _. within m)
 
 -- ---- a commit that is unsure
 
@@ -63,7 +59,7 @@ begun_seen = at_all (λ (c : ℕ). c ≤ 1) 0 1 (λ _. 0) (same 1) (λ _. nought
 
 unsure_within : (db : ℕ) → Within (Words.at 2 unsure begun_line db)
 unfolding unsure begun_line
-unsure_within = at_all Within 2 unsure begun_line (nought 1, within_all 1 both (1 ∷ []) _ begun_seen) (at_all Within 2 (begun_after 0 one_write (Database.newborn 0 [])) (λ _. Database.newborn 0 []) (nought 1, begun_seen) (λ _. (nought 0, λ m. nought 0)))
+unsure_within = at_all Within 2 unsure begun_line (nought 1, all_seen_counted 1 both (1 ∷ []) _ begun_seen) (at_all Within 2 (begun_after 0 one_write (Database.newborn 0 [])) (λ _. Database.newborn 0 []) (nought 1, begun_seen) (λ _. (nought 0, λ m. nought 0)))
 
 -- ---- a round that keeps it
 
