@@ -104,7 +104,7 @@ allowed c rules n o e =
     let pending = first_none _ _ wish.1 in let lock = first_none _ _ pending.1 in let under = first_none _ _ lock.1 in
     record { kind = kind.0; serving = serving.0; pending = pending.0; under = under.0 }
 
-serves_present : (p : Phase) → is_serving p ≡ true → is_present p ≡ true
+pub serves_present : (p : Phase) → is_serving p ≡ true → is_present p ≡ true
 unfolding is_serving is_present
 serves_present Serving e = refl
 serves_present _ e = absurd (cc)
@@ -231,7 +231,7 @@ on_freeze_locked c me h g t k = either (nat_lt t.node.promise g) (is_frozen_in g
     either false true = k
     either false false = k
 
-not_present : (g : ℕ) (p : Phase) → is_frozen_in g p ≡ true → is_present p ≡ false
+pub not_present : (g : ℕ) (p : Phase) → is_frozen_in g p ≡ true → is_present p ≡ false
 unfolding is_frozen_in is_present
 not_present g (Frozen h) e = refl
 not_present g _ e = absurd (cc)

@@ -1,11 +1,11 @@
 -- What the law of persistent databases needs before a step, and what a step is to keep.
-use Rattle.std.proofs.Common.{◌≡◌, ℕ, true, false, List, [], ◌++◌, Option, None, Some, refl, ap, ◌∙◌}
+use Rattle.std.proofs.Common.{◌≡◌, ℕ, true, List, [], ◌++◌, Option, None, Some, refl, ap, ◌∙◌}
 use Rattle.std.specs.Prelude.{is_some, nat_eq}
 use Rattle.std.specs.List.{AllByRecursion}
 use Rattle.std.proofs.lemmas.Bool.{and_parts, eqb-true}
 use Rattle.ct_msg.specs.declared.config.Config.{Config}
 use Rattle.ct_frame.specs.declared.frame.Frame.{Frame}
-use Rattle.ct_rules_node.specs.Node.{Node, Phase, Frozen, Committing, is_present, is_present_in, is_frozen_in, is_persistent, kind_at, db_at}
+use Rattle.ct_rules_node.specs.Node.{Node, Committing, is_present, is_present_in, is_frozen_in, is_persistent, kind_at, db_at}
 use Rattle.ct_rules_node.specs.Clients.{is_committing}
 use Rattle.ct_rules_node.specs.Turn.{Turn}
 use Rattle.ct_cluster.specs.Labels.{Label}
@@ -15,6 +15,7 @@ use Rattle.ct_register.specs.Words.{at}
 use Rattle.ct_law_shown.specs.Shown.{labels_of}
 use Rattle.ct_law_node.proofs.Pending.{Callers, Fits}
 use Rattle.ct_law_plain.proofs.Locked.{CommitLocked, waits_in, commit_locked, none_waits}
+use Rattle.ct_law_plain.proofs.Whole.{not_present}
 use Rattle.ct_law_stores.proofs.Facts.{Has, Gone, bases, owners, MailStands, Holds, Settled}
 use Rattle.ct_law_kept.proofs.Kept.{Calm, Kept, frame_list, calm_kept}
 use Rattle.ct_law_kept.proofs.Law.{RoundsHold, LockLaw}
@@ -62,15 +63,10 @@ pub present_in : (g : ℕ) (x : Node) → is_present_in g x ≡ true → (is_pre
 unfolding is_present_in
 present_in g x e = (let p = and_parts (is_present x.phase) (nat_eq x.generation g) e in (p.0, eqb-true x.generation g p.1))
 
-frozen_absent : (g : ℕ) (p : Phase) → is_frozen_in g p ≡ true → is_present p ≡ false
-unfolding is_frozen_in is_present
-frozen_absent g (Frozen h) e = refl
-frozen_absent g _ e = absurd (cc)
-
 -- no commit waits at a node that is frozen
 pub frozen_quiet : (config : Config) (x : Node) (g : ℕ) → CommitLocked config x → is_frozen_in g x.phase ≡ true → (db : ℕ) → (db_at db x).commit ≡ None
 unfolding waits_in db_at
-frozen_quiet config x g locked frozen db = by (db_at db x).commit refl (none_waits config x.phase x.dbs locked (frozen_absent g x.phase frozen) db)
+frozen_quiet config x g locked frozen db = by (db_at db x).commit refl (none_waits config x.phase x.dbs locked (not_present g x.phase frozen) db)
   where
     by : (o : Option Committing) → (db_at db x).commit ≡ o → (is_some (db_at db x).commit ≡ true → ⊥) → o ≡ None
     by None e none = refl

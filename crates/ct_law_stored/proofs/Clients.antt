@@ -20,7 +20,7 @@ use Rattle.ct_persist.specs.Persisted.{fits}
 use Rattle.ct_rules.specs.Parts.{want}
 use Rattle.ct_rules_node.specs.Records.{at_record}
 use Rattle.ct_rules_node.proofs.Refusals.{first_none, required}
-use Rattle.ct_rules_node.specs.Node.{Node, Phase, Serving, is_serving, is_present, is_among, is_persistent, kind_at, name_of, db_at}
+use Rattle.ct_rules_node.specs.Node.{Node, is_serving, is_present, is_among, is_persistent, kind_at, name_of, db_at}
 use Rattle.ct_rules_node.specs.Turn.{Turn, begins, does, makes, answers, posts, posts_all, with_node}
 use Rattle.ct_rules_node.specs.Refusals.{refused_if}
 use Rattle.ct_rules_node.specs.Databases.{updates, with_commit, awaits_others, commits_at, commit, read_pair}
@@ -37,6 +37,7 @@ use Rattle.ct_law_cluster.proofs.Configured.{refusals_silent}
 use Rattle.ct_law_shown.specs.Shown.{labels_of}
 use Rattle.ct_law_shown.specs.Waiting.{answered}
 use Rattle.ct_law_node.proofs.Pending.{Callers, Fits}
+use Rattle.ct_law_plain.proofs.Whole.{serves_present}
 use Rattle.ct_law_callers.proofs.Known.{Waits, Commits, NodeCalls}
 use Rattle.ct_law_callers.proofs.Whole.{IsNew}
 use Rattle.ct_law_stores.proofs.Facts.{Has, Gone, bases, owners, WaitsIn}
@@ -67,11 +68,6 @@ free config rules x asked e =
     let db = first_none _ _ e in let kind = first_none _ _ db.1 in let serving = first_none _ _ kind.1 in let wish = first_none _ _ serving.1 in
     let pending = first_none _ _ wish.1 in let lock = first_none _ _ pending.1 in let under = first_none _ _ lock.1 in let known = first_none _ _ under.1 in let room = first_none _ _ known.1 in
     record { kind = kind.0; serving = serving.0; pending = pending.0; under = under.0; room = room.0 }
-
-serves_present : (p : Phase) → is_serving p ≡ true → is_present p ≡ true
-unfolding is_serving is_present
-serves_present Serving e = refl
-serves_present _ e = absurd (cc)
 
 commit_kind : (config : Config) (db : ℕ) (ws : List Pair) → wrong_kind config (op.Commit db ws) ≡ None → is_persistent (kind_at config db) ≡ true
 unfolding wrong_kind refused_if is_commit
