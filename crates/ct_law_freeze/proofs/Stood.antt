@@ -197,7 +197,7 @@ freezing_same p g h k l e f = generation (Freezing g h) (Freezing k l) (sym e �
     generation : (p q : Phase) → p ≡ q → of p ≡ of q
     generation p q e = ap of e
 
-pub frozen_not : (p : Phase) (g k l : ℕ) → p ≡ Frozen g → p ≢ Freezing k l
+frozen_not : (p : Phase) (g k l : ℕ) → p ≡ Frozen g → p ≢ Freezing k l
 frozen_not p g k l e f = absurd (let j : Frozen g ≡ Freezing k l = sym e ∙ f in cc)
 
 no_locks : (b : Bool) (s : RecState) → s.locked ≡ None → (cond b (unlock (frozen_state s)) (frozen_state s)).locked ≡ None

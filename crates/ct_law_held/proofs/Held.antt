@@ -56,11 +56,11 @@ use Rattle.ct_law_shown.specs.Waiting.{answered}
 use Rattle.ct_promise.specs.Marked.{is_removal}
 use Rattle.ct_law_node.proofs.Calling.{own_pending}
 use Rattle.ct_law_held.proofs.Holding
+use Rattle.ct_law_lead.proofs.Rounding.{not_freezing}
 use Rattle.ct_register.proofs.Places.{at_other}
 use Rattle.ct_store.specs.Map.{look}
 use Rattle.ct_rules_node.specs.Node.{or_nothing}
 use Rattle.ct_rules.specs.State.{rsn_of}
-use Rattle.ct_law_freeze.proofs.Stood.{frozen_not}
 
 -- what the turn makes of the node, which freezes for g and its leader l: the record's state, and the phase
 pub record Held_node (x y : Node) (db : ℕ) (key : List ℕ) (st : RecState) (g l : ℕ) : Type 0 where
@@ -111,7 +111,7 @@ replied_held r s a b n q vbase pbase table x y db key st g l is z freezing locke
   still = k.still;
   past = λ j e. ⊎_elim
       (λ (i : y.phase ≡ Freezing g l). k.past j (freezing ∙ sym i ∙ e))
-      (λ p. absurd (frozen_not y.phase g q j p.0 e))
+      (λ p. absurd (not_freezing y.phase g q j p.0 e))
       z.phase;
   stuck = λ ne line. absurd (stuck ne line);
   some = λ ne. (let p = k.some ne in (p.0, p.1, λ d o. p.2 d o ∙ ap (λ (t : View). row_of n d o t.state.copy) (sym (views vbase d o (λ e. stuck ne (sym e))))));

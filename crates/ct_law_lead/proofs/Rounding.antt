@@ -12,7 +12,7 @@ use Rattle.ct_frame.specs.declared.frame.Msg.TheVariants as msg
 use Rattle.ct_call.specs.Rules.{Rules}
 use Rattle.ct_lcp2.proofs.Choices.{all_weaken}
 use Rattle.ct_rules.specs.declared.state.RecState.{RecState}
-use Rattle.ct_rules_node.specs.Node.{Node, Phase, Frozen, Lead, db_at, state_at}
+use Rattle.ct_rules_node.specs.Node.{Node, Phase, Freezing, Frozen, Lead, db_at, state_at}
 use Rattle.ct_rules_node.specs.Rounds.{frozen_state}
 use Rattle.ct_rules_node.specs.Turn.{Turn, begins}
 use Rattle.ct_rules_node.specs.Admission.{is_sound, record_in}
@@ -28,7 +28,7 @@ use Rattle.ct_law_shown.specs.Shown.{mails, mail_of, labels_of}
 use Rattle.ct_law_line.proofs.Ages.{Ages, Rests}
 use Rattle.ct_law_line.proofs.Lives.{Lives, NodeLives, MailSays, RoundSays, ReplySays, LeadSays, PhaseSays}
 use Rattle.ct_law_line.proofs.Faces.{Turned}
-use Rattle.ct_law_freeze.proofs.Stood.{lead_later, frozen_not}
+use Rattle.ct_law_freeze.proofs.Stood.{lead_later}
 use Rattle.ct_rules_node.specs.Node.{is_present}
 use Rattle.ct_law_line.proofs.Lives.{Replied}
 use Rattle.ct_law_freeze.proofs.Turning.{sent_still}
@@ -130,6 +130,9 @@ unfolding is_frozen_in
 frozen_of (Frozen h) g e = ap Frozen (eqb-true h g e)
 frozen_of _ g e = absurd (cc)
 
+pub not_freezing : (p : Phase) (g k l : ℕ) → p ≡ Frozen g → p ≢ Freezing k l
+not_freezing p g k l e f = absurd (let j : Frozen g ≡ Freezing k l = sym e ∙ f in cc)
+
 frozen_absent : (g : ℕ) → is_present (Frozen g) ≡ false
 unfolding is_present
 frozen_absent g = refl
@@ -150,7 +153,7 @@ tells_itself c rules w r h n g there frozen =
       older = (let e = own.line in omega arith);
       had = subst (λ (l : ℕ). r.had g n l ≡ true) (sym own.line) (h.formed.order.has g n k.0.0 k.0.1);
       still = λ _ _. sym own.line;
-      past = λ l e. frozen_not x.phase g g l is e;
+      past = λ l e. not_freezing x.phase g g l is e;
       stuck = λ _ _. (ap is_present is ∙ frozen_absent g, k.6);
       some = λ ne. (let nz : r.line n ≢ 0 = (λ z. ne (own.line ∙ z)) in (
         subst (λ (l : ℕ). r.born l ≡ true) (sym own.line) (own.named nz).0,
