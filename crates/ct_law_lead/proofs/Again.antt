@@ -77,7 +77,7 @@ release_says : (c : Config) (w : Cluster) (r : Lines) (a : Ages) (n g k number :
 unfolding RoundSays ReplySays record_in
 release_says c w r a n g k number keep = record { sender = refl; round = tt; none = refl; reply = tt }
 
-take_says : (c : Config) (w : Cluster) (r : Lines) (a : Ages) (n g k number : ℕ) (assigned : List Assigned) → Says_round c w r a n (record { generation = g; sender = n; receiver = k; msg = msg.Take number assigned })
+pub take_says : (c : Config) (w : Cluster) (r : Lines) (a : Ages) (n g k number : ℕ) (assigned : List Assigned) → Says_round c w r a n (record { generation = g; sender = n; receiver = k; msg = msg.Take number assigned })
 unfolding RoundSays ReplySays record_in
 take_says c w r a n g k number assigned = record { sender = refl; round = tt; none = refl; reply = tt }
 

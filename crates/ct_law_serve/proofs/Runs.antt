@@ -5,7 +5,6 @@ use Rattle.std.proofs.lemmas.Bool.{and_parts, eqb-true}
 use Rattle.ct_bytes.specs.Words.{others}
 use Rattle.ct_msg.specs.declared.config.Config.{Config}
 use Rattle.ct_frame.specs.declared.event.Event.TheVariants as event
-use Rattle.ct_frame.specs.declared.frame.Assigned.{Assigned}
 use Rattle.ct_frame.specs.declared.frame.Frame.{Frame}
 use Rattle.ct_frame.specs.declared.frame.Msg.{Msg}
 use Rattle.ct_frame.specs.declared.frame.Msg.TheVariants as msg
@@ -14,7 +13,7 @@ use Rattle.ct_frame.specs.declared.frame.TableRow.{TableRow}
 use Rattle.ct_call.specs.Rules.{Rules}
 use Rattle.ct_rules_node.specs.Node.{Phase, Lead, Nothing, Freezes, Pulls, Installs, Completed, Takeover, Run, NoRun, Releasing, Taking, Idle, Serving, Installed, Freezing, Frozen, is_present, is_present_in, is_frozen_in, is_among}
 use Rattle.ct_rules_node.specs.Turn.{Turn, begins, posts}
-use Rattle.ct_rules_node.specs.Admission.{is_current, is_sound, record_in}
+use Rattle.ct_rules_node.specs.Admission.{is_current, is_sound}
 use Rattle.ct_rules_node.specs.Rounds.{on_push, installs}
 use Rattle.ct_rules_node.specs.Takeovers.{assigned_in, all_released, released_by, on_releaseack}
 use Rattle.ct_rules_node.specs.Steps.{arrives, if_sound, if_taken_over, happens}
@@ -22,17 +21,14 @@ use Rattle.ct_cluster.specs.Cluster.{Cluster, node_at, pending}
 use Rattle.ct_register.specs.Lines.{Lines}
 use Rattle.ct_law_node.proofs.Staying.{number_of}
 use Rattle.ct_law_line.proofs.Ages.{Ages}
-use Rattle.ct_law_line.proofs.Lives.{IsTicket, AllHaveInstalled, RoundSays, ReplySays, LeadSays, Lives}
+use Rattle.ct_law_line.proofs.Lives.{IsTicket, AllHaveInstalled, LeadSays, Lives}
 use Rattle.ct_law_line.proofs.Faces.{Turned}
 use Rattle.ct_law_lead.proofs.Leading.{Led, lead_turned}
-use Rattle.ct_law_lead.proofs.Rounding.{Says_round, idle_led, one_led}
+use Rattle.ct_law_lead.proofs.Rounding.{idle_led, one_led}
 use Rattle.ct_law_lead.proofs.Arriving.{posts_led, only_leads}
+use Rattle.ct_law_lead.proofs.Again.{take_says}
 
 -- ---- ReleaseAck
-
-take_says : (c : Config) (w : Cluster) (r : Lines) (a : Ages) (n g k number : ℕ) (assigned : List Assigned) → Says_round c w r a n (record { generation = g; sender = n; receiver = k; msg = msg.Take number assigned })
-unfolding RoundSays ReplySays record_in
-take_says c w r a n g k number assigned = record { sender = refl; round = tt; none = refl; reply = tt }
 
 released_led : (c : Config) (w : Cluster) (r : Lines) (a : Ages) (n k g : ℕ) (members : List ℕ) (x : Takeover) (run : Run) → LeadSays c w r a n (node_at n w).lead → IsTicket c r g n members × (r.born g ≡ true) × AllHaveInstalled r g members →
     Led c w r a n (released_by n k g members x (begins (node_at n w)) run)
