@@ -1,9 +1,9 @@
 -- A good input is played to its end.
-use Rattle.std.proofs.Common.{◌≡◌, ℕ, ◌<◌, ◌≤◌, List, [], ◌∷◌, ◌++◌, length, true, false, cond, nat_eq, Option, None, Some, Result, Ok, Err, refl, ap, subst, ◌∙◌, append-nil, length-append, arith, inl, inr, ⊎_elim}
-use Rattle.std.specs.Io.KnownBytes.{Consumes, IsAtEnd}
+use Rattle.std.proofs.Common.{◌≡◌, ℕ, ◌<◌, ◌≤◌, List, [], ◌∷◌, ◌++◌, length, true, false, cond, nat_eq, None, Some, Result, Ok, Err, refl, ap, subst, length-append, arith, inl, inr, ⊎_elim}
 use Rattle.std.proofs.lemmas.Bool.{cases_lt, le-ltb}
 use Rattle.ct_call.specs.Rules.{Rules}
 use Rattle.ct_lines.specs.declared.line.LineKind.TheVariants.{Long}
+use Rattle.ct_placer.proofs.Complete.{taken_front, all_taken}
 use Rattle.ct_play.specs.Play.{continued, lines_after, played, rest, rest_after, run_from, run_lines, with_rest}
 use Rattle.ct_play.specs.Session.{Played, line_played, longest, start}
 use Rattle.ct_play.specs.declared.session.Session.{Session}
@@ -35,16 +35,6 @@ unrefused_front rules s line (x ∷ bytes) more h =
     ]) h
 
 -- ---- what was taken
-
--- it is a front of what was left
-taken_front : (input : List ℕ) (left : Option (List ℕ)) (bytes : List ℕ) → Consumes (Some input) left bytes → (more : List ℕ) × (input ≡ bytes ++ more)
-taken_front input None bytes c = absurd c
-taken_front input (Some ys) bytes c = (ys, c)
-
--- it is all of it where nothing is left
-all_taken : (input : List ℕ) (left : Option (List ℕ)) (bytes : List ℕ) → Consumes (Some input) left bytes → IsAtEnd left → input ≡ bytes
-all_taken input None bytes c z = absurd c
-all_taken input (Some ys) bytes c z = c ∙ ap (λ l. bytes ++ l) z ∙ append-nil bytes
 
 -- of a front nothing is refused
 good_front : (rules : Rules) (input bytes : List ℕ) → IsGood rules input → ((more : List ℕ) × (input ≡ bytes ++ more)) → (played rules bytes).refusal ≡ None

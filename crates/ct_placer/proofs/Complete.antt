@@ -35,12 +35,12 @@ unrefused_front n g line (x ∷ bytes) more h =
 -- ---- what was taken
 
 -- it is a front of what was left
-taken_front : (input : List ℕ) (left : Option (List ℕ)) (bytes : List ℕ) → Consumes (Some input) left bytes → (more : List ℕ) × (input ≡ bytes ++ more)
+pub taken_front : (input : List ℕ) (left : Option (List ℕ)) (bytes : List ℕ) → Consumes (Some input) left bytes → (more : List ℕ) × (input ≡ bytes ++ more)
 taken_front input None bytes c = absurd c
 taken_front input (Some ys) bytes c = (ys, c)
 
 -- it is all of it where nothing is left
-all_taken : (input : List ℕ) (left : Option (List ℕ)) (bytes : List ℕ) → Consumes (Some input) left bytes → IsAtEnd left → input ≡ bytes
+pub all_taken : (input : List ℕ) (left : Option (List ℕ)) (bytes : List ℕ) → Consumes (Some input) left bytes → IsAtEnd left → input ≡ bytes
 all_taken input None bytes c z = absurd c
 all_taken input (Some ys) bytes c z = c ∙ ap (λ l. bytes ++ l) z ∙ append-nil bytes
 
