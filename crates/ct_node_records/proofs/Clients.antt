@@ -160,7 +160,7 @@ not_freezing false u r l e = refl
 present_for : (c : Config) (t : Turn) (o : ClientOp) → IsServed c t.node o → may_finish t.node o ≡ false → is_present t.node.phase ≡ true
 present_for c t o s f = serving_present t.node.phase (s.phase f)
 
-never_finishes : (n : Node) (o : ClientOp) → is_under_lock o ≡ false → is_read o ≡ false → may_finish n o ≡ false
+pub never_finishes : (n : Node) (o : ClientOp) → is_under_lock o ≡ false → is_read o ≡ false → may_finish n o ≡ false
 unfolding may_finish
 never_finishes n o u r = grind arith
 

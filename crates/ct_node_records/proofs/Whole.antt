@@ -20,7 +20,7 @@ use Rattle.ct_law_rules.specs.Form.{is_of_record}
 use Rattle.ct_rules.specs.declared.state.RecState.{RecState}
 use Rattle.ct_rules.specs.declared.event.MoveEvent.TheVariants as move_event
 use Rattle.ct_rules_node.specs.Admission.{is_current, named_in, record_in}
-use Rattle.ct_rules_node.specs.Clients.{client, is_under_lock, may_finish, reads, refusal, serves, serves_or}
+use Rattle.ct_rules_node.specs.Clients.{client, is_under_lock, reads, refusal, serves, serves_or}
 use Rattle.ct_rules_node.specs.Coming.{is_allowed_op}
 use Rattle.ct_rules_node.specs.Node.{Database, Node, Phase, Idle, Serving, Installed, Freezing, Frozen, db_at, has_records, is_persistent, is_present, is_present_in, is_serving, kind_at, or_untouched, untouched}
 use Rattle.ct_rules_node.specs.Retries.{call_all, retry_records, revoke_in}
@@ -32,7 +32,7 @@ use Rattle.ct_node_form.proofs.Lists.{among_all, each_among}
 use Rattle.ct_node_form.proofs.Putting.{small_db}
 use Rattle.ct_node_form.proofs.Turns.{answers_in_form, makes_in_form, notes_in_form, with_phase_in_form}
 use Rattle.ct_node_records.proofs.Admitting.{IsServed, records_there, served, serving_present}
-use Rattle.ct_node_records.proofs.Clients.{apply_called, event_in_form, lock_called, read_called, store_in_form, unlock_called, write_called}
+use Rattle.ct_node_records.proofs.Clients.{apply_called, event_in_form, lock_called, read_called, store_in_form, unlock_called, write_called, never_finishes}
 use Rattle.ct_node_records.proofs.Commits.{commit_in_form, commits_of, pack_in_form, pair_in_form, pupdate_in_form, update_in_in_form, update_in_spent}
 use Rattle.ct_node_records.proofs.Going.{Goes, call_all_goes, inside, pending_below, revoke_in_goes, vacuum_all_goes, want_all_goes}
 use Rattle.ct_node_records.specs.Laws.{ClientsKeepForm, CommitMessagesKeepForm, RecordMessagesKeepForm, RetriesKeepForm, ThawsKeepForm, VacuumsKeepForm}
@@ -44,17 +44,13 @@ unfolding reads
 reads_in_form c rules me call db key t s h unspent =
     cond_both (is_persistent (kind_at c db)) _ _ (λ (u : Turn). u.spent ≡ false → TurnInForm c me u) (λ _ e. pair_in_form c me call db key t h) (λ _ e. read_called c rules me call db key t s h (inside c me db t h s.there) e) unspent
 
-commit_serves : (n : Node) (o : ClientOp) → is_under_lock o ≡ false → is_read o ≡ false → may_finish n o ≡ false
-unfolding may_finish
-commit_serves n o u r = grind arith
-
 serves_in_form : (c : Config) (rules : Rules) (me call : ℕ) (t : Turn) (o : ClientOp) → IsServed c t.node o → is_allowed_op o ≡ true → TurnInForm c me t → (serves c rules me call t o).spent ≡ false → TurnInForm c me (serves c rules me call t o)
 unfolding serves is_allowed_op is_under_lock is_read
 serves_in_form c rules me call t (op.Read db key) s may h unspent = reads_in_form c rules me call db key t s h unspent
 serves_in_form c rules me call t (op.Store db key v) s may h unspent = store_in_form c rules me call db key v t h (inside c me db t h s.there) (s.locked refl) unspent
 serves_in_form c rules me call t (op.Unlock db key) s may h unspent = unlock_called c rules me call db key t s h (inside c me db t h s.there) unspent
 serves_in_form c rules me call t (op.Commit db writes) s may h unspent =
-    commit_in_form c me call db writes t h (serving_present t.node.phase (s.phase (commit_serves t.node (op.Commit db writes) refl refl))) (small_db c me db t.node h.node (inside c me db t h s.there)) may unspent
+    commit_in_form c me call db writes t h (serving_present t.node.phase (s.phase (never_finishes t.node (op.Commit db writes) refl refl))) (small_db c me db t.node h.node (inside c me db t h s.there)) may unspent
 serves_in_form c rules me call t (op.Lock db key) s may h unspent = lock_called c rules me call db key t s h (inside c me db t h s.there) unspent
 serves_in_form c rules me call t (op.Write db key v) s may h unspent = write_called c rules me call db key v t s h (inside c me db t h s.there) unspent
 serves_in_form c rules me call t (op.Apply db key f arg) s may h unspent = apply_called c rules me call db key f arg t s h (inside c me db t h s.there) unspent
@@ -82,7 +78,7 @@ current c me t f h e =
     let p = and_parts _ _ e in let q = and_parts _ _ p.0 in let r = and_parts _ _ q.0 in
     record { present = r.0; sender = among_all (is_node_of c) f.sender t.node.members h.node.members_are q.1; named = each_among (is_node_of c) (named_in f.msg) t.node.members h.node.members_are p.1 }
 
-message_of : (f : Frame) → well_formed f ≡ true → is_message f.sender f.msg ≡ true
+pub message_of : (f : Frame) → well_formed f ≡ true → is_message f.sender f.msg ≡ true
 message_of f e = (and_parts _ (is_message f.sender f.msg) e).1
 
 of_record : (m : Msg) (r : ℕ × List ℕ) → record_in m ≡ Some r → is_of_record m ≡ true

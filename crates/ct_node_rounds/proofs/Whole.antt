@@ -15,6 +15,7 @@ use Rattle.ct_rules_node.specs.Admission.{is_sound, masters_in, named_in, nodes_
 use Rattle.ct_rules_node.specs.Steps.{if_sound}
 use Rattle.ct_rules_node.specs.Turn.{Turn}
 use Rattle.ct_node_form.specs.Whole.{TurnInForm, is_node_of}
+use Rattle.ct_node_records.proofs.Whole.{message_of}
 use Rattle.ct_node_rounds.proofs.Freezing.{freeze_in_form}
 use Rattle.ct_node_rounds.proofs.Gathering.{pullreply_in_form}
 use Rattle.ct_node_rounds.proofs.Leading.{begin_in_form, freezeack_in_form}
@@ -40,9 +41,6 @@ from_nodes c f e =
 
 pub generation_of : (f : Frame) → well_formed f ≡ true → is_from_one f.generation ≡ true
 generation_of f e = (and_parts (is_from_one f.generation) (is_node f.receiver) (and_parts _ (is_node f.sender) (and_parts _ (is_message f.sender f.msg) e).0).0).0
-
-pub message_of : (f : Frame) → well_formed f ≡ true → is_message f.sender f.msg ≡ true
-message_of f e = (and_parts _ (is_message f.sender f.msg) e).1
 
 members_of : (p : ℕ → Bool) (f : Frame) (members : List ℕ) (table : List TableRow) (ptables : List PTable) (assigned : List Assigned) → f.msg ≡ msg.Push members table ptables assigned → list_all p (named_in f.msg) ≡ true → list_all p members ≡ true
 unfolding named_in

@@ -17,8 +17,8 @@ use Rattle.ct_rules_node.specs.Retries.{retry, retry_lead, retry_records}
 use Rattle.ct_rules_node.specs.Steps.{arrives, happens, if_sound, if_taken_over, on_record_of, unless_spent}
 use Rattle.ct_rules_node.specs.Turn.{Turn, begins}
 use Rattle.ct_node_form.specs.Whole.{NodeInForm, TurnInForm, is_node_of, is_sound_out}
-use Rattle.ct_node_records.proofs.Whole.{clients_keep_form, commit_messages_keep_form, record_messages_keep_form, retries_keep_form, thaws_keep_form, vacuums_keep_form}
-use Rattle.ct_node_rounds.proofs.Whole.{begins_keep_form, from_nodes, message_of, rounds_keep_form}
+use Rattle.ct_node_records.proofs.Whole.{clients_keep_form, commit_messages_keep_form, record_messages_keep_form, retries_keep_form, thaws_keep_form, vacuums_keep_form, message_of}
+use Rattle.ct_node_rounds.proofs.Whole.{begins_keep_form, from_nodes, rounds_keep_form}
 use Rattle.ct_node_steps.proofs.Takeovers.{begin_takeover_in_form, release_in_form, releaseack_in_form, retry_lead_in_form, retry_lead_spent, take_in_form}
 use Rattle.ct_node_steps.specs.Laws.{HappensInForm, StepsKeepForm}
 
