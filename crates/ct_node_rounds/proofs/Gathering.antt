@@ -167,7 +167,7 @@ all_pulled_in_form c me g members x t [] l p h =
     (notes_in_form c me (note.Round g members b.vparent b.pparent) _ (with_lead_in_form c me (Installs g members members b) t (led_all c me g members [] l, sound) h))
 all_pulled_in_form c me g members x t (n ∷ ns) l p h = with_lead_in_form c me (Pulls g members (n ∷ ns) x) t (l, p) h
 
-nodes_of : (members : List ℕ) → are_nodes members ≡ true → list_all is_node members ≡ true
+pub nodes_of : (members : List ℕ) → are_nodes members ≡ true → list_all is_node members ≡ true
 nodes_of members e = (and_parts _ (list_all is_node members) (and_parts _ (ascends nat_lt members) e).0).1
 
 pub pullreply_in_form : (c : Config) (me g : ℕ) (pull : Pull) (t : Turn) (l : Lead) → is_message pull.node (msg.PullReply pull.vbase pull.pbase pull.table pull.ptables pull.addresses) ≡ true → LeadInForm c me l → TurnInForm c me t → TurnInForm c me (on_pullreply me g pull t l)

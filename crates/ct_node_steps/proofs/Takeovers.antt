@@ -10,7 +10,7 @@ use Rattle.ct_bytes.specs.Address.{address_cmp}
 use Rattle.ct_bytes.specs.Words.{is_this_node, others}
 use Rattle.ct_bytes.specs.declared.address.Address.{Address}
 use Rattle.ct_msg.specs.declared.config.Config.{Config}
-use Rattle.ct_frame.specs.Fields.{are_addresses, are_nodes, ascends, assigned_before, is_assigned, is_from_one, is_message, is_node, is_some_node}
+use Rattle.ct_frame.specs.Fields.{are_addresses, ascends, assigned_before, is_assigned, is_from_one, is_message, is_node, is_some_node}
 use Rattle.ct_frame.specs.declared.event.Note.TheVariants as note
 use Rattle.ct_frame.specs.declared.frame.Assigned.{Assigned}
 use Rattle.ct_frame.specs.declared.frame.Msg.TheVariants as msg
@@ -35,6 +35,7 @@ use Rattle.ct_node_form.proofs.Whole.{filter_ascends, sorted_addresses, sorted_s
 use Rattle.ct_node_records.proofs.Commits.{posts_all_spent}
 use Rattle.ct_node_rounds.proofs.Leading.{led_as, missing_configured, same_round}
 use Rattle.ct_node_rounds.proofs.Pushing.{releases_in_form}
+use Rattle.ct_node_rounds.proofs.Gathering.{nodes_of}
 
 -- ---- placements
 
@@ -128,9 +129,6 @@ releases_sent_spent : (me g number : ℕ) (xs : List Assigned) (ns : List ℕ) (
 unfolding send_releases posts does
 releases_sent_spent me g number xs [] t = refl
 releases_sent_spent me g number xs (n ∷ ns) t = releases_sent_spent me g number xs ns (posts g me n (msg.Release number (share n xs)) t)
-
-nodes_of : (members : List ℕ) → are_nodes members ≡ true → list_all is_node members ≡ true
-nodes_of members e = (and_parts _ (list_all is_node members) (and_parts _ (ascends nat_lt members) e).0).1
 
 above_zero : (n : ℕ) → n + 1 < 2 ^ 62 → is_from_one (n + 1) ≡ true
 above_zero n l = from_one_is (n + 1) (omega arith) l
