@@ -194,7 +194,7 @@ unfolding sum_to
 sum_beside_insert b None pre x post = omega arith
 sum_beside_insert b (Some m) pre x post = sum_held_insert b m pre x post
 
-eq_flips : (m n : ℕ) → nat_eq m n ≡ nat_eq n m
+pub eq_flips : (m n : ℕ) → nat_eq m n ≡ nat_eq n m
 eq_flips m n = grind arith
 
 -- two addresses at one node count alike

@@ -5,6 +5,7 @@ use Rattle.std.specs.Prelude.{nat_eq, nat_le, ◌&&◌}
 use Rattle.std.specs.List.{filter}
 use Rattle.ct_frame.specs.declared.frame.Assigned.{Assigned}
 use Rattle.ct_lcp2.specs.Placing.{placed}
+use Rattle.ct_lcp2.proofs.Standing.{eq_flips}
 use Rattle.ct_lead.specs.Runs.{is_completed_in, asked_again, led_running, led_takeover}
 use Rattle.ct_planned.specs.Changes.{changed_by}
 use Rattle.ct_posts.specs.Posts.{does_all, release_to}
@@ -12,9 +13,6 @@ use Rattle.ct_posts.proofs.Sending.{releases_does}
 use Rattle.ct_rules_node.specs.Node.{Lead, Nothing, Freezes, Pulls, Installs, Completed, Takeover, is_among, is_serving}
 use Rattle.ct_rules_node.specs.Takeovers.{begin_takeover, runs}
 use Rattle.ct_rules_node.specs.Turn.{Turn, makes, with_lead}
-
-turned : (m n : ℕ) → nat_eq m n ≡ nat_eq n m
-turned m n = grind arith
 
 -- only the leader of its generation begins one, once the round is completed
 pub takeover_dropped : (me : ℕ) (able : List ℕ) (t : Turn) (l : Lead) → (is_serving t.node.phase && is_completed_in t.node.generation l) ≡ false → begin_takeover me able t l ≡ t
@@ -24,7 +22,7 @@ takeover_dropped me able t (Freezes g members missing) e = refl
 takeover_dropped me able t (Pulls g members missing x) e = refl
 takeover_dropped me able t (Installs g members missing b) e = refl
 takeover_dropped me able t (Completed g members x) e =
-    ap (λ (b : Bool). cond (is_serving t.node.phase && b) (runs me g members x (x.number + 1) (placed (filter (λ n. is_among n members) able) x.made) t) t) (turned t.node.generation g)
+    ap (λ (b : Bool). cond (is_serving t.node.phase && b) (runs me g members x (x.number + 1) (placed (filter (λ n. is_among n members) able) x.made) t) t) (eq_flips t.node.generation g)
     ∙ ap (λ (b : Bool). cond b (runs me g members x (x.number + 1) (placed (filter (λ n. is_among n members) able) x.made) t) t) e
 
 -- it has the next number and the placement over the able members, who get their Releases
@@ -41,7 +39,7 @@ takeover_is me able t (Completed g members x) s e =
     let placement = placed (filter (λ n. is_among n members) able) x.made in
     let number = x.number + 1 in
     ap (λ (b : Bool). cond (b && nat_eq t.node.generation g) (runs me g members x number placement t) t) s
-    ∙ ap (λ (b : Bool). cond b (runs me g members x number placement t) t) (turned t.node.generation g ∙ e)
+    ∙ ap (λ (b : Bool). cond b (runs me g members x number placement t) t) (eq_flips t.node.generation g ∙ e)
     ∙ releases_does g me number placement members (makes number (with_lead (led_running number placement (Completed g members x)) t))
     ∙ ap (λ (h : ℕ). does_all (map (release_to h me number placement) members) (makes number (with_lead (led_running number placement (Completed g members x)) t))) (eqb-true g t.node.generation e)
 
