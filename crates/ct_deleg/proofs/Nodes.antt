@@ -44,7 +44,7 @@ sorted_including node (n ∷ ns) s = by (nat_lt n node) (nat_eq n node) refl ref
     by false true p q r = s
     by false false p q r = (let l = less node n (grind arith) in ((l, above_higher node n ns l s.0), s))
 
-sorted_none : IsStrictlySortedBy nat_cmp []
+pub sorted_none : IsStrictlySortedBy nat_cmp []
 unfolding IsStrictlySortedBy
 sorted_none = tt
 
