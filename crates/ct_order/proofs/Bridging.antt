@@ -12,6 +12,7 @@ use Rattle.ct_order.specs.Demands.{AllHeld, AllWaited, AreWaited, Ends, HasAll, 
 use Rattle.ct_order.specs.Letters.{letters_of}
 use Rattle.ct_order.specs.Order.{AllStand, StandBy}
 use Rattle.ct_order.specs.declared.demand.Demand.{Demand}
+use Rattle.ct_order.proofs.Meeting.{past_end, got_short}
 
 none_past : (js : List Journal) (n : ℕ) → length js ≤ n → entries_of js n ≡ []
 unfolding entries_of or_no_entries
@@ -19,15 +20,10 @@ none_past [] n l = refl
 none_past (j ∷ js) zero l = absurd (omega arith)
 none_past (j ∷ js) (suc n) l = none_past js n (omega arith)
 
-free_past : (all : List (List Demand)) (n : ℕ) → length all ≤ n → demands_at all n ≡ []
-free_past [] n l = refl
-free_past (ds ∷ all) zero l = absurd (omega arith)
-free_past (ds ∷ all) (suc n) l = free_past all n (omega arith)
-
 same_count : (js : List Journal) (all : List (List Demand)) → AllWaited js all → (n : ℕ) → length (demands_at all n) ≡ length (entries_of js n)
 same_count js all w n = ⊎_elim
     (λ (l : n < length js). waited_count n (entries_of js n) (map (letters_of n) js) (demands_at all n) (w.each n l))
-    (λ (l : length js ≤ n). (let c = w.count in ap length (free_past all n (omega arith)) ∙ sym (ap length (none_past js n l))))
+    (λ (l : length js ≤ n). (let c = w.count in ap length (past_end all n (omega arith)) ∙ sym (ap length (none_past js n l))))
     (cases_lt n (length js))
 
 has_entry : (xs : List JournalEntry) (i : ℕ) → i < length xs → (x : JournalEntry) × (slice_get xs i ≡ Some x)
@@ -45,14 +41,9 @@ short_entry [] i x e = absurd (cc)
 short_entry (y ∷ xs) zero x e = omega arith
 short_entry (y ∷ xs) (suc i) x e = let l = short_entry xs i x e in omega arith
 
-short_demand : (ds : List Demand) (i : ℕ) (d : Demand) → slice_get ds i ≡ Some d → i < length ds
-short_demand [] i d e = absurd (cc)
-short_demand (c ∷ ds) zero d e = omega arith
-short_demand (c ∷ ds) (suc i) d e = let l = short_demand ds i d e in omega arith
-
 entry_at : (js : List Journal) (all : List (List Demand)) (f : Front) (n : ℕ) (d : Demand) → AllWaited js all → next_demand all f n ≡ Some d → (x : JournalEntry) × (next_entry js f n ≡ Some x)
 unfolding next_entry
-entry_at js all f n d w e = let l = short_demand (demands_at all n) (taken_of f n) d e in let c = same_count js all w n in has_entry (entries_of js n) (taken_of f n) (omega arith)
+entry_at js all f n d w e = let l = got_short (demands_at all n) (taken_of f n) d e in let c = same_count js all w n in has_entry (entries_of js n) (taken_of f n) (omega arith)
 
 demand_at : (js : List Journal) (all : List (List Demand)) (f : Front) (n : ℕ) (x : JournalEntry) → AllWaited js all → next_entry js f n ≡ Some x → (d : Demand) × (next_demand all f n ≡ Some d)
 unfolding next_entry

@@ -37,7 +37,7 @@ leads_then all f g h a b = record { order = a.order ++ b.order; meets = meets_th
 
 -- ---- fewer are left
 
-got_short : (ds : List Demand) (i : ℕ) (d : Demand) → slice_get ds i ≡ Some d → i < length ds
+pub got_short : (ds : List Demand) (i : ℕ) (d : Demand) → slice_get ds i ≡ Some d → i < length ds
 got_short [] i d e = absurd (cc)
 got_short (c ∷ ds) zero d e = omega arith
 got_short (c ∷ ds) (suc i) d e = let l = got_short ds i d e in omega arith
@@ -58,7 +58,7 @@ fewer all n f g l a = subst (λ (h : Front). left all h.taken < left all f.taken
 
 -- ---- nodes that are held
 
-past_end : (all : List (List Demand)) (n : ℕ) → length all ≤ n → demands_at all n ≡ []
+pub past_end : (all : List (List Demand)) (n : ℕ) → length all ≤ n → demands_at all n ≡ []
 past_end [] n l = refl
 past_end (ds ∷ all) zero l = absurd (omega arith)
 past_end (ds ∷ all) (suc n) l = past_end all n (omega arith)
