@@ -31,7 +31,7 @@ HasSent done old new = new ≡ sent_also (parcels_of done) old
 abbrev pub Stands : List Frame → List Frame → Option Pieces → Option Pieces → Type 0
 Stands fs left a b = (done : List Frame) × Parts fs done left × Told a b (HasSent done)
 
-sent_none : (p : Pieces) → p ≡ sent_also [] p
+pub sent_none : (p : Pieces) → p ≡ sent_also [] p
 sent_none p = ap (λ (ps : List Parcel). record p { sent = ps }) (sym (append-nil p.sent))
 
 told_none : (a : Option Pieces) → Told a a (HasSent [])

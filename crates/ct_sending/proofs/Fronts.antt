@@ -7,10 +7,7 @@ use Rattle.ct_parcels.specs.Parcels.{cut}
 use Rattle.ct_parcels.proofs.Cut.{cut_more, cut_none}
 use Rattle.ct_sending.specs.Sending.{SendsFront, SendsUpTo, sent_also}
 use Rattle.ct_wire.specs.Writing.{piece_size}
-
--- none has been sent
-sent_none : (p : Pieces) → p ≡ sent_also [] p
-sent_none p = ap (λ (ps : List Parcel). record p { sent = ps }) (sym (append-nil p.sent))
+use Rattle.ct_sending.proofs.Frames.{sent_none}
 
 -- some, and then more
 sent_then : (front more : List Parcel) (p : Pieces) → sent_also more (sent_also front p) ≡ sent_also (front ++ more) p
