@@ -1,48 +1,14 @@
--- The configuration of a plan, and the texts of its numbers.
-use Rattle.std.proofs.Common.{◌≡◌, ◌∙◌, ◌+◌, ◌-◌, ◌/◌, ◌<◌, ◌≤◌, ℕ, zero, suc, List, [], ◌∷◌, ◌++◌, length, None, Ok, refl, sym, ap, arith}
+-- The texts of the numbers of a plan, and how many words it draws.
+use Rattle.std.proofs.Common.{◌≡◌, ◌∙◌, ◌+◌, ◌-◌, ◌/◌, ◌<◌, ◌≤◌, ℕ, zero, suc, List, [], ◌∷◌, ◌++◌, length, refl, sym, ap, arith}
 use Rattle.std.proofs.lemmas.Fmt.{length-decimal-le}
-use Rattle.std.proofs.lemmas.List.{append_assoc, append-nil, map-append, nil_from_length}
-use Rattle.std.proofs.lemmas.List.Sorted.{IsPermutation-refl, length_permutation}
+use Rattle.std.proofs.lemmas.List.{append_assoc, append-nil, map-append}
 use Rattle.std.specs.Fmt.{decimal}
-use Rattle.std.specs.List.Sorted.{IsStrictlySortedBy}
 use Rattle.std.specs.Prelude.{map}
 use Rattle.rand_pcg.specs.Lcg.{Lcg}
 use Rattle.rand_pcg.specs.Pcg.{pcg32}
 use Rattle.ct_cluster.specs.Cluster.{numbers}
-use Rattle.ct_msg.specs.Config.{Configures, config_fault, lock_db}
-use Rattle.ct_msg.specs.declared.config.Config.{Config}
-use Rattle.ct_msg.specs.declared.config.DbDecl.{DbDecl}
 use Rattle.ct_cluster.proofs.Numbers.{numbers_more}
-use Rattle.ct_plan.specs.Scripts.{drawn, planned_config, planned_dbs}
-
--- ---- the configuration
-
-faultless_so : (nodes : ℕ) → 1 ≤ nodes → nodes ≤ 8 → config_fault nodes planned_dbs [] ≡ None
-faultless_so zero some few = absurd (omega (arith, some))
-faultless_so (suc zero) some few = refl
-faultless_so (suc (suc zero)) some few = refl
-faultless_so (suc (suc (suc zero))) some few = refl
-faultless_so (suc (suc (suc (suc zero)))) some few = refl
-faultless_so (suc (suc (suc (suc (suc zero))))) some few = refl
-faultless_so (suc (suc (suc (suc (suc (suc zero)))))) some few = refl
-faultless_so (suc (suc (suc (suc (suc (suc (suc zero))))))) some few = refl
-faultless_so (suc (suc (suc (suc (suc (suc (suc (suc zero)))))))) some few = refl
-faultless_so (suc (suc (suc (suc (suc (suc (suc (suc (suc n))))))))) some few = absurd (omega (arith, few))
-
--- nothing is wrong with its databases
-pub faultless : (nodes : ℕ) (dbs : List DbDecl) → 1 ≤ nodes → nodes ≤ 8 → dbs ≡ planned_dbs → config_fault nodes dbs [] ≡ None
-faultless nodes dbs some few e = ap (λ (l : List DbDecl). config_fault nodes l []) e ∙ faultless_so nodes some few
-
--- they make its configuration
-pub made : (c : Config) (nodes : ℕ) (dbs : List DbDecl) → dbs ≡ planned_dbs → Configures (Ok c) nodes dbs [] → c ≡ planned_config nodes
-made c nodes dbs e h =
-    let none : c.addresses ≡ [] = nil_from_length c.addresses (length_permutation [] c.addresses h.3) in
-    (λ i. record { nodes = h.1 i; dbs = (h.2 ∙ ap (λ (l : List DbDecl). lock_db ∷ l) e) i; addresses = none i })
-
--- it is made of them
-pub makes : (nodes : ℕ) → 1 ≤ nodes → nodes ≤ 8 → Configures (Ok (planned_config nodes)) nodes planned_dbs []
-unfolding IsStrictlySortedBy
-makes nodes some few = (faultless_so nodes some few, refl, refl, IsPermutation-refl [], tt)
+use Rattle.ct_plan.specs.Scripts.{drawn}
 
 -- ---- numbers
 

@@ -9,13 +9,15 @@ use Rattle.std.specs.Prelude.{nat_eq, nat_lt, option_map, slice_get, ◌||◌}
 use Rattle.ct_cluster.specs.Cluster.{everyone, numbers}
 use Rattle.ct_frame.specs.declared.plan.PlanItem.{PlanItem}
 use Rattle.ct_frame.specs.declared.plan.PlanItem.TheVariants.{Round}
+use Rattle.ct_msg.specs.Generated.{each_kind, generated_config}
 use Rattle.ct_msg.specs.declared.config.Config.{Config}
+use Rattle.ct_msg.proofs.Faultless.{makes}
 use Rattle.ct_rules_node.specs.Coming.{is_allowed_op}
 use Rattle.ct_rules_node.specs.Node.{is_among}
 use Rattle.ct_cluster.proofs.Numbers.{numbers_below, numbers_ascend}
-use Rattle.ct_plan.specs.Scripts.{asked_by, asked_kind, asked_op, cluster_plan, drawn, generator_of, led_by, locked_commit, planned_config, planned_dbs, planned_script, script_by}
+use Rattle.ct_plan.specs.Scripts.{asked_by, asked_kind, asked_op, cluster_plan, drawn, generator_of, led_by, locked_commit, planned_script, script_by}
 use Rattle.ct_plan.specs.Sound.{IsSound, has_round, is_round, may_be_told, or_no_items, script_of}
-use Rattle.ct_plan.proofs.Making.{length_drawn, makes}
+use Rattle.ct_plan.proofs.Making.{length_drawn}
 
 -- ---- all nodes
 
@@ -146,19 +148,19 @@ module _ (c : Config) (calls n : ℕ) (ws : List ℕ) where
 -- ---- the plan
 
 module _ (nodes calls seed : ℕ) where
-  script_there : (n : ℕ) → n < nodes → script_of (cluster_plan nodes calls seed) n ≡ planned_script (planned_config nodes) calls seed n
+  script_there : (n : ℕ) → n < nodes → script_of (cluster_plan nodes calls seed) n ≡ planned_script (generated_config nodes) calls seed n
   unfolding script_of or_no_items everyone
   script_there n l =
       let same : 0 + n ≡ n = omega arith in
-      ap or_no_items (slice_get-map (planned_script (planned_config nodes) calls seed) (numbers 0 nodes) n ∙ ap (option_map (planned_script (planned_config nodes) calls seed)) (numbered 0 nodes n l ∙ ap Some same))
+      ap or_no_items (slice_get-map (planned_script (generated_config nodes) calls seed) (numbers 0 nodes) n ∙ ap (option_map (planned_script (generated_config nodes) calls seed)) (numbered 0 nodes n l ∙ ap Some same))
 
   script_past : (n : ℕ) → nodes ≤ n → script_of (cluster_plan nodes calls seed) n ≡ []
   unfolding script_of or_no_items everyone
   script_past n l =
-      ap or_no_items (slice_get-map (planned_script (planned_config nodes) calls seed) (numbers 0 nodes) n ∙ ap (option_map (planned_script (planned_config nodes) calls seed)) (unnumbered 0 nodes n l))
+      ap or_no_items (slice_get-map (planned_script (generated_config nodes) calls seed) (numbers 0 nodes) n ∙ ap (option_map (planned_script (generated_config nodes) calls seed)) (unnumbered 0 nodes n l))
 
   -- what holds of no items, and of the script of each node, holds of each script
-  each_script : (P : List PlanItem → Type 0) (n : ℕ) → P [] → (n < nodes → P (planned_script (planned_config nodes) calls seed n)) → P (script_of (cluster_plan nodes calls seed) n)
+  each_script : (P : List PlanItem → Type 0) (n : ℕ) → P [] → (n < nodes → P (planned_script (generated_config nodes) calls seed n)) → P (script_of (cluster_plan nodes calls seed) n)
   each_script P n none one =
       cond_both (nat_lt n nodes) n n (λ _. P (script_of (cluster_plan nodes calls seed) n)) (λ t. subst P (sym (script_there n (ltb-true n nodes t))) (one (ltb-true n nodes t)))
       (λ f. subst P (sym (script_past n (ltb-false n nodes f))) none)
@@ -167,14 +169,14 @@ module _ (nodes calls seed : ℕ) where
   unfolding has_round
   leader_is zero h = refl
   leader_is (suc n) h =
-      absurd (let never = each_script (λ (s : List PlanItem). has_round s ≡ false) (suc n) refl (λ _. script_calls (planned_config nodes) calls (suc n) (drawn calls (generator_of seed (suc n))) n refl) in cc)
+      absurd (let never = each_script (λ (s : List PlanItem). has_round s ≡ false) (suc n) refl (λ _. script_calls (generated_config nodes) calls (suc n) (drawn calls (generator_of seed (suc n))) n refl) in cc)
 
   pub cluster_plan_sound : 1 ≤ nodes → nodes ≤ 8 → calls ≤ 1000 → IsSound (cluster_plan nodes calls seed)
   unfolding everyone
   cluster_plan_sound some few less =
-      let c = planned_config nodes in
+      let c = generated_config nodes in
       record {
-        config = (planned_dbs, [], makes nodes some few);
+        config = (each_kind, [], makes nodes some few);
         scripts = length-map (numbers 0 nodes) (planned_script c calls seed) ∙ length_numbers 0 nodes;
         short = λ n. each_script (λ s. length s ≤ 4096) n (omega arith) (λ _. script_few c calls n (drawn calls (generator_of seed n)) (length_drawn calls (generator_of seed n)) less);
         told = λ n. each_script (λ s. list_all (may_be_told c n) s ≡ true) n refl (λ l. script_told c calls n (drawn calls (generator_of seed n)) l);

@@ -4,26 +4,14 @@ use Rattle.std.specs.Fmt.{decimal}
 use Rattle.std.specs.List.{flat_map}
 use Rattle.rand_pcg.specs.Lcg.{Lcg, increment_of, started}
 use Rattle.rand_pcg.specs.Pcg.{multiplier_64, pcg32}
-use Rattle.ct_msg.specs.Config.{lock_db}
+use Rattle.ct_msg.specs.Generated.{generated_config}
 use Rattle.ct_msg.specs.declared.client.ClientOp.TheVariants as op
 use Rattle.ct_msg.specs.declared.client.Pair.{Pair}
 use Rattle.ct_msg.specs.declared.config.Config.{Config}
-use Rattle.ct_msg.specs.declared.config.DbDecl.{DbDecl}
-use Rattle.ct_msg.specs.declared.config.DbKind.TheVariants.{Volatile, ReadOnly, Persistent}
 use Rattle.ct_cluster.specs.Cluster.{everyone}
 use Rattle.ct_frame.specs.declared.plan.Plan.{Plan}
 use Rattle.ct_frame.specs.declared.plan.PlanItem.{PlanItem}
 use Rattle.ct_frame.specs.declared.plan.PlanItem.TheVariants.{Call, Round}
-
--- ---- the cluster
-
--- a database of each kind; `g_lock` has place 0, and these have 1, 2 and 3
-abbrev pub planned_dbs : List DbDecl
-planned_dbs = record { name = codes "t"; kind = Volatile } ∷ record { name = codes "r"; kind = ReadOnly } ∷ record { name = codes "p"; kind = Persistent } ∷ []
-
--- so many nodes, and these databases
-abbrev pub planned_config : ℕ → Config
-planned_config nodes = record { nodes = nodes; dbs = lock_db ∷ planned_dbs; addresses = [] }
 
 -- ---- what a word asks
 
@@ -96,5 +84,5 @@ planned_script c calls seed n = script_by c calls n (drawn calls (generator_of s
 -- Plans: the plan that a seed makes, for so many nodes with so many words each; its nodes talk over no sockets
 abbrev pub cluster_plan : ℕ → ℕ → ℕ → Plan
 cluster_plan nodes calls seed =
-    let c = planned_config nodes in
+    let c = generated_config nodes in
     record { config = c; scripts = map (planned_script c calls seed) (everyone c); net = false }

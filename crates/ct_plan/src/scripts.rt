@@ -1,20 +1,20 @@
 //! The plan that a seed makes.
-ghost use Rattle.std.specs.Prelude.{◌≡◌, ◌≤◌, ◌<◌, ◌+◌, ◌++◌, ◌∷◌, [], ◌/◌, None, length, codes, IfOk, OnOk, take, map};
+ghost use Rattle.std.specs.Prelude.{◌≡◌, ◌≤◌, ◌<◌, ◌+◌, ◌++◌, ◌∷◌, [], ◌/◌, None, length, codes, IfOk, OnOk, map};
 ghost use Rattle.std.specs.List.{flat_map};
-ghost use Rattle.ct_bytes.specs.Name.{bad_byte};
 ghost use Rattle.ct_cluster.specs.Cluster.{everyone};
-ghost use Rattle.ct_plan.specs.Scripts.{asked_by, asked_db, asked_key, asked_kind, asked_letter, asked_number, asked_op, asked_pair, asked_value, cluster_plan, drawn, generator_of, led_by, locked_commit, planned_config, planned_dbs, planned_script, script_by};
+ghost use Rattle.ct_msg.specs.Generated.{generated_config};
+ghost use Rattle.ct_plan.specs.Scripts.{asked_by, asked_db, asked_key, asked_kind, asked_letter, asked_number, asked_op, asked_pair, asked_value, cluster_plan, drawn, generator_of, led_by, locked_commit, planned_script, script_by};
 ghost use Rattle.ct_plan.specs.Sound.{IsSound};
 
 use ct_bytes::items::Items;
 use ct_bytes::key::Key;
-use ct_bytes::memory::{BytesFault, NoMemory};
-use ct_bytes::name::DbName;
+use ct_bytes::memory::NoMemory;
 use ct_bytes::number::push_decimal;
 use ct_bytes::value::Value;
 use ct_frame::plan::{Plan, PlanItem};
 use ct_msg::client::{ClientOp, Pair};
-use ct_msg::config::{Config, ConfigFault, DbDecl, DbKind};
+use ct_msg::config::Config;
+use ct_msg::generated::generated_config;
 use rand_core::utils::NextWord;
 use rand_pcg::Lcg64Xsh32;
 use std::alloc::Global;
@@ -27,49 +27,6 @@ const FIRST: u32 = 1;
 const SECOND: u32 = 2;
 /// The place of the persistent database.
 const THIRD: u32 = 3;
-
-/// A database of this name, which is one.
-fn database(alloc: Global, name: &[u8], kind: DbKind) -> Result<DbDecl, NoMemory>
-    requires some { 1 ≤ length name.now }
-    requires few { length name.now ≤ 63 }
-    requires plain { bad_byte name.now ≡ None }
-    ensures { IfOk result (λ d. d ≡ record { name = name.now; kind = kind }) }
-{
-    match DbName::new(alloc, name) {
-        Ok(name) => Ok(DbDecl { name, kind }),
-        Err(BytesFault::BadLength(_)) => unreachable!(),
-        Err(BytesFault::BadByte(_)) => unreachable!(),
-        Err(BytesFault::NoMemory) => Err(NoMemory),
-    }
-}
-
-/// A database of each kind.
-fn planned_dbs(alloc: Global) -> Result<Vec<DbDecl>, NoMemory>
-    ensures { IfOk result (λ dbs. dbs.items ≡ planned_dbs) }
-{
-    let mut dbs = Vec::new(alloc);
-    dbs.push(database(alloc, b"t", DbKind::Volatile)?)?;
-    dbs.push(database(alloc, b"r", DbKind::ReadOnly)?)?;
-    dbs.push(database(alloc, b"p", DbKind::Persistent)?)?;
-    Ok(dbs)
-}
-
-/// So many nodes, and a database of each kind.
-#[tactic(auto, using(crate::proofs::Making::made, crate::proofs::Making::faultless))]
-fn planned_config(alloc: Global, nodes: u32) -> Result<Config, NoMemory>
-    requires some { 1 ≤ nodes }
-    requires few { nodes ≤ 8 }
-    ensures { IfOk result (λ c. c ≡ planned_config nodes) }
-{
-    let dbs = planned_dbs(alloc)?;
-    match Config::new(alloc, nodes, dbs, Vec::new(alloc)) {
-        Ok(config) => Ok(config),
-        Err(ConfigFault::NoMemory) => Err(NoMemory),
-        Err(ConfigFault::BadNodes(_)) => unreachable!(),
-        Err(ConfigFault::TooMany) => unreachable!(),
-        Err(ConfigFault::Repeated(_)) => unreachable!(),
-    }
-}
 
 /// Which of the calls.
 #[tactic(auto, unfolding(crate::specs::Scripts::asked_kind))]
@@ -221,7 +178,7 @@ fn push_all_asked(
 }
 
 /// All nodes of the cluster.
-#[tactic(auto, using(crate::proofs::Making::numbers_more), unfolding(ct_cluster::specs::Cluster::everyone, ct_cluster::specs::Cluster::numbers))]
+#[tactic(auto, using(ct_cluster::proofs::Numbers::numbers_more), unfolding(ct_cluster::specs::Cluster::everyone, ct_cluster::specs::Cluster::numbers))]
 fn everyone(alloc: Global, config: &Config) -> Result<Items<u32>, NoMemory>
     ensures { IfOk result (λ nodes. nodes ≡ everyone config.now) }
 {
@@ -325,7 +282,7 @@ pub fn cluster_plan(alloc: Global, nodes: u32, calls: u32, seed: u64) -> Result<
     ensures exact { IfOk result (λ p. p ≡ cluster_plan nodes calls seed) }
     ensures sound { IfOk result IsSound }
 {
-    let config = planned_config(alloc, nodes)?;
+    let config = generated_config(alloc, nodes)?;
     let scripts = planned_scripts(alloc, &config, calls, seed)?;
     Ok(Plan {
         config,

@@ -1,12 +1,10 @@
 -- A soak: steps that words of a generator make, one after the other, in a cluster of four nodes.
-use Rattle.std.specs.Prelude.{ℕ, zero, suc, ◌+◌, List, [], ◌∷◌, ◌++◌, length, codes, Option, None, Some, Result, Ok, Err}
+use Rattle.std.specs.Prelude.{ℕ, zero, suc, ◌+◌, List, ◌++◌, length, codes, Option, None, Some, Result, Ok, Err}
 use Rattle.std.specs.Fmt.{decimal}
 use Rattle.rand_pcg.specs.Lcg.{Lcg, increment_of, started}
 use Rattle.rand_pcg.specs.Pcg.{multiplier_64, pcg32}
-use Rattle.ct_msg.specs.Config.{lock_db}
+use Rattle.ct_msg.specs.Generated.{generated_config}
 use Rattle.ct_msg.specs.declared.config.Config.{Config}
-use Rattle.ct_msg.specs.declared.config.DbDecl.{DbDecl}
-use Rattle.ct_msg.specs.declared.config.DbKind.TheVariants.{Volatile, ReadOnly, Persistent}
 use Rattle.ct_call.specs.Rules.{Rules}
 use Rattle.ct_cluster.specs.Cluster.{Cluster, opening, pending}
 use Rattle.ct_cluster.specs.Steps.{Stepped, applied}
@@ -20,13 +18,9 @@ use Rattle.ct_play.specs.Named.{command_step, named_step, number_of_db}
 use Rattle.ct_soak.specs.Soak.{soak_line}
 use Rattle.ct_soak.specs.declared.soak.SoakView.{SoakView}
 
--- a database of each kind
-abbrev pub soak_dbs : List DbDecl
-soak_dbs = record { name = codes "t"; kind = Volatile } ∷ record { name = codes "r"; kind = ReadOnly } ∷ record { name = codes "p"; kind = Persistent } ∷ []
-
--- four nodes, and these databases
+-- four nodes, and a database of each kind
 abbrev pub soak_config : Config
-soak_config = record { nodes = 4; dbs = lock_db ∷ soak_dbs; addresses = [] }
+soak_config = generated_config 4
 
 -- where a soak stands: its cluster, and how many steps were skipped
 pub record Soaked : Type 0 where

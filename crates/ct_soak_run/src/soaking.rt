@@ -1,6 +1,5 @@
 //! The steps of a soak, one after the other, and what is counted of them.
-ghost use Rattle.std.specs.Prelude.{◌≡◌, ◌≤◌, ◌<◌, ◌+◌, ◌^◌, None, length, true, IfOk, OnOk};
-ghost use Rattle.ct_bytes.specs.Name.{bad_byte};
+ghost use Rattle.std.specs.Prelude.{◌≡◌, ◌≤◌, ◌<◌, ◌+◌, ◌^◌, None, true, IfOk, OnOk};
 ghost use Rattle.ct_call.specs.Shown.{rules_of};
 ghost use Rattle.ct_cluster.specs.Faults.{is_allowed};
 ghost use Rattle.ct_cluster.specs.Steps.{applied};
@@ -8,15 +7,15 @@ ghost use Rattle.ct_lines.specs.Spelled.{IsCommand, IsInRange};
 ghost use Rattle.ct_play.specs.Named.{command_step};
 ghost use Rattle.ct_soak.specs.Soak.{IsView};
 ghost use Rattle.ct_soak_run.specs.Counts.{IsCounted, calls_after, is_taken, last_sent, last_ticket, sent_by, ticket_by};
-ghost use Rattle.ct_soak_run.specs.Soaking.{Soaked, commanded, counts_text, first, line_took, settled, soak_config, soak_dbs, soak_text, took, view_of, word_took};
+ghost use Rattle.ct_soak_run.specs.Soaking.{Soaked, commanded, counts_text, first, line_took, settled, soak_config, soak_text, took, view_of, word_took};
 
 use ct_bytes::items::Items;
-use ct_bytes::memory::{BytesFault, NoMemory};
-use ct_bytes::name::DbName;
+use ct_bytes::memory::NoMemory;
 use ct_call::table::CallTable;
 use ct_cluster::step::{Line, Step, StepFault};
 use ct_lines::line::{Command, ScenarioLine};
-use ct_msg::config::{Config, ConfigFault, DbDecl, DbKind};
+use ct_msg::config::Config;
+use ct_msg::generated::generated_config;
 use ct_play::named::{command_step, named_step, number_of_db};
 use ct_soak::soak::{SoakView, soak_line};
 use ct_tool::words::{push, push_number};
@@ -47,45 +46,11 @@ impl Model for Soaking {
     ghost invariant = { λ s. counts.IsCounted s.world s.sent s.calls s.ticket };
 }
 
-/// A database of this name, which is one.
-fn database(alloc: Global, name: &[u8], kind: DbKind) -> Result<DbDecl, NoMemory>
-    requires some { 1 ≤ length name.now }
-    requires few { length name.now ≤ 63 }
-    requires plain { bad_byte name.now ≡ None }
-    ensures { IfOk result (λ d. d ≡ record { name = name.now; kind = kind }) }
-{
-    match DbName::new(alloc, name) {
-        Ok(name) => Ok(DbDecl { name, kind }),
-        Err(BytesFault::BadLength(_)) => unreachable!(),
-        Err(BytesFault::BadByte(_)) => unreachable!(),
-        Err(BytesFault::NoMemory) => Err(NoMemory),
-    }
-}
-
-/// A database of each kind.
-fn soak_dbs(alloc: Global) -> Result<Vec<DbDecl>, NoMemory>
-    ensures { IfOk result (λ dbs. dbs.items ≡ soak_dbs) }
-{
-    let mut dbs = Vec::new(alloc);
-    dbs.push(database(alloc, b"t", DbKind::Volatile)?)?;
-    dbs.push(database(alloc, b"r", DbKind::ReadOnly)?)?;
-    dbs.push(database(alloc, b"p", DbKind::Persistent)?)?;
-    Ok(dbs)
-}
-
 /// Four nodes, and a database of each kind.
-#[tactic(auto, using(crate::proofs::Making::made, crate::proofs::Making::faultless))]
 fn soak_config(alloc: Global) -> Result<Config, NoMemory>
     ensures { IfOk result (λ c. c ≡ soak_config) }
 {
-    let dbs = soak_dbs(alloc)?;
-    match Config::new(alloc, 4, dbs, Vec::new(alloc)) {
-        Ok(config) => Ok(config),
-        Err(ConfigFault::NoMemory) => Err(NoMemory),
-        Err(ConfigFault::BadNodes(_)) => unreachable!(),
-        Err(ConfigFault::TooMany) => unreachable!(),
-        Err(ConfigFault::Repeated(_)) => unreachable!(),
-    }
+    generated_config(alloc, 4)
 }
 
 fn sent_by(before: u64, line: &Line) -> u64

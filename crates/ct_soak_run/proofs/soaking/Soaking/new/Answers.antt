@@ -1,5 +1,6 @@
 use Rattle.std.proofs.Common.{◌∙◌, ap}
-use Rattle.ct_soak_run.proofs.Making.{opened, opening_counted}
+use Rattle.ct_play.specs.Opening.{opened}
+use Rattle.ct_soak_run.proofs.Making.{opening_counted}
 use Rattle.ct_soak_run.proofs.soaking.Soaking.new.Goals as goal
 
 pub invariant_of-result : goal.invariant_of-result
