@@ -1,5 +1,5 @@
 pub mod Opened
 mod Nodes
-mod Born
+pub mod Born
 mod Reached
 pub mod Follows
