@@ -29,10 +29,11 @@ use Rattle.ct_wire_fields.specs.Version.{names_masters}
 use Rattle.ct_wire_fields.specs.Check.{follows_address, follows_assigned, follows_node, follows_pair, follows_ptable, follows_row, is_count}
 use Rattle.ct_wire_fields.specs.Reading.{addresses_whole, after_db, after_key, after_kind, after_nodes, after_ptables, after_rsn, after_value, assigned_whole, begun, is_request, key_found, may_have_row, to_number, to_text, value_found, whole}
 use Rattle.ct_wire.specs.Spelling.{address, assigned, bases, body, held, key, kind, list, node_or_none, pair, ptable, request, row, u32, u64, value}
+use Rattle.ct_wire.specs.Whole.{headed}
 use Rattle.ct_law_wire.specs.Grammar.{IsKey, IsPair, IsPTable, IsValue, Says, SaysAddress, SaysAssigned, SaysRow}
 use Rattle.ct_law_wire.proofs.Lists.{InOrder, regrouped_4, regrouped_5}
 use Rattle.ct_law_wire.proofs.Tables.{IsKeptPair, IsNextPTable}
-use Rattle.ct_law_wire.proofs.Messages.{framed, headed, op_of}
+use Rattle.ct_law_wire.proofs.Messages.{framed, op_of}
 use Rattle.ct_law_spelling.proofs.Back.{Backs, back_when, broken_backs, byte_backs, key_backs, long_backs, value_backs, whole_backs, word_backs}
 use Rattle.ct_law_spelling.proofs.Items.{IsReadRow, MayName, backs_at, found_key, found_value, nodes_back, rows_back, writes_back}
 use Rattle.ct_law_spelling.proofs.Tables.{IsReadAssigned, addresses_back, assigned_back, ptables_back}

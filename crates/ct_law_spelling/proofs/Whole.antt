@@ -18,10 +18,11 @@ use Rattle.ct_wire.specs.declared.decode.WireFault.{WireFault}
 use Rattle.ct_wire.specs.Cursor.{number_of, settled, start}
 use Rattle.ct_wire.specs.Decoding.{End, after_field, decoded, eaten, told}
 use Rattle.ct_wire.specs.Spelling.{body, request, size, spelled, u32, u64}
+use Rattle.ct_wire.specs.Whole.{headed}
 use Rattle.ct_wire.specs.Spelling as written
 use Rattle.ct_law_wire.specs.Grammar.{Says, Spelling}
 use Rattle.ct_law_wire.proofs.Headers.{reads_what_is_spelled}
-use Rattle.ct_law_wire.proofs.Messages.{headed, op_of}
+use Rattle.ct_law_wire.proofs.Messages.{op_of}
 use Rattle.ct_law_spelling.specs.Alone.{BeginsWith, IsBytes, ReadsSpellingsAlone}
 use Rattle.ct_law_spelling.proofs.Back.{Backs, Taken, back_when, broken_backs, field_of, long_backs, word_backs, word_of}
 use Rattle.ct_law_spelling.proofs.Bodies.{Body, body_back}

@@ -16,10 +16,11 @@ use Rattle.ct_wire_fields.specs.Reading.{begun, is_request, names_request, no_dr
 use Rattle.ct_wire.specs.Cursor.{number_of, start}
 use Rattle.ct_wire.specs.Decoding.{End, eaten}
 use Rattle.ct_wire.specs.Spelling.{body, operation, request, size, spelled, u32, u64}
+use Rattle.ct_wire.specs.Whole.{headed}
 use Rattle.ct_law_wire.specs.Grammar.{ReadsWhatIsSpelled, Spelling, SpellsApart, WritesSpellings}
 use Rattle.ct_law_wire.proofs.Fields.{Goes, field_eaten, long_goes, when, word_goes}
 use Rattle.ct_law_wire.proofs.Lists.{small_node}
-use Rattle.ct_law_wire.proofs.Messages.{body_goes, head_of, headed, op_of, small_from_one}
+use Rattle.ct_law_wire.proofs.Messages.{body_goes, head_of, op_of, small_from_one}
 
 -- ---- what the numbers of a header stand for
 

@@ -27,8 +27,9 @@ use Rattle.ct_wire_fields.specs.declared.draft.Step.{Step}
 use Rattle.ct_wire_fields.specs.declared.version.Version.{Version}
 use Rattle.ct_wire_fields.specs.Version.{names_families, names_masters}
 use Rattle.ct_wire_fields.specs.Check.{follows_address, follows_assigned, follows_node, follows_pair, follows_ptable, follows_row}
-use Rattle.ct_wire_fields.specs.Reading.{addresses_whole, after_db, after_key, after_kind, after_nodes, after_ptables, after_rsn, after_value, assigned_whole, begun, no_draft, number_read, to_number, to_text, whole}
+use Rattle.ct_wire_fields.specs.Reading.{addresses_whole, after_db, after_key, after_kind, after_nodes, after_ptables, after_rsn, after_value, assigned_whole, begun, number_read, to_number, to_text, whole}
 use Rattle.ct_wire.specs.Spelling.{address, assigned, bases, body, held, key, kind, list, node_or_none, pair, ptable, request, row, u32, u64, value}
+use Rattle.ct_wire.specs.Whole.{headed}
 use Rattle.ct_law_wire.specs.Grammar.{IsKey, IsPair, IsPTable, IsValue, Says, SaysAddress, SaysAssigned, SaysRow}
 use Rattle.ct_law_wire.proofs.Fields.{Goes, byte_goes, key_goes, long_goes, value_goes, when, whole_goes, word_goes}
 use Rattle.ct_law_wire.proofs.Lists.{count_goes, in_order, key_is, key_length, nodes_go, regrouped_4, regrouped_5, small_db, small_node, small_number, value_is, value_length, writes_go}
@@ -62,10 +63,6 @@ op_of (msg.PAck db seq) = operation.PAck
 op_of (msg.Release run keep) = operation.Release
 op_of (msg.ReleaseAck run) = operation.ReleaseAck
 op_of (msg.Take run assigns) = operation.Take
-
--- the draft behind a header
-abbrev pub headed : Head → Draft
-headed h = record no_draft { head = h }
 
 -- the header of a frame of this message
 abbrev pub head_of : ℕ → Version → ℕ → ℕ → ℕ → Msg → Head
