@@ -2,11 +2,11 @@
 use Rattle.std.proofs.Common.{length, ◌≡◌, ℕ, ◌+◌, ◌<◌, ◌≤◌, Bool, true, false, List, [], ◌∷◌, ◌++◌, refl, sym, ap, ◌∙◌, ⊎_elim, arith, subst, cond, leb, length-append, ◌||◌}
 use Rattle.std.proofs.lemmas.Bool.{lt-leb, le-leb, cases_lt}
 use Rattle.std.proofs.lemmas.List.{take_all, take-append-le}
-use Rattle.ct_rules.specs.Messages.{greater}
 use Rattle.ct_register.specs.Register.{reading}
 use Rattle.ct_law_world.specs.Labels.{Label, Joined}
 use Rattle.ct_law_world.specs.Marked.{is_removal, is_removed}
 use Rattle.ct_law_fact.proofs.Invariant.{Span, Grows, Empties, Goes, Marking}
+use Rattle.ct_law_fact.proofs.Rule.{greater}
 
 -- spans
 pub grows_none : (a : Span) → Grows a a

@@ -10,11 +10,10 @@ use Rattle.ct_law_change.proofs.Acts.{owner_none}
 use Rattle.std.specs.Prelude.{List}
 use Rattle.ct_call.specs.Rules.{Rules}
 use Rattle.ct_deleg.specs.Tracked.{Revocation}
-use Rattle.ct_rules.specs.Messages.{greater}
 use Rattle.ct_register.specs.Register.{reading, emptied}
 use Rattle.ct_law_world.specs.Labels.{Vacuumed}
 use Rattle.ct_law_fact.proofs.Rule
-use Rattle.ct_law_fact.proofs.Rule.{is_odd, Body, Copy, Frame, Give, Grant, Node, Out, Pass, Refuse, Revoke, RevokeAck, VDelete, VDeleted, VStore, VStored, Wish, is_here, is_reading, rank, reads_op, tell, value_of, with_node}
+use Rattle.ct_law_fact.proofs.Rule.{is_odd, Body, Copy, Frame, Give, Grant, Node, Out, Pass, Refuse, Revoke, RevokeAck, VDelete, VDeleted, VStore, VStored, Wish, greater, is_here, is_reading, rank, reads_op, tell, value_of, with_node}
 use Rattle.ct_law_event.proofs.Phases.{rank_none}
 
 abbrev pub finished : ℕ → ℕ → Ghost → Ghost

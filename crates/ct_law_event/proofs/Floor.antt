@@ -8,9 +8,8 @@ use Rattle.ct_law_change.proofs.Acts.{node_holds}
 use Rattle.std.specs.Prelude.{List, []}
 use Rattle.ct_call.specs.Rules.{Rules}
 use Rattle.ct_rules.specs.declared.state.Entry.{Entry}
-use Rattle.ct_rules.specs.Messages.{greater}
 use Rattle.ct_law_fact.proofs.Rule
-use Rattle.ct_law_fact.proofs.Rule.{Copy, Frame, Node, Out, is_here, with_node}
+use Rattle.ct_law_fact.proofs.Rule.{Copy, Frame, Node, Out, greater, is_here, with_node}
 use Rattle.ct_law_event.proofs.Phases.{rank_none}
 
 pub greater_left : (a b : ℕ) → a ≤ greater a b

@@ -19,10 +19,9 @@ use Rattle.ct_deleg.specs.Tracked.{Revocation}
 use Rattle.ct_vacuum.specs.Vacuum.{Vacuuming, vacuum_begun, is_in, done_by, ends_phase, stored, deleting as in_deleting}
 use Rattle.ct_vacuum.specs.declared.vacuum.VacuumPhase.{VacuumPhase}
 use Rattle.ct_vacuum.specs.declared.vacuum.VacuumPhase.TheVariants.{Storing, Deleting}
-use Rattle.ct_rules.specs.Messages.{greater}
 use Rattle.ct_register.specs.Register.{Register, reading}
 use Rattle.ct_law_fact.proofs.Rule
-use Rattle.ct_law_fact.proofs.Rule.{is_storing, risen, Copy, Frame, Here, Node, Out, VDelete, VDeleted, VStore, VStored, drop_copy, has_node, is_free, is_here, raise_copy, rank, rsn_of, send_all, value_of, with_node}
+use Rattle.ct_law_fact.proofs.Rule.{is_storing, risen, Copy, Frame, Here, Node, Out, VDelete, VDeleted, VStore, VStored, drop_copy, greater, has_node, is_free, is_here, raise_copy, rank, rsn_of, send_all, value_of, with_node}
 use Rattle.ct_law_event.proofs.Floor.{greater_left}
 
 -- absent copies come to stand for what copies of this rank do

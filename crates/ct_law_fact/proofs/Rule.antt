@@ -19,7 +19,7 @@ use Rattle.ct_vacuum.specs.Vacuum.{Vacuuming, vacuum_begun, ends_phase, stored, 
 use Rattle.ct_vacuum.specs.declared.vacuum.VacuumPhase.{VacuumPhase}
 use Rattle.ct_vacuum.specs.declared.vacuum.VacuumPhase.TheVariants.{Storing, Deleting}
 use Rattle.ct_rules.specs.State.{is_read_kind, kind_of}
-use Rattle.ct_rules.specs.Messages.{is_request, same_recall, greater}
+use Rattle.ct_rules.specs.Messages.{is_request, same_recall}
 use Rattle.ct_rules.specs.declared.state.Entry.{Entry}
 use Rattle.ct_rules.specs.declared.state.RecallNote.{RecallNote}
 use Rattle.ct_rules.specs.declared.state.Waiter.{Waiter}
@@ -442,6 +442,9 @@ on_vstore me h rsn o = send me h (VStored rsn) (with_node (record o.node { copy 
 
 unfoldable pub on_vdelete : ℕ → ℕ → ℕ → Out → Out
 on_vdelete me h rsn o = send me h (VDeleted rsn) (with_node (record o.node { copy = drop_copy rsn o.node.locked o.node.copy }) o)
+
+unfoldable pub greater : ℕ → ℕ → ℕ
+greater a b = if nat_le a b then b else a
 
 -- Finish
 unfoldable pub finish : ℕ → ℕ → Out → Out
