@@ -1,5 +1,5 @@
 -- What every step of the cluster does: one node takes a turn, or one stops, or nothing happens to any.
-use Rattle.std.proofs.Common.{◌≡◌, ◌≢◌, ℕ, zero, suc, ◌+◌, ◌<◌, Bool, true, false, cond, List, [], ◌∷◌, ◌++◌, length, map, set, Option, None, Some, refl, sym, ap, ◌∙◌, subst, arith, inl, inr}
+use Rattle.std.proofs.Common.{◌≡◌, ◌≢◌, ℕ, ◌+◌, ◌<◌, Bool, true, false, cond, List, [], ◌∷◌, ◌++◌, length, map, set, Option, None, Some, refl, sym, ap, ◌∙◌, subst, arith, inl, inr}
 use Rattle.std.specs.Prelude.{◌⊎◌, Ok, slice_get}
 use Rattle.std.specs.List.{list_any}
 use Rattle.ct_msg.specs.declared.client.ClientOp.{ClientOp}
@@ -12,7 +12,7 @@ use Rattle.ct_call.specs.Rules.{Rules}
 use Rattle.ct_rules_node.specs.Node.{Node, restarted}
 use Rattle.ct_rules_node.specs.Turn.{Turn, begins}
 use Rattle.ct_rules_node.specs.Steps.{happens}
-use Rattle.ct_cluster.specs.Cluster.{Cluster, Sent, Fate, Delivered, Dropped, is_up, node_at, or_absent, sent_at, pending, pending_at, able_from}
+use Rattle.ct_cluster.specs.Cluster.{Cluster, Sent, Delivered, Dropped, is_up, node_at, or_absent, sent_at, pending, pending_at, able_from}
 use Rattle.ct_cluster.specs.Faults.{fault_of}
 use Rattle.ct_cluster.specs.Labels.{Label, Begun, Noted, Ticket, Yielded, Stopped, Started, Takeover}
 use Rattle.ct_cluster.specs.Steps.{Stepped, frames_of, lines_of, with_node, put, fed, done, with_fate, deliver, drop, repeat, without_holder, gone, stop, recover, steps, steps_or, applied}
@@ -29,6 +29,7 @@ use Rattle.ct_law_shown.proofs.Hearing.{labels_are}
 use Rattle.ct_law_node.proofs.Putting.{own_node, other_node}
 use Rattle.ct_law_cluster.proofs.Fed.{fed_is}
 use Rattle.ct_law_cluster.proofs.Faulting.{runs}
+use Rattle.ct_law_walk.proofs.Parts.{fate_frames, fate_nodes, sent_more}
 
 -- is the label a node's note, or that it stopped?
 unfoldable pub is_note : Label → Bool
@@ -73,25 +74,6 @@ Acts c rules w v ls = Took_turn c rules w v ls ⊎ Only_stopped c w v ls ⊎ Sto
 
 -- ---- small words
 
-frames_more : (xs ys : List Sent) → map (λ (s : Sent). s.frame) (xs ++ ys) ≡ map (λ (s : Sent). s.frame) xs ++ map (λ (s : Sent). s.frame) ys
-frames_more [] ys = refl
-frames_more (x ∷ xs) ys = ap (λ (l : List Frame). x.frame ∷ l) (frames_more xs ys)
-
-fate_frames_at : (xs : List Sent) (k : ℕ) (s : Sent) (f : Fate) → slice_get xs k ≡ Some s → map (λ (x : Sent). x.frame) (set xs k (record s { fate = f })) ≡ map (λ (x : Sent). x.frame) xs
-fate_frames_at [] k s f e = refl
-fate_frames_at (x ∷ xs) zero s f e = (let same : x ≡ s = cc in ap (λ (y : Sent). y.frame ∷ map (λ (x : Sent). x.frame) xs) (sym same))
-fate_frames_at (x ∷ xs) (suc k) s f e = ap (λ (l : List Frame). x.frame ∷ l) (fate_frames_at xs k s f e)
-
-fate_frames : (k : ℕ) (s : Sent) (f : Fate) (w : Cluster) → sent_at k w ≡ Some s → frames_in (with_fate k s f w) ≡ frames_in w
-unfolding with_fate sent_at
-fate_frames zero s f w e = refl
-fate_frames (suc k) s f w e = fate_frames_at w.sent k s f e
-
-fate_nodes : (k : ℕ) (s : Sent) (f : Fate) (w : Cluster) → (with_fate k s f w).nodes ≡ w.nodes
-unfolding with_fate
-fate_nodes zero s f w = refl
-fate_nodes (suc k) s f w = refl
-
 same_at : (w v : Cluster) → v.nodes ≡ w.nodes → (k : ℕ) → node_at k v ≡ node_at k w
 unfolding node_at
 same_at w v e k = ap (λ (ns : List Node). or_absent (slice_get ns k)) e
@@ -129,7 +111,7 @@ module _ (c : Config) (rules : Rules) (w : Cluster) (there : (n : ℕ) → is_up
         up = up;
         others = λ j ne. other_node n j u.node v ne ∙ same_at w v same j;
         here = own_node n u.node v (subst (λ (ns : List Node). n < length ns) (sym same) (there n up));
-        frames = frames_more v.sent (frames_of u.outs) ∙ ap (λ (xs : List Frame). xs ++ map (λ (s : Sent). s.frame) (frames_of u.outs)) frames;
+        frames = sent_more v.sent (frames_of u.outs) ∙ ap (λ (xs : List Frame). xs ++ map (λ (s : Sent). s.frame) (frames_of u.outs)) frames;
         labels = told k u;
         aside = aside (lines_of n k u.outs);
       })))

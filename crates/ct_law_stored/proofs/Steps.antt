@@ -1,6 +1,6 @@
 -- Every step of the cluster: what it tells needs no more of persistent databases than what holds, and that holds after it.
-use Rattle.std.proofs.Common.{◌≡◌, ◌≢◌, ℕ, zero, suc, ◌+◌, ◌<◌, Bool, true, false, cond, List, [], ◌∷◌, ◌++◌, length, map, set, append-nil, Option, None, Some, refl, sym, ap, ◌∙◌, subst, arith, inl, inr, ⊎_elim}
-use Rattle.std.specs.Prelude.{◌⊎◌, Ok, slice_get}
+use Rattle.std.proofs.Common.{◌≡◌, ◌≢◌, ℕ, zero, suc, ◌+◌, ◌<◌, Bool, true, false, cond, List, [], ◌∷◌, ◌++◌, length, map, set, append-nil, Option, None, Some, refl, sym, ap, ◌∙◌, subst, arith, ⊎_elim}
+use Rattle.std.specs.Prelude.{◌⊎◌, Ok}
 use Rattle.std.specs.List.{AllByRecursion}
 use Rattle.std.proofs.lemmas.Bool.{cases_eq, eq-eqb}
 use Rattle.ct_msg.specs.declared.client.Answer.{Answer}
@@ -11,7 +11,6 @@ use Rattle.ct_frame.specs.declared.event.Event.{Event}
 use Rattle.ct_frame.specs.declared.event.Event.TheVariants as event
 use Rattle.ct_frame.specs.declared.frame.Frame.{Frame}
 use Rattle.ct_call.specs.Rules.{Rules}
-use Rattle.ct_merge.proofs.Among.{In}
 use Rattle.ct_rules_node.specs.Node.{Node, Committing, restarted, db_at}
 use Rattle.ct_rules_node.specs.Turn.{Turn, begins}
 use Rattle.ct_rules_node.specs.Steps.{happens}
@@ -40,6 +39,7 @@ use Rattle.ct_law_callers.proofs.Calling.{called, more_calls, new_known}
 use Rattle.ct_law_callers.proofs.Known.{pending_known, commit_answered}
 use Rattle.ct_law_callers.proofs.Reached.{AllKnown}
 use Rattle.ct_law_stores.proofs.Facts.{Has, Gone, bases, owners}
+use Rattle.ct_law_walk.proofs.Parts.{fate_frames, sent_in, sent_more}
 use Rattle.ct_law_kept.proofs.Kept.{frame_list}
 use Rattle.ct_law_kept.proofs.Quiet.{IsQuiet, yielded_quiet, started_quiet}
 use Rattle.ct_law_kept.proofs.Kept.{calm_same}
@@ -74,20 +74,6 @@ put_nodes n u own w l = λ i k. by k i
         (λ (e : k ≡ n). ap (λ (j : ℕ). node_at j (with_node n u.node w)) e ∙ own_node n u.node w l ∙ sym (at_same n k u.node (nodes_of w) e))
         (λ (ne : k ≢ n). other_node n k u.node w ne ∙ sym (at_other n k u.node (nodes_of w) ne)) (cases_eq k n)
 
-frames_more : (xs ys : List Sent) → map (λ (s : Sent). s.frame) (xs ++ ys) ≡ map (λ (s : Sent). s.frame) xs ++ map (λ (s : Sent). s.frame) ys
-frames_more [] ys = refl
-frames_more (x ∷ xs) ys = ap (λ (l : List Frame). x.frame ∷ l) (frames_more xs ys)
-
-fate_frames_at : (xs : List Sent) (k : ℕ) (s : Sent) (f : Fate) → slice_get xs k ≡ Some s → map (λ (x : Sent). x.frame) (set xs k (record s { fate = f })) ≡ map (λ (x : Sent). x.frame) xs
-fate_frames_at [] k s f e = refl
-fate_frames_at (x ∷ xs) zero s f e = (let same : x ≡ s = cc in ap (λ (y : Sent). y.frame ∷ map (λ (x : Sent). x.frame) xs) (sym same))
-fate_frames_at (x ∷ xs) (suc k) s f e = ap (λ (l : List Frame). x.frame ∷ l) (fate_frames_at xs k s f e)
-
-fate_frames : (k : ℕ) (s : Sent) (f : Fate) (w : Cluster) → sent_at k w ≡ Some s → frames_in (with_fate k s f w) ≡ frames_in w
-unfolding with_fate sent_at
-fate_frames zero s f w e = refl
-fate_frames (suc k) s f w e = fate_frames_at w.sent k s f e
-
 fate_nodes : (k : ℕ) (s : Sent) (f : Fate) (w : Cluster) → nodes_of (with_fate k s f w) ≡ nodes_of w
 unfolding with_fate node_at
 fate_nodes zero s f w = refl
@@ -97,16 +83,6 @@ fate_length : (k : ℕ) (s : Sent) (f : Fate) (w : Cluster) → length (with_fat
 unfolding with_fate
 fate_length zero s f w = refl
 fate_length (suc k) s f w = refl
-
-sent_in_at : (xs : List Sent) (k : ℕ) (s : Sent) → slice_get xs k ≡ Some s → In s.frame (map (λ (x : Sent). x.frame) xs)
-sent_in_at [] k s e = absurd (cc)
-sent_in_at (x ∷ xs) zero s e = inl (let same : x ≡ s = cc in ap (λ (y : Sent). y.frame) same)
-sent_in_at (x ∷ xs) (suc k) s e = inr (sent_in_at xs k s e)
-
-sent_in : (k : ℕ) (s : Sent) (w : Cluster) → sent_at k w ≡ Some s → In s.frame (frames_in w)
-unfolding sent_at
-sent_in zero s w e = absurd (cc)
-sent_in (suc k) s w e = sent_in_at w.sent k s e
 
 -- ---- what holds before
 
@@ -124,7 +100,7 @@ module _ (config : Config) (rules : Rules) (who : Callers) (w : Cluster) (r : Li
   unfolding put
   put_goes n u own v ls same frames l g = record {
     fs = frame_list u.outs;
-    sent = frames_more v.sent (frames_of u.outs) ∙ ap (λ (xs : List Frame). xs ++ frame_list u.outs) frames;
+    sent = sent_more v.sent (frames_of u.outs) ∙ ap (λ (xs : List Frame). xs ++ frame_list u.outs) frames;
     goes = subst (λ (f : ℕ → Node). Goes config (nodes_of w) f r has ls (frame_list u.outs)) (sym (put_nodes n u own v l ∙ ap (at n u.node) same)) g;
   }
 
