@@ -3,8 +3,6 @@ ghost use Rattle.std.specs.Prelude.{◌≡◌};
 ghost use Rattle.std.specs.List.{list_all};
 ghost use Rattle.ct_sending.specs.Sending.{is_sendable};
 
-use crate::fault::SendFault;
-use crate::send::send_all;
 use ct_bytes::items::Items;
 use ct_bytes::key::Key;
 use ct_bytes::value::Value;
@@ -13,6 +11,8 @@ use ct_frame::fields::well_formed;
 use ct_frame::frame::{CallKind, Frame, Msg, TableRow};
 use ct_msg::client::Answer;
 use ct_outside::memory_link::MemLink;
+use ct_sending::fault::SendFault;
+use ct_sending::send::send_all;
 use std::alloc::Global;
 use std::test::Fail;
 

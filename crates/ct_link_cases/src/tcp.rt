@@ -2,9 +2,9 @@
 ghost use Rattle.std.specs.Prelude.{IsTrue};
 ghost use Rattle.ct_outside.specs.Causes.{Rose};
 
-use crate::link::{Peer, TcpLink};
 use ct_outside::fault::LinkFault;
 use ct_outside::link::{Link, Received};
+use ct_tcp::link::{Peer, TcpLink};
 use std::alloc::Global;
 use std::io::{self, Read, Write};
 use std::net::{Ipv4Addr, Net, SocketAddr, TcpListener, TcpStream};

@@ -1,5 +1,5 @@
 //! What pieces give, call by call, with ample memory.
-use crate::readers::Readers;
+use ct_receiving::readers::Readers;
 use std::alloc::{AllocError, Global};
 use std::test::Fail;
 

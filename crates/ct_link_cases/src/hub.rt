@@ -1,10 +1,10 @@
 //! The answers of boxes, links, books and seats, call by call.
-use crate::book::{Book, LockStep};
-use crate::boxes::{Boxes, Taken};
-use crate::hub::{Hub, HubLink};
-use crate::seats::{BookSeat, LockBook};
 use ct_bytes::items::Items;
 use ct_bytes::memory::NoMemory;
+use ct_hub::book::{Book, LockStep};
+use ct_hub::boxes::{Boxes, Taken};
+use ct_hub::hub::{Hub, HubLink};
+use ct_hub::seats::{BookSeat, LockBook};
 use ct_outside::fault::{ReleaseFault, TakeFault};
 use ct_outside::link::{Link, Received};
 use ct_outside::lock::RecLock;

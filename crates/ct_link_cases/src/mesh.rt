@@ -1,5 +1,5 @@
 //! What one node writes to another, that one reads, and no other.
-use crate::mesh::mesh;
+use ct_mesh::mesh::mesh;
 use ct_tcp::link::Peer;
 use std::io::{ErrorKind, Read, Write};
 use std::net::TcpStream;
