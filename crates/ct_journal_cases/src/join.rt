@@ -2,12 +2,12 @@
 ghost use Rattle.std.specs.Prelude.{◌≤◌, ◌<◌, ◌+◌, ◌^◌, length, IfOk};
 ghost use Rattle.ct_journal.specs.Order.{all_entries, count_sent, frames_in};
 
-use crate::schedule::schedule;
 use ct_bytes::items::Items;
 use ct_bytes::key::Key;
 use ct_cluster::step::Step;
 use ct_frame::event::{Event, Out};
 use ct_frame::frame::{Frame, Msg};
+use ct_join::schedule::schedule;
 use ct_journal::journal::{Journal, JournalEntry};
 use ct_msg::client::ClientOp;
 use std::alloc::Global;
@@ -114,7 +114,7 @@ fn journal(
     })
 }
 
-#[tactic(auto, using(crate::proofs::Testing::both_few))]
+#[tactic(auto, using(crate::proofs::Pairs::both_few))]
 fn both(alloc: Global, first: Journal, second: Journal) -> Result<Vec<Journal>, Fail>
     requires first { length first.entries + count_sent first.entries ≤ 9 }
     requires second { length second.entries + count_sent second.entries ≤ 9 }

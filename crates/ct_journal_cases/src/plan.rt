@@ -1,9 +1,9 @@
 //! Scripts of plans, against a program that makes them in another language.
-use crate::scripts::cluster_plan;
 use ct_bytes::items::Items;
 use ct_bytes::number::push_decimal;
 use ct_frame::plan::PlanItem;
 use ct_msg::client::ClientOp;
+use ct_plan::scripts::cluster_plan;
 use std::alloc::Global;
 use std::test::Fail;
 

@@ -1,4 +1,4 @@
--- What the tests ask of journals.
+-- What is asked of journals that are joined.
 use Rattle.std.proofs.Common.{◌≡◌, ℕ, zero, suc, ◌+◌, ◌^◌, ◌<◌, true, List, [], ◌∷◌, Some, Ok, length, arith, refl, sym, ap, ◌∙◌, subst}
 use Rattle.std.specs.Prelude.{codes, slice_get}
 use Rattle.std.specs.List.Sorted.{IsPermutation}
@@ -19,8 +19,8 @@ use Rattle.ct_law_fronts.specs.Counts.{AreNotTooMany, HaveOwnTickets, begins_rou
 use Rattle.ct_law_fronts.specs.Worked.{unsent_journals}
 use Rattle.ct_law_fronts.proofs.Computed.{none_is_reached}
 use Rattle.ct_promise.specs.Promises.{IsConfig}
-use Rattle.ct_joined.proofs.Computed.{first_crossed_runs, first_straight_runs, second_crossed_runs, second_straight_runs}
-use Rattle.ct_joined.specs.Worked.{MayJoin, crossed_journals, first_crossed, first_straight, second_crossed, second_straight, straight_journals}
+use Rattle.ct_journal_cases.proofs.Computed.{first_crossed_runs, first_straight_runs, second_crossed_runs, second_straight_runs}
+use Rattle.ct_journal_cases.specs.Worked.{MayJoin, crossed_journals, first_crossed, first_straight, second_crossed, second_straight, straight_journals}
 
 -- ---- the configuration
 

@@ -1,10 +1,10 @@
 //! A node follows a script of two calls, a round and a call.
 ghost use Rattle.std.specs.Prelude.{◌<◌};
 
-use crate::cue::Cue;
 use ct_bytes::items::Items;
 use ct_bytes::key::Key;
 use ct_bytes::memory::NoMemory;
+use ct_cue::cue::Cue;
 use ct_frame::event::{Event, Out};
 use ct_frame::frame::{Frame, Msg};
 use ct_frame::plan::PlanItem;

@@ -10,10 +10,9 @@ ghost use Rattle.ct_law_fronts.specs.Worked.{unsent_journals};
 ghost use Rattle.ct_msg.specs.declared.client.ClientOp.TheVariants as op;
 ghost use Rattle.ct_promise.specs.Promises.{IsConfig};
 ghost use Rattle.ct_frame.specs.declared.event.Out.TheVariants as out;
-ghost use Rattle.ct_joined.specs.Worked as crossed;
-ghost use Rattle.ct_joined.specs.Worked.{MayJoin, crossed_journals, straight_journals};
+ghost use Rattle.ct_journal_cases.specs.Worked as crossed;
+ghost use Rattle.ct_journal_cases.specs.Worked.{MayJoin, crossed_journals, straight_journals};
 
-use crate::joined::{JoinFault, join};
 use ct_bytes::items::Items;
 use ct_bytes::key::Key;
 use ct_bytes::name::DbName;
@@ -22,6 +21,7 @@ use ct_call::table::CallTable;
 use ct_cluster::step::Step;
 use ct_frame::event::{Event, Out};
 use ct_frame::frame::{CallKind, Frame, Msg};
+use ct_joined::joined::{JoinFault, join};
 use ct_journal::journal::{Journal, JournalEntry};
 use ct_msg::client::ClientOp;
 use ct_msg::config::{Config, DbDecl, DbKind};
@@ -50,7 +50,7 @@ enum Case {
 }
 
 /// Two nodes with the databases `g_lock` and `t`, which is volatile.
-#[tactic(auto, using(crate::proofs::Testing::is_config, crate::proofs::Testing::is_pair))]
+#[tactic(auto, using(crate::proofs::Joinable::is_config, crate::proofs::Joinable::is_pair))]
 fn config(alloc: Global) -> Result<Config, Fail>
     ensures config { IfOk result (λ c. IsConfig c) }
     ensures pair { IfOk result (λ c. c ≡ pair_config) }
@@ -262,7 +262,7 @@ fn told_of(
 }
 
 /// What is told of the join of these journals.
-#[tactic(auto, using(crate::proofs::Testing::straight_may, crate::proofs::Testing::unsent_may, crate::proofs::Testing::crossed_may))]
+#[tactic(auto, using(crate::proofs::Joinable::straight_may, crate::proofs::Joinable::unsent_may, crate::proofs::Joinable::crossed_may))]
 fn joined(alloc: Global, case: Case) -> Result<Vec<Told>, Fail> {
     let config = config(alloc)?;
     let table = CallTable::new(alloc);

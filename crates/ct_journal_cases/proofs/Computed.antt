@@ -1,4 +1,4 @@
--- The worked journals, by computing with all words of the rules open; and what the tests ask of journals.
+-- The worked journals, by computing with all words of the rules open.
 use Rattle.std.proofs.Common.{◌≡◌, ◌∙◌, ap, sym, ℕ, zero, suc, ◌+◌, ◌^◌, ◌<◌, true, List, [], ◌∷◌, Some, length, arith, refl, subst}
 use Rattle.std.specs.Prelude.{codes, slice_get}
 use Rattle.ct_frame.specs.declared.event.Event.{Event}
@@ -28,7 +28,7 @@ use Rattle.ct_journal.specs.Runs.{IsRun, RunsTo}
 use Rattle.ct_journal.specs.Worked.{asks, noted, pair_config}
 use Rattle.ct_journal.specs.declared.journal.Journal.{Journal}
 use Rattle.ct_law_scheduled.specs.Laws.{AreRuns, IsRunOf}
-use Rattle.ct_joined.specs.Worked.{asks_too, first_crossed, first_straight, second_crossed, second_straight}
+use Rattle.ct_journal_cases.specs.Worked.{asks_too, first_crossed, first_straight, second_crossed, second_straight}
 
 -- the node after a step that is not refused
 turned : ℕ → Event → Node → Node

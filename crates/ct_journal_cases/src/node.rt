@@ -2,7 +2,6 @@
 ghost use Rattle.std.specs.Prelude.{◌≡◌, ◌<◌, IfOk};
 ghost use Rattle.ct_node_form.specs.Whole.{HasLimits};
 
-use crate::node::Node;
 use ct_bytes::key::Key;
 use ct_bytes::name::DbName;
 use ct_bytes::value::Value;
@@ -10,6 +9,7 @@ use ct_call::table::CallTable;
 use ct_frame::event::{Event, Out};
 use ct_msg::client::{Answer, ClientOp};
 use ct_msg::config::{Config, DbDecl, DbKind};
+use ct_node::node::Node;
 use std::alloc::Global;
 use std::test::Fail;
 

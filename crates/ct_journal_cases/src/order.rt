@@ -1,13 +1,13 @@
 //! Journals of a few entries.
 ghost use Rattle.std.specs.Prelude.{◌≡◌, length, IfOk};
 
-use crate::order::{in_order, order_of};
 use ct_bytes::items::Items;
 use ct_bytes::memory::NoMemory;
 use ct_frame::event::{Event, Out};
 use ct_frame::frame::{Frame, Msg};
 use ct_journal::journal::{Journal, JournalEntry};
 use ct_msg::client::ClientOp;
+use ct_order::order::{in_order, order_of};
 use std::alloc::Global;
 use std::test::Fail;
 
