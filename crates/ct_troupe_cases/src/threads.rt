@@ -1,25 +1,16 @@
 //! Plans are played, and played again, with ample memory; and gates say which of two nodes comes first.
-ghost use Rattle.std.specs.Prelude.{◌≡◌, IfOk};
-ghost use Rattle.std.specs.List.{list_all};
-ghost use Rattle.ct_plan.specs.Sound.{IsSound};
-ghost use Rattle.ct_turns.specs.Plain.{asks_only, is_asked};
-
-use crate::gate::ThreadGate;
-use crate::threads::Threads;
-use ct_bytes::items::Items;
-use ct_bytes::key::Key;
+use crate::plans::{count_answers, count_calls, two_writers};
 use ct_bytes::memory::NoMemory;
-use ct_bytes::name::DbName;
-use ct_bytes::value::Value;
 use ct_call::table::CallTable;
-use ct_frame::event::{Event, Out};
-use ct_frame::plan::{Plan, PlanItem};
+use ct_frame::event::Event;
+use ct_frame::plan::Plan;
 use ct_journal::journal::Journal;
-use ct_msg::client::{Answer, ClientOp};
-use ct_msg::config::{Config, DbDecl, DbKind};
+use ct_msg::client::Answer;
 use ct_outside::gate::{Gate, OpenGate};
 use ct_plan::scripts::cluster_plan;
 use ct_threaded::threaded::play_in_threads;
+use ct_threads::gate::ThreadGate;
+use ct_threads::threads::Threads;
 use ct_troupe::troupe::Troupe;
 use std::alloc::Global;
 use std::sync::atomic::{AtomicU64, Ordering};
@@ -28,118 +19,12 @@ use std::test::Fail;
 use std::thread;
 use std::thread::Threads as Spawns;
 
-// Is the item a call that may come?
-#[tactic(auto, unfolding(ct_turns::specs::Plain::is_asked, ct_rules_node::specs::Coming::is_allowed_op))]
-fn is_asked(item: &PlanItem) -> bool
-    ensures { result ≡ is_asked item.now }
-{
-    match item {
-        PlanItem::Call(ClientOp::Commit { writes, .. }) => 0 < writes.len() && writes.len() < 17,
-        PlanItem::Call(_) => true,
-        PlanItem::Round(_) => false,
-    }
-}
-
-// Are they all?
-fn all_asked(script: &[PlanItem]) -> bool
-    ensures { result ≡ list_all is_asked script.now }
-{
-    script.iter().all(|item| is_asked(item))
-}
-
-// Are all items such calls, 4,096 at most?
-#[tactic(auto, unfolding(ct_turns::specs::Plain::asks_only))]
-fn asks_only(script: &[PlanItem]) -> bool
-    ensures { result ≡ asks_only script.now }
-{
-    if script.len() > 4096 {
-        return false;
-    }
-    all_asked(script)
-}
-
-// So for each script?
-fn all_ask_only(scripts: &[Items<PlanItem>]) -> bool
-    ensures { result ≡ list_all asks_only scripts.now }
-{
-    scripts.iter().all(|script| asks_only(script.as_slice()))
-}
-
-// A plan of these scripts, one a node, with the databases `g_lock` and `t`, which is volatile.
-fn plan(alloc: Global, scripts: Vec<Items<PlanItem>>) -> Result<Plan, Fail>
-    ensures { IfOk result IsSound }
-{
-    let mut dbs = Vec::new(alloc);
-    dbs.push(DbDecl {
-        name: DbName::new(alloc, b"t")?,
-        kind: DbKind::Volatile,
-    })?;
-    if !all_ask_only(scripts.as_slice()) || scripts.len() > 16 {
-        return Err(Fail::new("no scripts of calls"));
-    }
-    let config = Config::new(alloc, scripts.len() as u32, dbs, Vec::new(alloc))?;
-    Ok(Plan {
-        config,
-        scripts: Items::new(scripts),
-        net: false,
-    })
-}
-
-// A client that writes this value into record `b` so many times.
-fn writer(alloc: Global, value: &[u8], times: usize) -> Result<Items<PlanItem>, Fail> {
-    let mut script = Vec::new(alloc);
-    for _ in 0..times {
-        script.push(PlanItem::Call(ClientOp::Write {
-            db: 1,
-            key: Key::new(alloc, b"b")?,
-            value: Value::new(alloc, value)?,
-        }))?;
-    }
-    Ok(Items::new(script))
-}
-
-// Two nodes, of which each client writes the same record so many times.
-fn two_writers(alloc: Global, times: usize) -> Result<Plan, Fail>
-    ensures { IfOk result IsSound }
-{
-    let mut scripts = Vec::new(alloc);
-    scripts.push(writer(alloc, b"x", times)?)?;
-    scripts.push(writer(alloc, b"y", times)?)?;
-    plan(alloc, scripts)
-}
-
-// How many calls the script asks.
-fn count_calls(script: &[PlanItem]) -> usize {
-    let mut count: usize = 0;
-    for item in script {
-        if let PlanItem::Call(_) = item {
-            count = count.saturating_add(1);
-        }
-    }
-    count
-}
-
 // How many calls came.
 fn count_asked(journal: &Journal) -> usize {
     let mut count: usize = 0;
     for entry in journal.entries.as_slice() {
         if let Event::Client { .. } = entry.event {
             count = count.saturating_add(1);
-        }
-    }
-    count
-}
-
-// How often `Written` is answered.
-fn count_written(journal: &Journal) -> usize {
-    let mut count: usize = 0;
-    for entry in journal.entries.as_slice() {
-        for out in entry.outs.as_slice() {
-            if let Out::Answer { answer, .. } = out {
-                if *answer == Answer::Written {
-                    count = count.saturating_add(1);
-                }
-            }
         }
     }
     count
@@ -258,7 +143,7 @@ fn gates_say_who_comes_first(rt: HostRuntime) -> Result<(), Fail> {
             "node {held} was held, {times} writes"
         );
         for journal in journals {
-            assert_eq!(rt; count_written(journal), times);
+            assert_eq!(rt; count_answers(journal, &Answer::Written), times);
         }
     }
     Ok(())

@@ -1,8 +1,8 @@
 use Rattle.std.proofs.Common.{◌≡◌, true, length, rules}
 use Rattle.std.specs.List.{list_all}
-use Rattle.ct_turns.proofs.Plain.{asks_sound}
-use Rattle.ct_turns.specs.Plain.{asks_only}
-use Rattle.ct_threads.proofs.tests.plan.Goals as goal
+use Rattle.ct_troupe_cases.proofs.Plain.{asks_sound}
+use Rattle.ct_troupe_cases.specs.Plain.{asks_only}
+use Rattle.ct_troupe_cases.proofs.plans.plan.Goals as goal
 
 pub returns : goal.returns
 returns c =

@@ -2,7 +2,7 @@
 ghost use Rattle.std.specs.Prelude.{[], IfOk};
 ghost use Rattle.ct_plan.specs.Sound.{IsSound};
 
-use crate::both::Both;
+use ct_both::both::Both;
 use ct_call::table::CallTable;
 use ct_frame::plan::Plan;
 use ct_journal::journal::Journal;

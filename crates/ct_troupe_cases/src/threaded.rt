@@ -1,11 +1,11 @@
 //! Plans that are played in threads, with ample memory.
-use crate::threaded::play_in_threads;
+use crate::plans::count_calls;
 use ct_call::table::CallTable;
 use ct_frame::event::{Event, Out};
-use ct_frame::plan::PlanItem;
 use ct_journal::journal::Journal;
 use ct_outside::gate::{Gate, OpenGate};
 use ct_plan::scripts::cluster_plan;
+use ct_threaded::threaded::play_in_threads;
 use std::sync::atomic::{AtomicU64, Ordering};
 use std::test::Fail;
 use std::thread;
@@ -57,17 +57,6 @@ fn nodes_meet(rt: HostRuntime) -> Result<(), Fail> {
     assert_eq!(rt; met.load(Ordering::SeqCst), 2);
     assert!(rt; played.is_some());
     Ok(())
-}
-
-// How many calls the script asks.
-fn count_calls(script: &[PlanItem]) -> usize {
-    let mut count: usize = 0;
-    for item in script {
-        if let PlanItem::Call(_) = item {
-            count = count.saturating_add(1);
-        }
-    }
-    count
 }
 
 // How many calls came, and how many answers were given.

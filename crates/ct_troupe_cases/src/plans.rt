@@ -1,21 +1,18 @@
-//! Plans of one node and of two, with ample memory.
+//! Plans of clients that write the same record, and what their journals say.
 ghost use Rattle.std.specs.Prelude.{◌≡◌, IfOk};
 ghost use Rattle.std.specs.List.{list_all};
 ghost use Rattle.ct_plan.specs.Sound.{IsSound};
-ghost use Rattle.ct_turns.specs.Plain.{asks_only, is_asked};
+ghost use Rattle.ct_troupe_cases.specs.Plain.{asks_only, is_asked};
 
-use crate::turns::Turns;
 use ct_bytes::items::Items;
 use ct_bytes::key::Key;
 use ct_bytes::name::DbName;
 use ct_bytes::value::Value;
-use ct_call::table::CallTable;
 use ct_frame::event::Out;
 use ct_frame::plan::{Plan, PlanItem};
 use ct_journal::journal::Journal;
 use ct_msg::client::{Answer, ClientOp};
 use ct_msg::config::{Config, DbDecl, DbKind};
-use ct_troupe::troupe::Troupe;
 use std::alloc::Global;
 use std::test::Fail;
 
@@ -57,7 +54,7 @@ fn all_ask_only(scripts: &[Items<PlanItem>]) -> bool
 }
 
 // A plan of these scripts, one a node, with the databases `g_lock` and `t`, which is volatile.
-fn plan(alloc: Global, scripts: Vec<Items<PlanItem>>) -> Result<Plan, Fail>
+pub fn plan(alloc: Global, scripts: Vec<Items<PlanItem>>) -> Result<Plan, Fail>
     ensures { IfOk result IsSound }
 {
     let mut dbs = Vec::new(alloc);
@@ -76,7 +73,7 @@ fn plan(alloc: Global, scripts: Vec<Items<PlanItem>>) -> Result<Plan, Fail>
     })
 }
 
-fn write(alloc: Global, key: &[u8], value: &[u8]) -> Result<PlanItem, Fail> {
+pub fn write(alloc: Global, key: &[u8], value: &[u8]) -> Result<PlanItem, Fail> {
     Ok(PlanItem::Call(ClientOp::Write {
         db: 1,
         key: Key::new(alloc, key)?,
@@ -84,15 +81,38 @@ fn write(alloc: Global, key: &[u8], value: &[u8]) -> Result<PlanItem, Fail> {
     }))
 }
 
-fn read(alloc: Global, key: &[u8]) -> Result<PlanItem, Fail> {
-    Ok(PlanItem::Call(ClientOp::Read {
-        db: 1,
-        key: Key::new(alloc, key)?,
-    }))
+// A client that writes this value into record `b` so many times.
+fn writer(alloc: Global, value: &[u8], times: usize) -> Result<Items<PlanItem>, Fail> {
+    let mut script = Vec::new(alloc);
+    for _ in 0..times {
+        script.push(write(alloc, b"b", value)?)?;
+    }
+    Ok(Items::new(script))
+}
+
+// Two nodes, of which each client writes the same record so many times.
+pub fn two_writers(alloc: Global, times: usize) -> Result<Plan, Fail>
+    ensures { IfOk result IsSound }
+{
+    let mut scripts = Vec::new(alloc);
+    scripts.push(writer(alloc, b"x", times)?)?;
+    scripts.push(writer(alloc, b"y", times)?)?;
+    plan(alloc, scripts)
+}
+
+// How many calls the script asks.
+pub fn count_calls(script: &[PlanItem]) -> usize {
+    let mut count: usize = 0;
+    for item in script {
+        if let PlanItem::Call(_) = item {
+            count = count.saturating_add(1);
+        }
+    }
+    count
 }
 
 // How often this is answered in the journal.
-fn count_answers(journal: &Journal, wanted: &Answer) -> usize {
+pub fn count_answers(journal: &Journal, wanted: &Answer) -> usize {
     let mut count: usize = 0;
     for entry in journal.entries.as_slice() {
         for out in entry.outs.as_slice() {
@@ -104,45 +124,4 @@ fn count_answers(journal: &Journal, wanted: &Answer) -> usize {
         }
     }
     count
-}
-
-#[test]
-fn one_node_writes_and_reads(rt: HostRuntime) -> Result<(), Fail> {
-    let alloc = rt.alloc();
-    let table = CallTable::new(alloc);
-    let mut script = Vec::new(alloc);
-    script.push(write(alloc, b"k", b"v")?)?;
-    script.push(read(alloc, b"k")?)?;
-    let mut scripts = Vec::new(alloc);
-    scripts.push(Items::new(script))?;
-    let plan = plan(alloc, scripts)?;
-    let mut turns = Turns::new(alloc);
-    assert!(rt; turns.journals().is_empty());
-    turns.play(alloc, &table, &plan)?;
-    let journals = turns.journals();
-    assert!(rt; journals.len() == 1);
-    assert!(rt; journals[0].entries.len() == 2);
-    assert!(rt; count_answers(&journals[0], &Answer::Written) == 1);
-    assert!(rt; count_answers(&journals[0], &Answer::Read(Value::new(alloc, b"v")?)) == 1);
-    Ok(())
-}
-
-#[test]
-fn two_nodes_write_the_same_record(rt: HostRuntime) -> Result<(), Fail> {
-    let alloc = rt.alloc();
-    let table = CallTable::new(alloc);
-    let mut scripts = Vec::new(alloc);
-    for value in [b"x", b"y"] {
-        let mut script = Vec::new(alloc);
-        script.push(write(alloc, b"b", value)?)?;
-        scripts.push(Items::new(script))?;
-    }
-    let plan = plan(alloc, scripts)?;
-    let mut turns = Turns::new(alloc);
-    turns.play(alloc, &table, &plan)?;
-    let journals = turns.journals();
-    assert!(rt; journals.len() == 2);
-    assert!(rt; count_answers(&journals[0], &Answer::Written) == 1);
-    assert!(rt; count_answers(&journals[1], &Answer::Written) == 1);
-    Ok(())
 }

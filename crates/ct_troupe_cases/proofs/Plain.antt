@@ -11,7 +11,7 @@ use Rattle.ct_msg.specs.Config.{Configures}
 use Rattle.ct_msg.specs.declared.config.Config.{Config}
 use Rattle.ct_msg.specs.declared.config.DbDecl.{DbDecl}
 use Rattle.ct_plan.specs.Sound.{IsSound, has_round, is_round, may_be_told, or_no_items, script_of}
-use Rattle.ct_turns.specs.Plain.{asks_only, is_asked}
+use Rattle.ct_troupe_cases.specs.Plain.{asks_only, is_asked}
 
 -- such scripts
 record Asks (c : Config) (n : ℕ) (script : List PlanItem) : Type 0 where
