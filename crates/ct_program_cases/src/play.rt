@@ -1,9 +1,9 @@
 //! Scenarios with ample memory, line by line, against texts from outside.
-use crate::session::Session;
-use crate::text::push_what;
-use crate::what::PlayFault;
 use ct_bytes::memory::NoMemory;
 use ct_call::table::CallTable;
+use ct_play::session::Session;
+use ct_play::text::push_what;
+use ct_play::what::PlayFault;
 use std::alloc::Global;
 use std::test::Fail;
 

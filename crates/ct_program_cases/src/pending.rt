@@ -1,5 +1,4 @@
 //! The calls that wait at a node with two databases beside `g_lock`.
-use crate::pending::pending;
 use ct_bytes::items::Items;
 use ct_bytes::key::Key;
 use ct_bytes::name::DbName;
@@ -9,6 +8,7 @@ use ct_database::database::Committing;
 use ct_msg::client::{ClientOp, Pair};
 use ct_msg::config::{Config, DbDecl, DbKind};
 use ct_node_state::node::Node;
+use ct_pending::pending::pending;
 use ct_persist::commit::Commit;
 use ct_rules::state::{RecState, Wish};
 use std::alloc::Global;

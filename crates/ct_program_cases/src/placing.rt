@@ -1,6 +1,6 @@
 //! Lines that are taken and refused, and texts, against worked examples and a program that writes each list of moves out.
-use crate::placing::Placing;
 use ct_lines::line::{LineKind, LineKindFault};
+use ct_placing::placing::Placing;
 use std::alloc::Global;
 use std::test::Fail;
 

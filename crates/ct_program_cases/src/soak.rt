@@ -1,7 +1,7 @@
 //! Lines of words, against a program that makes them in another language.
-use crate::soak::{SoakView, soak_line};
 use ct_bytes::items::Items;
 use ct_lines::print::print_line;
+use ct_soak::soak::{SoakView, soak_line};
 use std::test::Fail;
 
 #[test]

@@ -1,12 +1,12 @@
 //! How inputs end, and what is printed then, with ample memory.
 ghost use Rattle.std.specs.Prelude.{None};
 
-use crate::placer::{End, place};
 use ct_lines::line::LineKind;
 use ct_outside::fault::{Failed, SinkFault};
 use ct_outside::memory::{MemSink, MemSource};
 use ct_outside::sink::Sink;
 use ct_outside::source::Source;
+use ct_placer::placer::{End, place};
 use std::alloc::Global;
 use std::test::Fail;
 

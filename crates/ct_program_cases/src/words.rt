@@ -1,5 +1,5 @@
 //! Lists of words, and what they ask for.
-use crate::words::{PlanNumbers, Word, WordsFault, read_words};
+use ct_words::words::{PlanNumbers, Word, WordsFault, read_words};
 use std::alloc::Global;
 use std::test::Fail;
 

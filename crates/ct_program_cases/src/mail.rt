@@ -1,7 +1,7 @@
 //! Messages that are sent and end, step by step.
-use crate::mail::Mail;
 use ct_bytes::items::Items;
 use ct_frame::frame::{Frame, Msg};
+use ct_mail::mail::Mail;
 use std::alloc::Global;
 use std::test::Fail;
 

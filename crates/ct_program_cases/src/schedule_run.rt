@@ -3,7 +3,6 @@ ghost use Rattle.std.specs.Prelude.{◌≡◌, true, IfOk};
 ghost use Rattle.std.specs.List.{list_all};
 ghost use Rattle.ct_cluster.specs.Faults.{is_allowed};
 
-use crate::schedule::{Summary, schedule_text};
 use ct_bytes::key::Key;
 use ct_bytes::name::DbName;
 use ct_bytes::value::Value;
@@ -11,6 +10,7 @@ use ct_call::table::CallTable;
 use ct_cluster::step::Step;
 use ct_msg::client::ClientOp;
 use ct_msg::config::{Config, DbDecl, DbKind};
+use ct_schedule_run::schedule::{Summary, schedule_text};
 use std::alloc::Global;
 use std::test::Fail;
 

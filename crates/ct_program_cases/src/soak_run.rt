@@ -1,6 +1,6 @@
 //! Soaks with ample memory, against lines that a program in another language printed.
-use crate::soaking::soak;
 use ct_call::table::CallTable;
+use ct_soak_run::soaking::soak;
 use std::test::Fail;
 
 #[test]

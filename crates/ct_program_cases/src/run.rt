@@ -1,10 +1,10 @@
 //! Runs of the top call with ample memory.
 ghost use Rattle.std.specs.Prelude.{None};
 
-use crate::run::run;
 use ct_call::table::CallTable;
 use ct_frame::plan::Plan;
 use ct_journal::journal::Journal;
+use ct_main::run::run;
 use ct_outside::fault::{Failed, SinkFault};
 use ct_outside::memory::{MemSink, MemSource};
 use ct_outside::sink::Sink;
