@@ -8,5 +8,3 @@
 #![tactic(auto)]
 
 pub mod both;
-#[cfg(test)]
-mod tests;

@@ -10,5 +10,3 @@
 #![tactic(auto)]
 
 pub mod cue;
-#[cfg(test)]
-mod tests;

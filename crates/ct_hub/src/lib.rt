@@ -6,5 +6,3 @@ pub mod book;
 pub mod boxes;
 pub mod hub;
 pub mod seats;
-#[cfg(test)]
-mod tests;

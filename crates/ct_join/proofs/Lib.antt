@@ -1,4 +1,3 @@
 pub mod Carrying
 pub mod Passing
-pub mod Testing
 pub mod Joining

@@ -8,5 +8,3 @@ pub mod join;
 pub mod queues;
 pub mod schedule;
 pub mod scheduler;
-#[cfg(test)]
-mod tests;

@@ -5,5 +5,3 @@ pub mod Stepping
 pub mod Reached
 pub mod Rounds
 pub mod Outcome
-pub mod Computed
-pub mod Testing

@@ -1,4 +1,3 @@
 pub mod Going
 pub mod Reaching
 pub mod Joined
-pub mod Worked

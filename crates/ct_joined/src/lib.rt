@@ -8,5 +8,3 @@ pub mod going;
 pub mod joined;
 pub mod making;
 pub mod reach;
-#[cfg(test)]
-mod tests;

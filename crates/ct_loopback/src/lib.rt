@@ -10,5 +10,3 @@
 pub mod loopback;
 pub mod meshed;
 mod node;
-#[cfg(test)]
-mod tests;

@@ -3,5 +3,3 @@
 
 pub mod mail;
 pub mod sent;
-#[cfg(test)]
-mod tests;

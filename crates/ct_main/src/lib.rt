@@ -4,5 +4,3 @@
 pub mod laws;
 pub mod player;
 pub mod run;
-#[cfg(test)]
-mod tests;

@@ -2,5 +2,3 @@
 #![tactic(auto)]
 
 pub mod mesh;
-#[cfg(test)]
-mod tests;

@@ -14,5 +14,3 @@
 #![tactic(auto)]
 
 pub mod node;
-#[cfg(test)]
-mod tests;

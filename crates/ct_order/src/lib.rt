@@ -8,5 +8,3 @@ pub mod letter;
 pub mod order;
 pub mod same;
 pub mod standing;
-#[cfg(test)]
-mod tests;

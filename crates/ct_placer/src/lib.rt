@@ -4,5 +4,3 @@
 pub mod laws;
 pub mod placer;
 pub mod print;
-#[cfg(test)]
-mod tests;

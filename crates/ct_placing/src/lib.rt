@@ -3,6 +3,4 @@
 
 pub mod line;
 pub mod placing;
-#[cfg(test)]
-mod tests;
 pub mod text;

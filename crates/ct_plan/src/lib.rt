@@ -3,5 +3,3 @@
 #![tactic(auto)]
 
 pub mod scripts;
-#[cfg(test)]
-mod tests;

@@ -6,7 +6,5 @@ pub mod laws;
 pub mod named;
 pub mod session;
 mod shown;
-#[cfg(test)]
-mod tests;
 pub mod text;
 pub mod what;

@@ -4,5 +4,3 @@
 pub mod arrived;
 pub mod laws;
 pub mod readers;
-#[cfg(test)]
-mod tests;

@@ -3,5 +3,3 @@
 #![tactic(auto)]
 
 pub mod schedule;
-#[cfg(test)]
-mod tests;

@@ -3,5 +3,3 @@
 
 pub mod fault;
 pub mod send;
-#[cfg(test)]
-mod tests;

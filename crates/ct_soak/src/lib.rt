@@ -2,5 +2,3 @@
 #![tactic(auto)]
 
 pub mod soak;
-#[cfg(test)]
-mod tests;

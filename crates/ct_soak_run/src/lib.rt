@@ -2,5 +2,3 @@
 #![tactic(auto)]
 
 pub mod soaking;
-#[cfg(test)]
-mod tests;

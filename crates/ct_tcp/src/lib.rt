@@ -4,5 +4,3 @@
 
 mod lanes;
 pub mod link;
-#[cfg(test)]
-mod tests;

@@ -3,6 +3,4 @@
 
 pub mod beside;
 pub mod settled;
-#[cfg(test)]
-mod tests;
 pub mod threaded;

@@ -8,6 +8,4 @@
 #![tactic(auto)]
 
 pub mod gate;
-#[cfg(test)]
-mod tests;
 pub mod threads;

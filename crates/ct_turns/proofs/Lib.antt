@@ -1,3 +1,2 @@
 pub mod Staging
 pub mod Ending
-pub mod Plain

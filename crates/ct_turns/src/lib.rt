@@ -8,6 +8,4 @@
 #![tactic(auto)]
 
 mod stage;
-#[cfg(test)]
-mod tests;
 pub mod turns;

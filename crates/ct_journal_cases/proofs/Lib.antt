@@ -1,0 +1,4 @@
+pub mod Computed
+pub mod Few
+pub mod Joinable
+pub mod Pairs
