@@ -79,12 +79,12 @@ Adds (Err NoMemory) step old new before now = Unit {0}
 Adds (Err f) step old new before now = step ≡ Err f
 
 -- the course leads from the old cluster to the new one, and prints these lines
-abbrev pub LeadsTo : Result Course StepFault → World → World → List Line → Type 0
-LeadsTo (Ok x) old new lines = (new ≡ record old { cluster = x.cluster }) × (lines ≡ printed x.deeds)
-LeadsTo (Err f) old new lines = ⊥
+abbrev pub CourseLeadsTo : Result Course StepFault → World → World → List Line → Type 0
+CourseLeadsTo (Ok x) old new lines = (new ≡ record old { cluster = x.cluster }) × (lines ≡ printed x.deeds)
+CourseLeadsTo (Err f) old new lines = ⊥
 
 -- Ok is exactly the course, and a refusal comes exactly where the course has it. Memory may be wanting in place of each.
 abbrev pub Goes : Result (Vec Line Global) StepFault → Result Course StepFault → World → World → Type 0
-Goes (Ok lines) course old new = LeadsTo course old new lines.items
+Goes (Ok lines) course old new = CourseLeadsTo course old new lines.items
 Goes (Err NoMemory) course old new = Unit {0}
 Goes (Err f) course old new = course ≡ Err f
