@@ -78,14 +78,14 @@ pub record MergesSo (config : Config) (rules : Rules) (w : Cluster) (r : Lines) 
 
 -- Step by step there are registers that accept what the step tells of records, and marks that go on; where the steps lead they
 -- hold, and have this property.
-unfoldable pub LeadsTo : Config → Rules → (Cluster → Lines → AllMarks → Type 0) → Cluster → List OpenCall → Lines → AllMarks → List Step → Type 0
-LeadsTo config rules P w log r marks [] = RecordsStand w r × GenerationsStand w r × MarksHold w r marks × P w r marks
-LeadsTo config rules P w log r marks (s ∷ steps) = let run = ran_one config rules w log s in
-    (t : Lines) × (after : AllMarks) × AcceptsLabels config rules r (record_labels config run.trace) t × MarksGoOn r run.trace marks after × LeadsTo config rules P run.cluster run.log t after steps
+unfoldable pub LeadsWith : Config → Rules → (Cluster → Lines → AllMarks → Type 0) → Cluster → List OpenCall → Lines → AllMarks → List Step → Type 0
+LeadsWith config rules P w log r marks [] = RecordsStand w r × GenerationsStand w r × MarksHold w r marks × P w r marks
+LeadsWith config rules P w log r marks (s ∷ steps) = let run = ran_one config rules w log s in
+    (t : Lines) × (after : AllMarks) × AcceptsLabels config rules r (record_labels config run.trace) t × MarksGoOn r run.trace marks after × LeadsWith config rules P run.cluster run.log t after steps
 
 -- so it is of every list of steps from the opening on, where nothing is marked
 abbrev pub AfterAll : (Config → Rules → Cluster → Lines → AllMarks → Type 0) → Type 0
-AfterAll P = (config : Config) (rules : Rules) (steps : List Step) → IsConfig config → LeadsTo config rules (P config rules) (opening config) [] (Lines.opening config) (λ g. no_marks) steps
+AfterAll P = (config : Config) (rules : Rules) (steps : List Step) → IsConfig config → LeadsWith config rules (P config rules) (opening config) [] (Lines.opening config) (λ g. no_marks) steps
 
 -- the last reply of each round is merged so
 abbrev pub EachMerges : Config → Rules → Cluster → Lines → AllMarks → Type 0
