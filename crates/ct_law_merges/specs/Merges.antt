@@ -98,15 +98,15 @@ MergesAsBorn = AfterAll EachMerges
 -- ---- in the words of the headline
 
 -- the value that a record has where its line begins with this row, or with none
-unfoldable pub value_of : Option TableRow → List ℕ
-value_of None = []
-value_of (Some x) = x.value
+unfoldable pub value_in_row : Option TableRow → List ℕ
+value_in_row None = []
+value_in_row (Some x) = x.value
 
 -- Nothing that was seen is lost: where a line has a parent, each record begins with the value of so many first versions of the
 -- parent, and these are no fewer than any member had seen that was in the parent still. Only what no such member had seen may be lost.
 abbrev pub KeepsWhatWasSeen : Lines → List ℕ → PushBody → Type 0
 KeepsWhatWasSeen r members body = body.vparent ≢ 0 → (db : ℕ) (key : List ℕ) →
-    (count : ℕ) × (count ≤ length (r.records body.vparent db key).versions) × (value_of (row_at db key body.table) ≡ value_at count (r.records body.vparent db key).versions) ×
+    (count : ℕ) × (count ≤ length (r.records body.vparent db key).versions) × (value_in_row (row_at db key body.table) ≡ value_at count (r.records body.vparent db key).versions) ×
     ((m : ℕ) → is_among m members ≡ true → r.line m ≡ body.vparent → (r.records body.vparent db key).seen m ≤ count)
 
 abbrev pub EachKeeps : Config → Rules → Cluster → Lines → AllMarks → Type 0
