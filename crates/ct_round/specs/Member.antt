@@ -23,8 +23,8 @@ told_in (Freezing g leader) generation = phase.Freezing g
 told_in (Frozen g) generation = phase.Frozen g
 told_in Installed generation = phase.Installed generation
 
-abbrev pub told : Membership → Phase
-told m = told_in m.phase m.generation
+abbrev pub told_phase : Membership → Phase
+told_phase m = told_in m.phase m.generation
 
 -- in no generation, with this promise
 abbrev pub apart : ℕ → Membership
