@@ -31,8 +31,8 @@ abbrev pub apart : ℕ → Membership
 apart promise = record { promise = promise; phase = Idle; generation = 0 }
 
 -- Opening: it serves in this generation, which it promised
-abbrev pub opened : ℕ → Membership
-opened generation = record { promise = generation; phase = Serving; generation = generation }
+abbrev pub opening_member : ℕ → Membership
+opening_member generation = record { promise = generation; phase = Serving; generation = generation }
 
 -- Freeze: above the promise it is followed, and a member that is Frozen for it acknowledges again
 abbrev pub freeze_step : ℕ → Membership → FreezeStep
