@@ -11,7 +11,7 @@ use Rattle.ct_cluster.specs.declared.step.StepFault.TheVariants.{NoMemory}
 use Rattle.ct_mail.specs.Mail.{next_waiting}
 use Rattle.ct_msg.specs.declared.config.Config.{Config}
 use Rattle.ct_world.specs.World.{World}
-use Rattle.ct_play.specs.Course.{Adds, Course, Deed, Goes, CourseLeadsTo, PrintsAfter, after_deeds, and_then, comes, deed_of, printed, settled}
+use Rattle.ct_play.specs.Course.{Adds, Course, Deed, Goes, CourseLeadsTo, PrintsAfter, after_deeds, and_then, delivered_first, deed_of, printed, settled}
 
 -- so many deliveries are left at this cluster, and these lines were printed
 pub record Settling (c : Config) (rules : Rules) (count : ℕ) (first now : Cluster) (left : ℕ) (lines : List Line) : Type 0 where
@@ -30,9 +30,9 @@ after_both xs ys (Err f) = refl
 pub begins : (c : Config) (rules : Rules) (count : ℕ) (first : Cluster) → Settling c rules count first first count []
 begins c rules count first = record { deeds = []; printed_are = refl; goes_on = after_nothing (settled c rules count first) }
 
-one_left : (c : Config) (rules : Rules) (m left : ℕ) (now : Cluster) (next : Option ℕ) → m ≡ suc left → next_waiting now.sent ≡ next → settled c rules m now ≡ comes c rules now next (λ v. settled c rules left v)
+one_left : (c : Config) (rules : Rules) (m left : ℕ) (now : Cluster) (next : Option ℕ) → m ≡ suc left → next_waiting now.sent ≡ next → settled c rules m now ≡ delivered_first c rules now next (λ v. settled c rules left v)
 unfolding settled
-one_left c rules m left now next e n = ap (λ k. settled c rules k now) e ∙ ap (λ o. comes c rules now o (λ v. settled c rules left v)) n
+one_left c rules m left now next e n = ap (λ k. settled c rules k now) e ∙ ap (λ o. delivered_first c rules now o (λ v. settled c rules left v)) n
 
 -- one more message came
 pub goes_on : (c : Config) (rules : Rules) (count : ℕ) (first now : Cluster) (m left k : ℕ) (lines : List Line) (y : Stepped)

@@ -56,14 +56,14 @@ and_then (Ok x) later = after_deeds x.deeds (later x.cluster)
 and_then (Err f) later = Err f
 
 -- the message of this number comes, and then what the cluster leads to; nothing more is done where none waits
-abbrev pub comes : Config → Rules → Cluster → Option ℕ → (Cluster → Result Course StepFault) → Result Course StepFault
-comes c rules w None later = Ok (still w)
-comes c rules w (Some k) later = and_then (one_step c rules w (step.Deliver k)) later
+abbrev pub delivered_first : Config → Rules → Cluster → Option ℕ → (Cluster → Result Course StepFault) → Result Course StepFault
+delivered_first c rules w None later = Ok (still w)
+delivered_first c rules w (Some k) later = and_then (one_step c rules w (step.Deliver k)) later
 
 -- so many deliveries of the least message that waits, one after the other; fewer where none waits
 unfoldable pub settled : Config → Rules → ℕ → Cluster → Result Course StepFault
 settled c rules zero w = Ok (still w)
-settled c rules (suc m) w = comes c rules w (next_waiting w.sent) (λ v. settled c rules m v)
+settled c rules (suc m) w = delivered_first c rules w (next_waiting w.sent) (λ v. settled c rules m v)
 
 -- ---- in code
 
