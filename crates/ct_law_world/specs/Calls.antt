@@ -85,16 +85,16 @@ abbrev pub aside : Log → world.Stepped → Logged
 aside log x = record { world = x.world; log = log; labels = x.labels }
 
 -- a message comes to its receiver
-abbrev pub comes : Scene → World → Log → Option Mail → Logged
-comes s w log None = stays w log
-comes s w log (Some m) = put s w log log m.receiver (move (place s m.receiver (w.nodes m.receiver)) s.rules (event.Arrive m.sender m.msg) (starts (w.nodes m.receiver)))
+abbrev pub comes_logged : Scene → World → Log → Option Mail → Logged
+comes_logged s w log None = stays w log
+comes_logged s w log (Some m) = put s w log log m.receiver (move (place s m.receiver (w.nodes m.receiver)) s.rules (event.Arrive m.sender m.msg) (starts (w.nodes m.receiver)))
 
 abbrev pub happens : Scene → World → Log → Event → Logged
 happens s w log (Wants n call asked) = calls s w log n call asked (may_want (w.nodes n).state asked) (move (place s n (w.nodes n)) s.rules (event.Want call asked) (starts (w.nodes n)))
 happens s w log (Stores n call v) = calls s w log n call (op.Store s.db s.key v) (is_some (w.nodes n).state.locked) (move (place s n (w.nodes n)) s.rules (event.Store call v) (starts (w.nodes n)))
 happens s w log (Unlocks n call) = calls s w log n call (op.Unlock s.db s.key) (is_some (w.nodes n).state.locked) (move (place s n (w.nodes n)) s.rules (event.Unlock call) (starts (w.nodes n)))
 happens s w log (Releases n call) = calls s w log n call (op.Unlock s.db s.key) (is_some (w.nodes n).state.locked) (release call (starts (w.nodes n)))
-happens s w log (Comes which) = comes s w log (slice_get w.mail which)
+happens s w log (Comes which) = comes_logged s w log (slice_get w.mail which)
 happens s w log (Vacuums n) = put s w log log n (move (place s n (w.nodes n)) s.rules (event.Vacuum (peers s n)) (starts (w.nodes n)))
 happens s w log (Resends n) = put s w log log n (move (place s n (w.nodes n)) s.rules event.Resend (starts (w.nodes n)))
 happens s w log (Thaws n) = put s w log log n (want_again s.rules (place s n (w.nodes n)) (starts (w.nodes n)))
