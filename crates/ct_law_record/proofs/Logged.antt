@@ -185,7 +185,7 @@ joins_same s w log n stand want = either (is_among n s.members && not (w.joined 
     either true = record { world = refl; labels = refl; stand = stand; want = want }
     either false = record { world = refl; labels = refl; stand = stand; want = want }
 
-comes_same : (s : Scene) (w : World) (log : Log) (m : Option Mail) → CallsStand w log → AllWant w → Same (comes_logged s w log m) (world.comes_logged s w m)
+comes_same : (s : Scene) (w : World) (log : Log) (m : Option Mail) → CallsStand w log → AllWant w → Same (comes_logged s w log m) (world.comes s w m)
 comes_same s w log None stand want = record { world = refl; labels = refl; stand = stand; want = want }
 comes_same s w log (Some m) stand want =
     let n = m.receiver in
