@@ -27,24 +27,24 @@ abbrev pub pair_config : Config
 pair_config = record { nodes = 2; dbs = lock_db ∷ record { name = codes "t"; kind = Volatile } ∷ []; addresses = [] }
 
 -- a message from one node to another in generation 1
-abbrev pub worked_frame : ℕ → ℕ → Msg → Frame
-worked_frame sender receiver m = record { generation = 1; sender = sender; receiver = receiver; msg = m }
+abbrev pub told : ℕ → ℕ → Msg → Frame
+told sender receiver m = record { generation = 1; sender = sender; receiver = receiver; msg = m }
 
 -- node 1 asks node 0, which knows where the record is, for it
 abbrev pub asks : Frame
-asks = worked_frame 1 0 (msg.Call 1 (codes "b") 1 kind.Lock)
+asks = told 1 0 (msg.Call 1 (codes "b") 1 kind.Lock)
 
 -- node 0 recalls the record from itself
 abbrev pub recalls : Frame
-recalls = worked_frame 0 0 (msg.Recall 1 (codes "b") 0 1 1 kind.Lock)
+recalls = told 0 0 (msg.Recall 1 (codes "b") 0 1 1 kind.Lock)
 
 -- node 0 gives it back to itself
 abbrev pub gives : Frame
-gives = worked_frame 0 0 (msg.Give 1 (codes "b") 0 (codes "x"))
+gives = told 0 0 (msg.Give 1 (codes "b") 0 (codes "x"))
 
 -- node 0 passes it to node 1
 abbrev pub passes : Frame
-passes = worked_frame 0 1 (msg.Pass 1 (codes "b") 1 0 (codes "x"))
+passes = told 0 1 (msg.Pass 1 (codes "b") 1 0 (codes "x"))
 
 -- an entry
 abbrev pub noted : Event → Out → JournalEntry
