@@ -4,7 +4,7 @@ ghost use Rattle.ct_rules_node.specs.Admission.{masters_in, members_in, named_in
 
 use ct_bytes::key::Key;
 use ct_bytes::memory::NoMemory;
-use ct_frame::frame::{Msg, PTable, TableRow};
+use ct_frame::frame::{Assigned, Msg, PTable, TableRow};
 use std::alloc::Global;
 
 /// The record that a message speaks of: its database and its key.
