@@ -20,6 +20,7 @@ use Rattle.ct_law_growing.specs.Growing.{or_no_frames, queue_at}
 use Rattle.ct_law_growing.proofs.Growth.{all_arrives, grows_in_order}
 use Rattle.ct_law_scheduled.specs.Laws.{AreRuns, IsRunOf}
 use Rattle.ct_msg.specs.declared.config.Config.{Config}
+use Rattle.ct_journal.proofs.Ends.{no_entries_past}
 use Rattle.ct_node.specs.Journalled.{IsRunBy, Journalled}
 use Rattle.ct_plan.specs.Sound.{IsSound, or_no_items, script_of}
 use Rattle.ct_troupe.specs.Played.{ArePlayed}
@@ -40,10 +41,6 @@ unfolding entries_of or_no_entries
 seat_entries [] n x e = absurd (cc)
 seat_entries (s ∷ ss) zero x e = ap (λ (y : Seat). y.node.entries) (same_Some s x e)
 seat_entries (s ∷ ss) (suc n) x e = seat_entries ss n x e
-
-no_entries_past : (js : List Journal) (n : ℕ) → length js ≤ n → entries_of js n ≡ []
-unfolding entries_of or_no_entries
-no_entries_past js n l = ap (λ (o : Option Journal). or_no_entries o) (slice_get_past js n l)
 
 no_queue_past : (qs : List (List Frame)) (n : ℕ) → length qs ≤ n → queue_at qs n ≡ []
 unfolding queue_at or_no_frames
