@@ -22,11 +22,12 @@ use Rattle.ct_law_scheduled.specs.Laws.{AreRuns, IsRunOf}
 use Rattle.ct_msg.specs.declared.config.Config.{Config}
 use Rattle.ct_journal.proofs.Ends.{no_entries_past}
 use Rattle.ct_node.specs.Journalled.{IsRunBy, Journalled}
-use Rattle.ct_plan.specs.Sound.{IsSound, or_no_items, script_of}
+use Rattle.ct_plan.specs.Sound.{IsSound, script_of}
 use Rattle.ct_troupe.specs.Played.{ArePlayed}
 use Rattle.ct_seat.specs.Seats.{IsSeatOf}
 use Rattle.ct_turns.specs.Stages.{AllHaveArrived, IsAtRest, IsPlaying, Rests, Staged, journal_of, journals_of}
 use Rattle.ct_seat.specs.declared.seat.Seat.{Seat}
+use Rattle.ct_plan.proofs.Soundness.{no_script_past}
 use Rattle.ct_turns.proofs.Staging.{got_some}
 
 -- ---- nodes and their journals
@@ -45,10 +46,6 @@ seat_entries (s ∷ ss) (suc n) x e = seat_entries ss n x e
 no_queue_past : (qs : List (List Frame)) (n : ℕ) → length qs ≤ n → queue_at qs n ≡ []
 unfolding queue_at or_no_frames
 no_queue_past qs n l = ap (λ (o : Option (List Frame)). or_no_frames o) (slice_get_past qs n l)
-
-no_script_past : (p : Plan) (n : ℕ) → length p.scripts ≤ n → script_of p n ≡ []
-unfolding script_of or_no_items
-no_script_past p n l = ap (λ (o : Option (List PlanItem)). or_no_items o) (slice_get_past p.scripts n l)
 
 -- ---- runs
 
