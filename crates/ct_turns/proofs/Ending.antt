@@ -11,7 +11,6 @@ use Rattle.ct_frame.specs.declared.frame.Frame.{Frame}
 use Rattle.ct_frame.specs.declared.plan.Plan.{Plan}
 use Rattle.ct_frame.specs.declared.plan.PlanItem.{PlanItem}
 use Rattle.ct_journal.specs.Order.{AreInOrder, all_entries, count_arrived, count_sent, entries_of, numbers_of_calls, or_no_entries}
-use Rattle.ct_journal.specs.Runs.{RunsTo}
 use Rattle.ct_journal.specs.declared.journal.Journal.{Journal}
 use Rattle.ct_journal.specs.declared.journal.JournalEntry.{JournalEntry}
 use Rattle.ct_law_cues.specs.Following.{Follows}
@@ -19,9 +18,8 @@ use Rattle.ct_law_cues.proofs.Following.{ends_scripted, follows_rising}
 use Rattle.ct_law_growing.specs.Growing.{or_no_frames, queue_at}
 use Rattle.ct_law_growing.proofs.Growth.{all_arrives, grows_in_order}
 use Rattle.ct_law_scheduled.specs.Laws.{AreRuns, IsRunOf}
-use Rattle.ct_msg.specs.declared.config.Config.{Config}
 use Rattle.ct_journal.proofs.Ends.{no_entries_past}
-use Rattle.ct_node.specs.Journalled.{IsRunBy, Journalled}
+use Rattle.ct_node.proofs.Running.{run_of}
 use Rattle.ct_plan.specs.Sound.{IsSound, script_of}
 use Rattle.ct_troupe.specs.Played.{ArePlayed}
 use Rattle.ct_seat.specs.Seats.{IsSeatOf}
@@ -48,10 +46,6 @@ unfolding queue_at or_no_frames
 no_queue_past qs n l = ap (λ (o : Option (List Frame)). or_no_frames o) (slice_get_past qs n l)
 
 -- ---- runs
-
-run_of : (rules : Rules) (c : Config) (x : Journalled) → x.core.config ≡ c → IsRunBy rules x → RunsTo c rules (record { node = x.core.pnn; entries = x.entries }) x.core.node
-unfolding IsRunBy
-run_of rules c x is run = subst (λ (d : Config). RunsTo d rules (record { node = x.core.pnn; entries = x.entries }) x.core.node) is run
 
 seat_runs : (rules : Rules) (p : Plan) (n : ℕ) (x : Seat) → IsSeatOf rules p n x → IsRunOf p.config rules n (journal_of x)
 seat_runs rules p n x h = record { node = h.own; end = x.node.core.node; runs = run_of rules p.config x.node h.config h.acting.run }
