@@ -1,8 +1,7 @@
 //! What a message names.
-ghost use Rattle.std.specs.Prelude.{◌≡◌, ◌++◌, OnOk, IfOk, None, Some, MatchOption, map};
-ghost use Rattle.ct_rules_node.specs.Admission.{addresses_in, masters_in, members_in, named_in, nodes_in, ptables_in, record_in, table_in};
+ghost use Rattle.std.specs.Prelude.{◌≡◌, ◌++◌, OnOk, IfOk, None, Some, MatchOption};
+ghost use Rattle.ct_rules_node.specs.Admission.{masters_in, members_in, named_in, nodes_in, ptables_in, record_in, table_in};
 
-use ct_bytes::address::Address;
 use ct_bytes::key::Key;
 use ct_bytes::memory::NoMemory;
 use ct_frame::frame::{Assigned, Msg, PTable, TableRow};
@@ -114,31 +113,4 @@ pub fn ptables_in(msg: &Msg) -> Option<&[PTable]>
         Msg::PullReply { ptables, .. } | Msg::Push { ptables, .. } => Some(ptables.as_slice()),
         _ => None,
     }
-}
-
-/// Puts the addresses that are assigned after these.
-fn add_addresses(addresses: &mut Vec<Address>, assigned: &[Assigned]) -> Result<(), NoMemory>
-    ensures { OnOk result (addresses.new.items ≡ addresses.old.items ++ map (λ x. x.address) assigned.now) }
-{
-    for x in assigned {
-        addresses.push(x.address)?;
-    }
-    Ok(())
-}
-
-/// The addresses that a message names.
-#[tactic(auto, unfolding(ct_rules_node::specs::Admission::addresses_in))]
-pub fn addresses_in(alloc: Global, msg: &Msg) -> Result<Vec<Address>, NoMemory>
-    ensures { IfOk result (λ v. v.items ≡ addresses_in msg.now) }
-{
-    let mut found = Vec::new(alloc);
-    match msg {
-        Msg::PullReply { addresses, .. } => found.extend_from_slice(addresses.as_slice())?,
-        Msg::Push { assigned, .. } | Msg::Take { assigned, .. } => {
-            add_addresses(&mut found, assigned.as_slice())?
-        }
-        Msg::Release { keep, .. } => found.extend_from_slice(keep.as_slice())?,
-        _ => {}
-    }
-    Ok(found)
 }

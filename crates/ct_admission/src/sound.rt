@@ -4,11 +4,12 @@ ghost use Rattle.std.specs.Cmp.Lexicographic.{pointwise};
 ghost use Rattle.std.specs.List.{list_all, list_any};
 ghost use Rattle.ct_bytes.specs.Address.{same_address};
 ghost use Rattle.ct_rules_node.specs.Admission.{addresses_in, are_all, is_listed, is_sound, masters_in, members_in, named_in, nodes_in, persistent_from, ptables_in, table_in};
-ghost use Rattle.ct_rules_node.specs.Node.{has_records, is_among, kind_at};
+ghost use Rattle.ct_rules_node.specs.Node.{has_records, kind_at};
 
 use crate::named::{members_in, ptables_in, table_in};
 use ct_bytes::address::Address;
 use ct_frame::frame::{Assigned, Frame, Msg, PTable, TableRow};
+use ct_lead::runs::is_among;
 use ct_msg::config::{Config, DbDecl};
 use ct_node_state::kinds::{has_records, is_persistent, kind_at};
 
@@ -71,14 +72,6 @@ fn names_nodes(config: &Config, msg: &Msg) -> bool
         Msg::Take { assigned, .. } => are_at_nodes(config, assigned.as_slice()),
         _ => true,
     }
-}
-
-/// Is the node among these?
-#[tactic(auto, unfolding(ct_rules_node::specs::Node::is_among))]
-fn is_among(node: u32, nodes: &[u32]) -> bool
-    ensures { result ≡ is_among node nodes.now }
-{
-    nodes.iter().any(|n| node == *n)
 }
 
 /// Are the sender and the receiver among the members, where the message lists any?

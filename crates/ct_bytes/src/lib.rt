@@ -1,4 +1,4 @@
-//! Plain bytes: keys, values, names and addresses, their spelling, the hash, and lists as contracts see them.
+//! Plain bytes: keys, values, names and addresses, their spelling, the hash, lists of nodes, and lists as contracts see them.
 #![tactic(auto)]
 
 pub mod address;
@@ -8,6 +8,7 @@ pub mod items;
 pub mod key;
 pub mod memory;
 pub mod name;
+pub mod nodes;
 pub mod number;
 pub mod spelling;
 pub mod value;

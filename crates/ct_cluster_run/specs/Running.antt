@@ -39,15 +39,15 @@ summary_of x js = record { net = x.net; calls = x.calls; entries = length (all_e
 
 -- The registers accept all that the run of these steps told, from the opening on, and its cluster stands for them; step by step
 -- marks hold and go on.
-abbrev pub KeepsPromise : Config → Rules → List Step → Type 0
-KeepsPromise c rules steps = Keeps c rules (ran c rules (opening c) [] steps) × MarksRun c rules (opening c) [] (lines.opening c) (λ g. no_marks) steps
+abbrev pub StepsKeepPromise : Config → Rules → List Step → Type 0
+StepsKeepPromise c rules steps = Keeps c rules (ran c rules (opening c) [] steps) × MarksRun c rules (opening c) [] (lines.opening c) (λ g. no_marks) steps
 
 -- Plays: journals are those of the plan that is wanted, and a text is that of a schedule of them, which keeps the promise
 pub record IsScheduleText (rules : Rules) (x : Wanted) (js : List Journal) (text : List ℕ) : Type 0 where
   pub played : ArePlayed rules (plan_of x) js
   pub steps : List Step
   pub schedule : IsSchedule (plan_of x).config rules js steps
-  pub promised : KeepsPromise (plan_of x).config rules steps
+  pub promised : StepsKeepPromise (plan_of x).config rules steps
   pub told : text ≡ schedule_text (plan_of x).config rules steps (summary_of x js)
 
 -- out gained the text of a schedule of these journals

@@ -2,7 +2,6 @@
 ghost use Rattle.std.specs.Prelude.{◌≡◌, ◌&&◌, IfOk, nat_lt};
 ghost use Rattle.std.specs.List.{list_all};
 ghost use Rattle.ct_rules_node.specs.Coming.{is_after_pending, is_allowed_op, may_come};
-ghost use Rattle.ct_rules_node.specs.Node.{is_among};
 
 use ct_bytes::memory::NoMemory;
 use ct_cluster::step::PendingCall;
@@ -10,6 +9,7 @@ use ct_core::machine::Core;
 use ct_frame::event::Event;
 use ct_frame::fields::well_formed;
 use ct_frame::order::ascends;
+use ct_lead::runs::is_among;
 use ct_msg::client::ClientOp;
 
 /// Has the call 1 to 16 writes, where it is a commit?
@@ -44,14 +44,6 @@ fn are_nodes(nodes: u32, members: &[u32]) -> bool
     ensures { result ≡ list_all (λ m. nat_lt m nodes) members.now }
 {
     members.iter().all(|m| *m < nodes)
-}
-
-/// Is the node among these?
-#[tactic(auto, unfolding(ct_rules_node::specs::Node::is_among))]
-fn is_among(node: u32, members: &[u32]) -> bool
-    ensures { result ≡ is_among node members.now }
-{
-    members.iter().any(|m| node == *m)
 }
 
 /// May the event come to the node? A call has 1 to 16 writes and a greater number than those that wait. A message is for

@@ -8,6 +8,7 @@ ghost use Rattle.ct_deleg.specs.Awaited.{AreAsked, acknowledged, asked_again, as
 
 use ct_bytes::copies::Duplicate;
 use ct_bytes::memory::NoMemory;
+use ct_bytes::nodes::is_among;
 use std::alloc::Global;
 use std::marker::Model;
 
@@ -80,13 +81,6 @@ fn leave_out(nodes: &mut Vec<u32>, node: u32)
     ensures room { vec_capacity nodes.new ≡ vec_capacity nodes.old }
 {
     nodes.retain(|n| *n != node);
-}
-
-/// Is the node in the list?
-fn is_among(nodes: &[u32], node: u32) -> bool
-    ensures { result ≡ list_any (nat_eq node) nodes.now }
-{
-    nodes.iter().any(|n| node == *n)
 }
 
 /// These nodes, with room for so many.

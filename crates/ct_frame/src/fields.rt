@@ -7,14 +7,15 @@
 //! pair of a persistent database has a value that is not empty, and an assigned address has a node. A row that a
 //! member tells the leader of has this member as data master or none, and a row that the leader hands out one of the
 //! members.
-ghost use Rattle.std.specs.Prelude.{◌≡◌, nat_eq};
+ghost use Rattle.std.specs.Prelude.{◌≡◌};
 ghost use Rattle.ct_frame.specs.Fields.{is_below_limit, is_from_one, is_node, is_db, is_one_to_sixteen, are_nodes, are_addresses, is_own_or_none, is_member, is_row, are_rows, is_kept, is_ptable, are_ptables, is_assigned, are_assigned, is_message, well_formed};
-ghost use Rattle.std.specs.List.{list_all, list_any};
+ghost use Rattle.std.specs.List.{list_all};
 
 use crate::frame::{Assigned, Frame, Msg, PTable, TableRow};
 use crate::header::LIMIT;
 use crate::order::ascends;
 use ct_bytes::address::Address;
+use ct_bytes::nodes::is_among;
 use ct_msg::client::Pair;
 
 fn is_below_limit(number: u64) -> bool
@@ -72,12 +73,6 @@ fn is_own_or_none(sender: u32, master: Option<u32>) -> bool
         None => true,
         Some(node) => node == sender,
     }
-}
-
-fn is_among(members: &[u32], node: u32) -> bool
-    ensures { result ≡ list_any (nat_eq node) members.now }
-{
-    members.iter().any(|member| node == *member)
 }
 
 fn is_member(members: &[u32], master: Option<u32>) -> bool

@@ -2,6 +2,9 @@
 //!
 //! `joined::join` joins journals; `reach` makes their entries one by one, as long as one may be made; `going` says whether an entry
 //! may be made next, and `making` by which steps.
+//!
+//! It is for callers of the library that have journals from elsewhere: the program joins those of its own nodes, which are in an
+//! order that it knows, by ct_join.
 #![tactic(auto)]
 
 pub mod going;

@@ -5,7 +5,6 @@ ghost use Rattle.ct_cluster.specs.Cluster.{is_waiting, sent_at};
 ghost use Rattle.ct_journal.specs.Schedules.{after_step};
 ghost use Rattle.ct_law_scheduled.specs.Scheduling.{yields};
 ghost use Rattle.ct_law_fronts.specs.Making.{after_steps, comes_by, mark_step, mark_steps, steps_to_go};
-ghost use Rattle.ct_rules_node.specs.Node.{is_among};
 ghost use Rattle.ct_joined.specs.Going.{AreTaken, IsTaken};
 
 use ct_bytes::copies::Duplicate;
@@ -13,16 +12,9 @@ use ct_bytes::memory::NoMemory;
 use ct_call::table::CallTable;
 use ct_cluster::step::Step;
 use ct_frame::event::Event;
+use ct_lead::runs::is_among;
 use ct_world::world::World;
 use std::alloc::Global;
-
-/// Is the node in the list?
-#[tactic(auto, unfolding(ct_rules_node::specs::Node::is_among))]
-fn is_among(node: u32, nodes: &[u32]) -> bool
-    ensures { result ≡ is_among node nodes.now }
-{
-    nodes.iter().any(|n| node == *n)
-}
 
 /// The step by which the message of this number comes.
 #[tactic(auto, unfolding(ct_law_fronts::specs::Making::comes_by, ct_cluster::specs::Faults::fault_of, ct_cluster::specs::Faults::not_waiting, ct_rules_node::specs::Refusals::refused_if))]

@@ -1,8 +1,9 @@
 -- Whoever puts whatever may stand ends with all entries, where any list has them all.
-use Rattle.std.proofs.Common.{◌≡◌, ◌≢◌, ℕ, zero, suc, ◌+◌, ◌<◌, ◌≤◌, ◌⊎◌, inl, inr, ⊎_elim, List, [], ◌∷◌, length, set, Some, arith, refl, sym, ap, ◌∙◌, subst}
+use Rattle.std.proofs.Common.{◌≡◌, ◌≢◌, ℕ, zero, suc, ◌+◌, ◌<◌, ◌≤◌, ◌⊎◌, inl, inr, ⊎_elim, List, [], ◌∷◌, length, set, Some, arith, refl, sym, ap, ◌∙◌, subst, Option}
 use Rattle.std.proofs.lemmas.Bool.{cases_eq, cases_lt}
 use Rattle.std.proofs.lemmas.List.{length-set}
 use Rattle.std.specs.Prelude.{replicate, slice_get}
+use Rattle.std.proofs.lemmas.Option.{slice_get_past}
 use Rattle.ct_frame.specs.declared.event.Event.{Event}
 use Rattle.ct_frame.specs.declared.event.Event.TheVariants as event
 use Rattle.ct_rules_node.specs.Node.{or_zero}
@@ -302,3 +303,7 @@ any_way_ends js order other end stop s whole t stuck =
     let c = counted_all js other (first_front js) stop first t in
     let w = all_within js order (first_front js) stop end s whole first c stuck (first_within js stop) in
     λ n. (let b = c.bound n in let l = w n in let e = whole n in omega arith)
+
+pub no_entries_past : (js : List Journal) (n : ℕ) → length js ≤ n → entries_of js n ≡ []
+unfolding entries_of or_no_entries
+no_entries_past js n l = ap (λ (o : Option Journal). or_no_entries o) (slice_get_past js n l)

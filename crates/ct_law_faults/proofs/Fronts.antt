@@ -4,7 +4,7 @@ use Rattle.std.proofs.lemmas.List.{length-append}
 use Rattle.ct_frame.specs.declared.frame.Frame.{Frame}
 use Rattle.ct_wire.specs.declared.decode.WireFault.TheVariants as fault
 use Rattle.ct_wire.specs.Cursor.{start}
-use Rattle.ct_wire.specs.Decoding.{End, decoded, eaten, told}
+use Rattle.ct_wire.specs.Decoding.{End, decoded, eaten, frame_or_fault}
 use Rattle.ct_law_wire.specs.InPieces.{go_on}
 use Rattle.ct_law_wire.proofs.InPieces.{end_of_two}
 use Rattle.ct_law_faults.specs.Fields.{Ahead, IsMalformed, IsRead, IsShort, KeptTo, begin_of}
@@ -23,8 +23,8 @@ counted (KeptTo.Behind a b field rest kept whole is) =
     omega (arith, before, next.1, whole.1, both)
 
 -- where bytes end, and others come behind them
-pub more_decoded : (bytes more : List ℕ) (e : End) → eaten start [] bytes ≡ e → decoded (bytes ++ more) ≡ told (go_on e more)
-more_decoded bytes more e is = ap told (end_of_two start [] bytes more ∙ ap (λ (x : End). go_on x more) is)
+pub more_decoded : (bytes more : List ℕ) (e : End) → eaten start [] bytes ≡ e → decoded (bytes ++ more) ≡ frame_or_fault (go_on e more)
+more_decoded bytes more e is = ap frame_or_fault (end_of_two start [] bytes more ∙ ap (λ (x : End). go_on x more) is)
 
 pub malformed_more : (bytes more : List ℕ) (offset : ℕ) → IsMalformed bytes offset → decoded (bytes ++ more) ≡ Err (fault.Malformed offset)
 malformed_more bytes more offset m = more_decoded bytes more (End.Breaks offset) (malformed_breaks bytes offset m)

@@ -6,7 +6,7 @@ use Rattle.ct_wire.specs.declared.decode.Spot.{Spot}
 use Rattle.ct_wire.specs.declared.decode.WireFault.{WireFault}
 use Rattle.ct_wire.specs.declared.decode.WireFault.TheVariants as fault
 use Rattle.ct_wire.specs.Cursor.{start}
-use Rattle.ct_wire.specs.Decoding.{End, decoded, eaten, told, Closes}
+use Rattle.ct_wire.specs.Decoding.{End, decoded, eaten, frame_or_fault, Closes}
 use Rattle.ct_law_spelling.specs.Alone.{BeginsWith, IsBytes}
 use Rattle.ct_law_spelling.proofs.Stream.{streams_are_spellings}
 use Rattle.ct_law_spelling.proofs.Whole.{reads_spellings_alone}
@@ -19,13 +19,13 @@ use Rattle.ct_law_faults.proofs.Found.{Found, found}
 -- ---- what is read is which
 
 read_decoded : (bytes : List ℕ) (f : Frame) (n : ℕ) → IsRead bytes f n → decoded bytes ≡ Ok (f, n)
-read_decoded bytes f n r = ap told (read_ends bytes f n r)
+read_decoded bytes f n r = ap frame_or_fault (read_ends bytes f n r)
 
 short_decoded : (bytes : List ℕ) → IsShort bytes → decoded bytes ≡ Err fault.Short
-short_decoded bytes s = ap told (short_waits bytes s)
+short_decoded bytes s = ap frame_or_fault (short_waits bytes s)
 
 pub malformed_decoded : (bytes : List ℕ) (offset : ℕ) → IsMalformed bytes offset → decoded bytes ≡ Err (fault.Malformed offset)
-malformed_decoded bytes offset m = ap told (malformed_breaks bytes offset m)
+malformed_decoded bytes offset m = ap frame_or_fault (malformed_breaks bytes offset m)
 
 -- answers that are not one
 abbrev Answer : Type 0
@@ -113,7 +113,7 @@ apart bytes fits = record {
 -- ---- streams
 
 closes_short : (rest : List ℕ) (s : Spot) (e : End) → eaten start [] rest ≡ e → Closes e (progress.Amid s) → IsShort rest
-closes_short rest s (End.Waits t) is closes = short_when rest (ap told is) (found rest)
+closes_short rest s (End.Waits t) is closes = short_when rest (ap frame_or_fault is) (found rest)
 closes_short rest s (End.Ends f n more) is closes = absurd closes
 closes_short rest s (End.Breaks offset) is closes = absurd (cc)
 
@@ -122,7 +122,7 @@ closes_malformed rest offset (End.Waits t) is closes = absurd (cc)
 closes_malformed rest offset (End.Ends f n more) is closes = absurd closes
 closes_malformed rest offset (End.Breaks other) is closes =
     let same : offset ≡ other = cc in
-    malformed_when rest offset (ap told is ∙ ap (λ (o : ℕ). err (fault.Malformed o)) (sym same)) (found rest)
+    malformed_when rest offset (ap frame_or_fault is ∙ ap (λ (o : ℕ). err (fault.Malformed o)) (sym same)) (found rest)
 
 pub stream_waits_by_fields : StreamWaitsByFields
 stream_waits_by_fields bytes fs fits = (

@@ -40,7 +40,7 @@ use Rattle.ct_law_line.proofs.Faces.{marks_in_all}
 use Rattle.ct_law_freeze.proofs.Freezing.{HasCome}
 use Rattle.ct_law_whole.proofs.Handed.{pushed_is}
 use Rattle.ct_law_lead.proofs.Gathering.{gathers, pull_of, reply_came}
-use Rattle.ct_law_merges.specs.Merges.{IsLastReply, body_at, StandsForBirth, MergesSo, KeepsWhatWasSeen, value_of}
+use Rattle.ct_law_merges.specs.Merges.{IsLastReply, body_at, StandsForBirth, MergesSo, KeepsWhatWasSeen, value_in_row}
 
 -- ---- what is gathered
 
@@ -149,8 +149,8 @@ taken_value : (r : Lines) (p : ℕ) (taken : ℕ → List ℕ → ℕ) (db : ℕ
 unfolding birth_list
 taken_value r p taken db key ne = rw (ne_eqb p 0 ne) (taken_reading (taken db key) (r.records p db key).versions)
 
-row_value : (births : List (List ℕ)) (row : Option TableRow) → StandsForBirth births row → value_of row ≡ reading births
-unfolding value_of reading
+row_value : (births : List (List ℕ)) (row : Option TableRow) → StandsForBirth births row → value_in_row row ≡ reading births
+unfolding value_in_row reading
 row_value births None h = sym (ap reading (h.none refl))
 row_value births (Some x) h = h.value x refl
 

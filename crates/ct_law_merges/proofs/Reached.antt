@@ -18,13 +18,13 @@ use Rattle.ct_law_line.proofs.Faces.{After, StepLives, marks_in_all}
 use Rattle.ct_law_line.proofs.Lined.{lives_stand, generations_stand}
 use Rattle.ct_law_line.proofs.Opened.{opened_lives}
 use Rattle.ct_law_whole.proofs.Ending.{all_home, entries_home}
-use Rattle.ct_law_merges.specs.Merges.{LeadsTo, AfterAll, MergesAsBorn, NothingSeenIsLost, NothingVacuumedReturns, EachMerges, EachKeeps, EachMarks, body_at}
+use Rattle.ct_law_merges.specs.Merges.{LeadsWith, AfterAll, MergesAsBorn, NothingSeenIsLost, NothingVacuumedReturns, EachMerges, EachKeeps, EachMarks, body_at}
 use Rattle.ct_law_merges.proofs.Merging.{merges_so, seen_kept}
 
 -- what holds of every cluster that lives holds wherever steps lead
 leads : StepLives → (c : Config) (rules : Rules) (P : Cluster → Lines.Lines → AllMarks → Type 0) → ((w : Cluster) (r : Lines.Lines) (h : Lives c rules w r) → P w r (marks_in_all h.ages)) → (steps : List Step) (w : Cluster) (log : List OpenCall) (r : Lines.Lines) (h : Lives c rules w r) →
-    AllAtHome w → Calls c w (by_log log) → IsConfig c → LeadsTo c rules P w log r (marks_in_all h.ages) steps
-unfolding LeadsTo
+    AllAtHome w → Calls c w (by_log log) → IsConfig c → LeadsWith c rules P w log r (marks_in_all h.ages) steps
+unfolding LeadsWith
 leads on c rules P so [] w log r h home calls is = (let both = lives_stand c rules w r h (entries_home w home) in (both.0, generations_stand c rules w r h, both.1, so w r h))
 leads on c rules P so (s ∷ steps) w log r h home calls is =
     let run = ran_one c rules w log s in
@@ -36,7 +36,7 @@ leads on c rules P so (s ∷ steps) w log r h home calls is =
 after_all : StepLives → (P : Config → Rules → Cluster → Lines.Lines → AllMarks → Type 0) → ((c : Config) (rules : Rules) (w : Cluster) (r : Lines.Lines) (h : Lives c rules w r) → P c rules w r (marks_in_all h.ages)) → AfterAll P
 after_all on P so c rules steps is =
     let o = opened_lives c rules is in
-    subst (λ (marks : AllMarks). LeadsTo c rules (P c rules) (opening c) [] (Lines.opening c) marks steps) o.1 (leads on c rules (P c rules) (so c rules) steps (opening c) [] (Lines.opening c) o.0 (all_home c rules) (opened_calls c) is)
+    subst (λ (marks : AllMarks). LeadsWith c rules (P c rules) (opening c) [] (Lines.opening c) marks steps) o.1 (leads on c rules (P c rules) (so c rules) steps (opening c) [] (Lines.opening c) o.0 (all_home c rules) (opened_calls c) is)
 
 pub merges_as_born : StepLives → MergesAsBorn
 merges_as_born on = after_all on EachMerges (λ c rules w r h n members f k. merges_so c rules w r h n members f k)

@@ -78,14 +78,14 @@ pub record MergesSo (config : Config) (rules : Rules) (w : Cluster) (r : Lines) 
 
 -- Step by step there are registers that accept what the step tells of records, and marks that go on; where the steps lead they
 -- hold, and have this property.
-unfoldable pub LeadsTo : Config → Rules → (Cluster → Lines → AllMarks → Type 0) → Cluster → List OpenCall → Lines → AllMarks → List Step → Type 0
-LeadsTo config rules P w log r marks [] = RecordsStand w r × GenerationsStand w r × MarksHold w r marks × P w r marks
-LeadsTo config rules P w log r marks (s ∷ steps) = let run = ran_one config rules w log s in
-    (t : Lines) × (after : AllMarks) × AcceptsLabels config rules r (record_labels config run.trace) t × MarksGoOn r run.trace marks after × LeadsTo config rules P run.cluster run.log t after steps
+unfoldable pub LeadsWith : Config → Rules → (Cluster → Lines → AllMarks → Type 0) → Cluster → List OpenCall → Lines → AllMarks → List Step → Type 0
+LeadsWith config rules P w log r marks [] = RecordsStand w r × GenerationsStand w r × MarksHold w r marks × P w r marks
+LeadsWith config rules P w log r marks (s ∷ steps) = let run = ran_one config rules w log s in
+    (t : Lines) × (after : AllMarks) × AcceptsLabels config rules r (record_labels config run.trace) t × MarksGoOn r run.trace marks after × LeadsWith config rules P run.cluster run.log t after steps
 
 -- so it is of every list of steps from the opening on, where nothing is marked
 abbrev pub AfterAll : (Config → Rules → Cluster → Lines → AllMarks → Type 0) → Type 0
-AfterAll P = (config : Config) (rules : Rules) (steps : List Step) → IsConfig config → LeadsTo config rules (P config rules) (opening config) [] (Lines.opening config) (λ g. no_marks) steps
+AfterAll P = (config : Config) (rules : Rules) (steps : List Step) → IsConfig config → LeadsWith config rules (P config rules) (opening config) [] (Lines.opening config) (λ g. no_marks) steps
 
 -- the last reply of each round is merged so
 abbrev pub EachMerges : Config → Rules → Cluster → Lines → AllMarks → Type 0
@@ -98,15 +98,15 @@ MergesAsBorn = AfterAll EachMerges
 -- ---- in the words of the headline
 
 -- the value that a record has where its line begins with this row, or with none
-unfoldable pub value_of : Option TableRow → List ℕ
-value_of None = []
-value_of (Some x) = x.value
+unfoldable pub value_in_row : Option TableRow → List ℕ
+value_in_row None = []
+value_in_row (Some x) = x.value
 
 -- Nothing that was seen is lost: where a line has a parent, each record begins with the value of so many first versions of the
 -- parent, and these are no fewer than any member had seen that was in the parent still. Only what no such member had seen may be lost.
 abbrev pub KeepsWhatWasSeen : Lines → List ℕ → PushBody → Type 0
 KeepsWhatWasSeen r members body = body.vparent ≢ 0 → (db : ℕ) (key : List ℕ) →
-    (count : ℕ) × (count ≤ length (r.records body.vparent db key).versions) × (value_of (row_at db key body.table) ≡ value_at count (r.records body.vparent db key).versions) ×
+    (count : ℕ) × (count ≤ length (r.records body.vparent db key).versions) × (value_in_row (row_at db key body.table) ≡ value_at count (r.records body.vparent db key).versions) ×
     ((m : ℕ) → is_among m members ≡ true → r.line m ≡ body.vparent → (r.records body.vparent db key).seen m ≤ count)
 
 abbrev pub EachKeeps : Config → Rules → Cluster → Lines → AllMarks → Type 0

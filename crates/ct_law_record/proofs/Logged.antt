@@ -18,7 +18,7 @@ use Rattle.ct_register.specs.Register.{Register}
 use Rattle.ct_law_world.specs.Labels.{Label, Joined, AcceptsAll}
 use Rattle.ct_law_world.specs.World as world
 use Rattle.ct_law_world.specs.World.{Scene, View, Mail, World, Event, Wants, Stores, Unlocks, Releases, Comes, Vacuums, Resends, Thaws, Ends, Leaves, Joins, Rises, place, starts, peers, may_want, own_call, waiting_call, told, sent, view_of, unlocked}
-use Rattle.ct_law_world.specs.Calls.{Log, with_call, closed_by_all, CallsStand, told_by, Logged, put, happens, stays, calls, comes}
+use Rattle.ct_law_world.specs.Calls.{Log, with_call, closed_by_all, CallsStand, told_by, Logged, put, happens, stays, calls, comes_logged}
 use Rattle.ct_law_fact.proofs.Invariant.{Ghost}
 use Rattle.ct_law_wish.proofs.Wishing.{Wishful, want_wish, store_wish, release_wish, unlock_wish, arrive_wish, vacuum_wish, want_again_wish, call_again_wish, revoke_again_wish}
 use Rattle.ct_law_wish.proofs.Even.{answers_in, Even, number_of, even_is, want_even, store_even, release_even, unlock_even, arrive_even, vacuum_even, want_again_even, call_again_even, revoke_again_even}
@@ -185,7 +185,7 @@ joins_same s w log n stand want = either (is_among n s.members && not (w.joined 
     either true = record { world = refl; labels = refl; stand = stand; want = want }
     either false = record { world = refl; labels = refl; stand = stand; want = want }
 
-comes_same : (s : Scene) (w : World) (log : Log) (m : Option Mail) → CallsStand w log → AllWant w → Same (comes s w log m) (world.comes s w m)
+comes_same : (s : Scene) (w : World) (log : Log) (m : Option Mail) → CallsStand w log → AllWant w → Same (comes_logged s w log m) (world.comes s w m)
 comes_same s w log None stand want = record { world = refl; labels = refl; stand = stand; want = want }
 comes_same s w log (Some m) stand want =
     let n = m.receiver in

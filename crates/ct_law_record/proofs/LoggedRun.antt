@@ -8,7 +8,7 @@ use Rattle.ct_law_world.specs.Labels.{Label, AcceptsAll}
 use Rattle.ct_law_world.specs.Marked.{is_removed, Holds, Runs, RunsFrom}
 use Rattle.ct_law_world.specs.World as world
 use Rattle.ct_law_world.specs.World.{Scene, World, Event}
-use Rattle.ct_law_world.specs.Calls.{Log, CallsStand, Logged, stays, happens, ran, LeadsTo}
+use Rattle.ct_law_world.specs.Calls.{Log, CallsStand, Logged, stays, happens, ran, LeadsToLogged}
 use Rattle.ct_law_fact.proofs.Invariant.{Ghost}
 use Rattle.ct_law_record.proofs.Law.{stands, kept_all, parent}
 use Rattle.ct_law_record.proofs.Logged.{AllWant, Same, step_same}
@@ -52,7 +52,7 @@ run_on s (e ∷ es) w log r g real h stand want =
     let rest = run_on s es x.world x.log k.register k.ghost real k.order k.stand k.want in
     (rest.0, rest.1, accepts_append s.rules r k.register rest.0 x.labels (ran s x.world x.log es).labels k.accepts rest.2, rest.3, rest.4)
 
-pub leads_on : (s : Scene) (w : World) (log : Log) (r : Register) (g : Ghost) (events : List Event) → list_all is_node s.members ≡ true → WorldInv s w r g → CallsStand w log → AllWant w → LeadsTo s w log r events
+pub leads_on : (s : Scene) (w : World) (log : Log) (r : Register) (g : Ghost) (events : List Event) → list_all is_node s.members ≡ true → WorldInv s w r g → CallsStand w log → AllWant w → LeadsToLogged s w log r events
 leads_on s w log r g events real h stand want =
     let y = ran s w log events in
     let k = run_on s events w log r g real h stand want in

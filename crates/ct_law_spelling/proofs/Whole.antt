@@ -16,7 +16,7 @@ use Rattle.ct_wire_fields.specs.Version.{version_number, version_of}
 use Rattle.ct_wire_fields.specs.Reading.{begun, is_request, no_draft, operation_found, operation_of, operations, to_number, version_found}
 use Rattle.ct_wire.specs.declared.decode.WireFault.{WireFault}
 use Rattle.ct_wire.specs.Cursor.{number_of, settled, start}
-use Rattle.ct_wire.specs.Decoding.{End, after_field, decoded, eaten, told}
+use Rattle.ct_wire.specs.Decoding.{End, after_field, decoded, eaten, frame_or_fault}
 use Rattle.ct_wire.specs.Spelling.{body, request, size, spelled, u32, u64}
 use Rattle.ct_wire.specs.Whole.{headed}
 use Rattle.ct_wire.specs.Spelling as written
@@ -213,7 +213,7 @@ answer x = Ok x
 same_ok : (x y : Frame × ℕ) → answer x ≡ answer y → x ≡ y
 same_ok x y is = cc
 
-told_ends : (e : End) (f : Frame) (n : ℕ) → told e ≡ Ok (f, n) → (rest : List ℕ) × (e ≡ End.Ends f n rest)
+told_ends : (e : End) (f : Frame) (n : ℕ) → frame_or_fault e ≡ Ok (f, n) → (rest : List ℕ) × (e ≡ End.Ends f n rest)
 told_ends (End.Waits s) f n is = absurd (cc)
 told_ends (End.Ends g m rest) f n is =
     let both = same_ok (g, m) (f, n) is in

@@ -85,16 +85,16 @@ abbrev pub aside : Log → world.Stepped → Logged
 aside log x = record { world = x.world; log = log; labels = x.labels }
 
 -- a message comes to its receiver
-abbrev pub comes : Scene → World → Log → Option Mail → Logged
-comes s w log None = stays w log
-comes s w log (Some m) = put s w log log m.receiver (move (place s m.receiver (w.nodes m.receiver)) s.rules (event.Arrive m.sender m.msg) (starts (w.nodes m.receiver)))
+abbrev pub comes_logged : Scene → World → Log → Option Mail → Logged
+comes_logged s w log None = stays w log
+comes_logged s w log (Some m) = put s w log log m.receiver (move (place s m.receiver (w.nodes m.receiver)) s.rules (event.Arrive m.sender m.msg) (starts (w.nodes m.receiver)))
 
 abbrev pub happens : Scene → World → Log → Event → Logged
 happens s w log (Wants n call asked) = calls s w log n call asked (may_want (w.nodes n).state asked) (move (place s n (w.nodes n)) s.rules (event.Want call asked) (starts (w.nodes n)))
 happens s w log (Stores n call v) = calls s w log n call (op.Store s.db s.key v) (is_some (w.nodes n).state.locked) (move (place s n (w.nodes n)) s.rules (event.Store call v) (starts (w.nodes n)))
 happens s w log (Unlocks n call) = calls s w log n call (op.Unlock s.db s.key) (is_some (w.nodes n).state.locked) (move (place s n (w.nodes n)) s.rules (event.Unlock call) (starts (w.nodes n)))
 happens s w log (Releases n call) = calls s w log n call (op.Unlock s.db s.key) (is_some (w.nodes n).state.locked) (release call (starts (w.nodes n)))
-happens s w log (Comes which) = comes s w log (slice_get w.mail which)
+happens s w log (Comes which) = comes_logged s w log (slice_get w.mail which)
 happens s w log (Vacuums n) = put s w log log n (move (place s n (w.nodes n)) s.rules (event.Vacuum (peers s n)) (starts (w.nodes n)))
 happens s w log (Resends n) = put s w log log n (move (place s n (w.nodes n)) s.rules event.Resend (starts (w.nodes n)))
 happens s w log (Thaws n) = put s w log log n (want_again s.rules (place s n (w.nodes n)) (starts (w.nodes n)))
@@ -111,18 +111,18 @@ ran s w log (e ∷ es) = let x = happens s w log e in let y = ran s x.world x.lo
 -- ---- what a schedule leads to
 
 -- from a world, the log of its open calls and a register
-abbrev pub LeadsTo : Scene → World → Log → Register → List Event → Type 0
-LeadsTo s w log r events = let y = ran s w log events in
+abbrev pub LeadsToLogged : Scene → World → Log → Register → List Event → Type 0
+LeadsToLogged s w log r events = let y = ran s w log events in
     (t : Register) × AcceptsAll s.rules r y.labels t × Stands y.world t × CallsStand y.world y.log × NothingIsLost y.world t × Parent y.world t
 
 -- every schedule from the opening, where no call is open, is one register's
 abbrev pub OpensAsOneRegister : Type 0
-OpensAsOneRegister = (s : Scene) (events : List Event) → list_all is_node s.members ≡ true → LeadsTo s world.opening (λ n call. None) (newborn []) events
+OpensAsOneRegister = (s : Scene) (events : List Event) → list_all is_node s.members ≡ true → LeadsToLogged s world.opening (λ n call. None) (newborn []) events
 
 -- so is every schedule of a generation in which the record has no row, with any calls that wait, and whoever has joined it
 abbrev pub BeginsAsOneRegister : Type 0
 BeginsAsOneRegister = (s : Scene) (joined : ℕ → Bool) (number : ℕ → ℕ) (wish : ℕ → Option Wish) (events : List Event) → list_all is_node s.members ≡ true → AreDrawn number wish → AreWanting wish →
-    let w = bare joined number wish in LeadsTo s w (log_of w) (newborn []) events
+    let w = bare joined number wish in LeadsToLogged s w (log_of w) (newborn []) events
 
 -- and every schedule of a generation that begins with a row, whose data master is a member as the location master is, with
 -- any calls that wait; the register begins with any versions whose reading is the row's value, and with what its nodes have
@@ -131,4 +131,4 @@ abbrev pub IsBornAsOneRegister : Type 0
 IsBornAsOneRegister = (s : Scene) (row : TableRow) (master : ℕ) (versions : List (List ℕ)) (seen : ℕ → ℕ) (joined : ℕ → Bool) (number : ℕ → ℕ) (wish : ℕ → Option Wish) (events : List Event) →
     list_all is_node s.members ≡ true → is_among s.lmaster s.members ≡ true → row.master ≡ Some master → is_among master s.members ≡ true → row.value ≡ reading versions →
     SeesAtMost s seen (length versions) → AreDrawn number wish → AreWanting wish →
-    let w = born s row joined number wish in LeadsTo s w (log_of w) (record (newborn versions) { seen = seen }) events
+    let w = born s row joined number wish in LeadsToLogged s w (log_of w) (record (newborn versions) { seen = seen }) events

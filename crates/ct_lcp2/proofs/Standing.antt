@@ -8,13 +8,13 @@ use Rattle.ct_bytes.proofs.Words.{this_node_is}
 use Rattle.ct_bytes.proofs.AddressOrder.{same_itself, less_differs, same_flips}
 use Rattle.ct_bytes.specs.Words.{is_this_node}
 use Rattle.ct_frame.specs.Fields.{ascends, ascends_after, assigned_before}
-use Rattle.std.specs.declared.cmp.Ordering.{Ordering}
-use Rattle.std.specs.declared.cmp.Ordering.TheVariants.{Less, Equal, Greater}
+use Rattle.std.specs.declared.cmp.Ordering.TheVariants.{Less}
 use Rattle.std.proofs.lemmas.Bool.Decides.{nat_tests}
 use Rattle.std.proofs.lemmas.Bool.{and_parts}
 use Rattle.ct_bytes.specs.Address.{address_cmp, same_address}
 use Rattle.ct_bytes.specs.declared.address.Address.{Address}
 use Rattle.ct_bytes.specs.declared.address.Address.TheVariants.{V4, V6}
+use Rattle.ct_bytes.proofs.Orders.{is_less}
 use Rattle.ct_frame.specs.declared.frame.Assigned.{Assigned}
 use Rattle.ct_lcp2.specs.Distance.{squared, sum_to, imbalance}
 use Rattle.ct_lcp2.specs.Placing.{addresses, Ascend, freed, must_leave, held, others, sent, beside, total, homeless}
@@ -312,11 +312,6 @@ rises (V4 a) (V6 b) (V4 c) h k = absurd (cc)
 rises (V6 a) (V4 b) c h k = absurd (cc)
 rises (V6 a) (V6 b) (V4 c) h k = absurd (cc)
 rises (V6 a) (V6 b) (V6 c) h k = number_rises a b c h k
-
-is_less : (o : Ordering) → is_lt o ≡ true → o ≡ Less
-is_less Less h = refl
-is_less Equal h = absurd (cc)
-is_less Greater h = absurd (cc)
 
 ascend_after : (x : Assigned) (xs : List Assigned) → ascends_after assigned_before x xs ≡ true → Ascend (x ∷ xs)
 unfolding IsStrictlySortedBy

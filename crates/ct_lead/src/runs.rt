@@ -56,7 +56,7 @@ fn question_of(alloc: Global, leader: &Leader) -> Result<Msg, NoMemory>
 
 /// Is the node in the list?
 #[tactic(auto, unfolding(ct_rules_node::specs::Node::is_among))]
-fn is_among(node: u32, nodes: &[u32]) -> bool
+pub fn is_among(node: u32, nodes: &[u32]) -> bool
     ensures { result ≡ is_among node nodes.now }
 {
     nodes.iter().any(|n| node == *n)

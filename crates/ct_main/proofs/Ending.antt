@@ -7,7 +7,7 @@ use Rattle.ct_call.specs.Rules.{Rules}
 use Rattle.ct_lines.specs.declared.line.LineKind.TheVariants.{Long}
 use Rattle.ct_outside.specs.Causes.{AppendsPart}
 use Rattle.ct_play.specs.Course.{Deed}
-use Rattle.ct_play.specs.Play.{Run, all_text, ended, pending_text_of, played, rest, rest_after, run_from, told}
+use Rattle.ct_play.specs.Play.{Run, all_text, ended, pending_text_of, played, rest, rest_after, run_from, preceded}
 use Rattle.ct_play.specs.Session.{longest, pending_texts, start}
 use Rattle.ct_play.specs.declared.what.What.{What}
 use Rattle.ct_play.specs.declared.what.What.TheVariants.{Line}
@@ -26,11 +26,11 @@ first = record { session = start; line = []; count = 0 }
 -- ---- what may be told at an end
 
 -- what was told before comes first
-ended_told : (o : Option What) (t : List ℕ) (deeds : List Deed) (n : ℕ) (r : Run) → ended_text o (told t deeds n r) ≡ t ++ ended_text o r
+ended_told : (o : Option What) (t : List ℕ) (deeds : List Deed) (n : ℕ) (r : Run) → ended_text o (preceded t deeds n r) ≡ t ++ ended_text o r
 ended_told None t deeds n r = append_assoc t r.text (pending_text_of r)
 ended_told (Some what) t deeds n r = refl
 
-text_told : (rest t : List ℕ) (deeds : List Deed) (n : ℕ) (r : Run) → text_at rest (told t deeds n r) ≡ t ++ text_at rest r
+text_told : (rest t : List ℕ) (deeds : List Deed) (n : ℕ) (r : Run) → text_at rest (preceded t deeds n r) ≡ t ++ text_at rest r
 text_told [] t deeds n r = ended_told r.refusal t deeds n r
 text_told (x ∷ xs) t deeds n r = refl
 
@@ -104,7 +104,7 @@ stop_ends rules NoMemory p q bytes left a c f =
 -- bytes that were fed, and no more of them
 whole_fed : (rules : Rules) (p q : Player) (bytes : List ℕ) (a c : Option (List ℕ)) → Fed rules p q bytes a c → length q.line ≤ longest → ((run_on rules p bytes).refusal ≡ None) × Appends a c (run_on rules p bytes).text
 whole_fed rules p q bytes a c f h =
-    let e : run_on rules p bytes ≡ told f.text f.deeds f.count (ended None q.session) = ap (run_on rules p) (sym (append-nil bytes)) ∙ f.goes_on [] ∙ ap (told f.text f.deeds f.count) (nothing_comes rules q h) in
+    let e : run_on rules p bytes ≡ preceded f.text f.deeds f.count (ended None q.session) = ap (run_on rules p) (sym (append-nil bytes)) ∙ f.goes_on [] ∙ ap (preceded f.text f.deeds f.count) (nothing_comes rules q h) in
     (ap (λ r. r.refusal) e, subst (Appends a c) (sym (ap (λ r. r.text) e ∙ append-nil f.text)) f.wrote)
 
 -- as many bytes as may be taken were played

@@ -9,7 +9,7 @@ use Rattle.ct_lines.specs.declared.line.LineKind.TheVariants.{Long}
 use Rattle.std.proofs.lemmas.List.{take_more, take-append-drop}
 use Rattle.ct_play.specs.Course.{Deed}
 use Rattle.ct_main.specs.Feeding.{Fed, FedPart, FedRefused, Feeds, Prints, run_on, stop_at}
-use Rattle.ct_play.specs.Play.{Run, all_text, continued, ended, lines_after, rest_after, run_from, run_lines, told, with_rest}
+use Rattle.ct_play.specs.Play.{Run, all_text, continued, ended, lines_after, rest_after, run_from, run_lines, preceded, with_rest}
 use Rattle.ct_play.specs.Session.{Matches, Played, Plays, item_played, line_played, longest}
 use Rattle.ct_play.specs.declared.session.Session.{Session}
 use Rattle.ct_play.specs.declared.what.PlayFault.{PlayFault}
@@ -37,7 +37,7 @@ matched (Ok p) s texts m = (p.deeds, ap (λ t. Ok (record { session = t; texts =
 matched (Err w) s texts m = absurd m
 
 -- a line that was played
-line_told : (rules : Rules) (s t : Session) (line : List ℕ) (texts : List (List ℕ)) (deeds : List Deed) (later : List ℕ) → line_played rules line s ≡ Ok (record { session = t; texts = texts; deeds = deeds }) → run_from rules s line (10 ∷ later) ≡ told (all_text texts) deeds 1 (run_from rules t [] later)
+line_told : (rules : Rules) (s t : Session) (line : List ℕ) (texts : List (List ℕ)) (deeds : List Deed) (later : List ℕ) → line_played rules line s ≡ Ok (record { session = t; texts = texts; deeds = deeds }) → run_from rules s line (10 ∷ later) ≡ preceded (all_text texts) deeds 1 (run_from rules t [] later)
 unfolding run_from
 line_told rules s t line texts deeds later e = at_line_feed rules s line later ∙ ap (λ r. with_rest (length (rest_after [] later)) (continued r s (λ u. run_lines rules u (lines_after [] later)))) e
 
@@ -60,14 +60,14 @@ too_long rules s line (x ∷ later) h =
       | false ↦ too_long rules s (line ++ x ∷ []) later (omega (arith, length-append line (x ∷ [])))
     ]
 
-told_told : (t u : List ℕ) (ls ms : List Deed) (m n : ℕ) (r : Run) → told t ls m (told u ms n r) ≡ told (t ++ u) (ls ++ ms) (m + n) r
+told_told : (t u : List ℕ) (ls ms : List Deed) (m n : ℕ) (r : Run) → preceded t ls m (preceded u ms n r) ≡ preceded (t ++ u) (ls ++ ms) (m + n) r
 told_told t u ls ms m n r =
     let made : List ℕ → List Deed → ℕ → Run = λ x y z. record { text = x; deeds = y; count = z; refusal = r.refusal; session = r.session } in
     ap (λ x. made x (ls ++ (ms ++ r.deeds)) (m + (n + r.count))) (sym (append_assoc t u r.text))
     ∙ ap (λ y. made ((t ++ u) ++ r.text) y (m + (n + r.count))) (sym (append_assoc ls ms r.deeds))
     ∙ ap (λ z. made ((t ++ u) ++ r.text) ((ls ++ ms) ++ r.deeds) z) (omega arith)
 
-told_nothing : (r : Run) → told [] [] 0 r ≡ r
+told_nothing : (r : Run) → preceded [] [] 0 r ≡ r
 told_nothing r = ap (λ z. record { text = r.text; deeds = r.deeds; count = z; refusal = r.refusal; session = r.session }) (omega arith)
 
 -- what a call answers for some bytes, it answers for them and those after them
@@ -82,7 +82,7 @@ part_then rules p bs q cs a b c f g = record {
   text = f.text ++ g.text;
   wrote = Appends-trans a b c f.text g.text f.wrote g.wrote;
   front = λ later.
-      let e : run_on rules p ((bs ++ cs) ++ later) ≡ told f.text f.deeds f.count (run_on rules q (cs ++ later)) = ap (run_on rules p) (append_assoc bs cs later) ∙ f.goes_on (cs ++ later) in
+      let e : run_on rules p ((bs ++ cs) ++ later) ≡ preceded f.text f.deeds f.count (run_on rules q (cs ++ later)) = ap (run_on rules p) (append_assoc bs cs later) ∙ f.goes_on (cs ++ later) in
       ((g.front later).0, ap (λ r. r.text) e ∙ ap (λ t. f.text ++ t) (g.front later).1 ∙ sym (append_assoc f.text g.text (g.front later).0));
 }
 
@@ -96,14 +96,14 @@ feeds_then rules (Ok u) p bs q cs s a b c f g = record {
   counted = omega (arith, f.counted, g.counted);
   rests = λ later. ap (rest_after p.line) (append_assoc bs cs later) ∙ f.rests (cs ++ later) ∙ g.rests later;
   goes_on = λ later.
-      ap (run_on rules p) (append_assoc bs cs later) ∙ f.goes_on (cs ++ later) ∙ ap (told f.text f.deeds f.count) (g.goes_on later)
+      ap (run_on rules p) (append_assoc bs cs later) ∙ f.goes_on (cs ++ later) ∙ ap (preceded f.text f.deeds f.count) (g.goes_on later)
       ∙ told_told f.text g.text f.deeds g.deeds f.count g.count (run_on rules s later);
 }
 feeds_then rules (Err (Refused what)) p bs q cs s a b c f g = record {
   text = f.text ++ g.text;
   wrote = Appends-trans a b c f.text g.text f.wrote g.wrote;
   ends = λ later.
-      let e : run_on rules p ((bs ++ cs) ++ later) ≡ told f.text f.deeds f.count (run_on rules q (cs ++ later)) = ap (run_on rules p) (append_assoc bs cs later) ∙ f.goes_on (cs ++ later) in
+      let e : run_on rules p ((bs ++ cs) ++ later) ≡ preceded f.text f.deeds f.count (run_on rules q (cs ++ later)) = ap (run_on rules p) (append_assoc bs cs later) ∙ f.goes_on (cs ++ later) in
       let h = g.ends later in (
         ap (λ r. r.text) e ∙ ap (λ t. f.text ++ t) h.0,
         ap (λ r. r.refusal) e ∙ h.1,
@@ -148,7 +148,7 @@ line_printed rules p q t texts a c m w h =
       wrote = w;
       counted = ap (λ r. r.count) h;
       rests = λ later. ap (λ r. rest_after r.line later) (sym h);
-      goes_on = λ later. line_told rules p.session t p.line texts k.0 later k.1 ∙ ap (λ r. told (all_text texts) k.0 1 (run_on rules r later)) (sym h);
+      goes_on = λ later. line_told rules p.session t p.line texts k.0 later k.1 ∙ ap (λ r. preceded (all_text texts) k.0 1 (run_on rules r later)) (sym h);
     }
 
 -- a whole line is refused

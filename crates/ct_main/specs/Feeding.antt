@@ -6,7 +6,7 @@ use Rattle.ct_outside.specs.declared.fault.SinkFault.{SinkFault}
 use Rattle.ct_outside.specs.declared.fault.SinkFault.TheVariants as sink
 use Rattle.ct_call.specs.Rules.{Rules}
 use Rattle.ct_play.specs.Course.{Deed}
-use Rattle.ct_play.specs.Play.{Run, all_text, pending_text_of, rest_after, run_from, told}
+use Rattle.ct_play.specs.Play.{Run, all_text, pending_text_of, rest_after, run_from, preceded}
 use Rattle.ct_play.specs.Session.{pending_texts}
 use Rattle.ct_play.specs.declared.what.PlayFault.{PlayFault}
 use Rattle.ct_play.specs.declared.what.PlayFault.TheVariants as play
@@ -31,7 +31,7 @@ pub record Fed (rules : Rules) (p q : Player) (bytes : List ℕ) (before now : O
   pub wrote : Appends before now text
   pub counted : q.count ≡ p.count + count
   pub rests : (later : List ℕ) → rest_after p.line (bytes ++ later) ≡ rest_after q.line later
-  pub goes_on : (later : List ℕ) → run_on rules p (bytes ++ later) ≡ told text deeds count (run_on rules q later)
+  pub goes_on : (later : List ℕ) → run_on rules p (bytes ++ later) ≡ preceded text deeds count (run_on rules q later)
 
 -- A line among the bytes was refused: whatever comes later, the run from p has this text, this refusal and this
 -- many lines before it.

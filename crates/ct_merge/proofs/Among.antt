@@ -8,6 +8,7 @@ use Rattle.std.specs.Cmp.{IsTotalOrder, tied_back, tied_itself}
 use Rattle.std.specs.List.{All, AllByRecursion, filter, find}
 use Rattle.std.specs.List.Sorted.{IsStrictlySortedBy}
 use Rattle.std.proofs.lemmas.List.Elements.{All-from_recursion}
+use Rattle.ct_bytes.proofs.Orders.{is_less}
 use Rattle.ct_frame.specs.declared.round.Pull.{Pull}
 use Rattle.ct_merge.specs.Placing.{better, best_from, best}
 use Rattle.ct_merge.specs.Rule.{told}
@@ -106,11 +107,6 @@ not_less : (o : Ordering) → (o ≡ Less → ⊥) → is_lt o ≡ false
 not_less Less n = absurd (n refl)
 not_less Equal n = refl
 not_less Greater n = refl
-
-is_less : (o : Ordering) → is_lt o ≡ true → o ≡ Less
-is_less Less e = refl
-is_less Equal e = absurd (cc)
-is_less Greater e = absurd (cc)
 
 level : (o r : Ordering) → o ≡ ordering_reverse r → is_lt o ≡ false → is_lt r ≡ false → o ≡ Equal
 level Less r e p q = absurd (cc)

@@ -1,4 +1,5 @@
-//! The merges of a round, over the pulls of its members.
+//! The merges of a round, over the pulls of its members. They are for callers of the library that have all pulls at once: a node
+//! merges each as it comes (`merging`).
 ghost use Rattle.std.specs.Prelude.{◌≡◌, true, IfOk};
 ghost use Rattle.ct_merge.specs.Rule.{are_in_order, IsVolatileMerge, IsPersistentMerge, IsAddressMerge};
 

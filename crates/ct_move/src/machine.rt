@@ -88,7 +88,8 @@ fn settle(
 /// One step of a record: an event comes to it. The state, the next request number and the list of what is done are those
 /// of the rule, and the state is in form again. A step that is refused changes none of them. The record is copied once.
 ///
-/// What may come is what `MayCome` says, to a state in form at this place.
+/// What may come is what `MayCome` says, to a state in form at this place. It is for callers of the library that hold one record
+/// alone: a node calls the functions of `moves` over a draft of its own.
 pub fn step(
     alloc: Global,
     state: &mut RecState,

@@ -246,7 +246,7 @@ pub fn arrive(
     }
 }
 
-/// An event comes.
+/// An event comes. It is for callers of the library, as `machine::step` is: a node calls the function of the event.
 pub fn moves(
     draft: &mut Draft,
     at: &Place,

@@ -8,7 +8,7 @@ use Rattle.ct_frame.specs.declared.event.Event.{Event}
 use Rattle.ct_frame.specs.declared.event.Out.{Out}
 use Rattle.ct_call.specs.Rules.{Rules}
 use Rattle.ct_core.specs.Core.{Core}
-use Rattle.ct_journal.specs.Runs.{IsEntry, IsRun}
+use Rattle.ct_journal.specs.Runs.{IsEntry, IsRun, RunsTo}
 use Rattle.ct_journal.specs.declared.journal.JournalEntry.{JournalEntry}
 use Rattle.ct_node.specs.Journalled.{IsRunBy, Journalled, at_opening, entry_outs, last_outs, with_entry}
 use Rattle.ct_rules_node.specs.Coming.{may_come}
@@ -54,3 +54,7 @@ step_runs rules e outs old core entries may is same put run =
 -- what holds of all that was done holds of all that the last of these entries does
 pub put_all : (q : Out → Bool) (e : Event) (outs : List Out) (xs ys : List JournalEntry) → ys ≡ xs ++ record { event = e; outs = outs } ∷ [] → list_all q outs ≡ true → list_all q (last_outs ys) ≡ true
 put_all q e outs xs ys put all = subst (λ (os : List Out). list_all q os ≡ true) (sym (ap (λ (zs : List JournalEntry). last_outs zs) put ∙ put_last xs (record { event = e; outs = outs }))) all
+
+pub run_of : (rules : Rules) (c : Config) (x : Journalled) → x.core.config ≡ c → IsRunBy rules x → RunsTo c rules (record { node = x.core.pnn; entries = x.entries }) x.core.node
+unfolding IsRunBy
+run_of rules c x is run = subst (λ (d : Config). RunsTo d rules (record { node = x.core.pnn; entries = x.entries }) x.core.node) is run

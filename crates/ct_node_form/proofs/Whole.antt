@@ -7,11 +7,11 @@ use Rattle.std.specs.Prelude.{nat_lt, slice_get}
 use Rattle.std.specs.List.{AllByRecursion, filter}
 use Rattle.std.specs.List.Sorted.{IsStrictlySortedBy}
 use Rattle.std.specs.Ordering.{is_lt}
-use Rattle.std.specs.declared.cmp.Ordering.{Ordering}
-use Rattle.std.specs.declared.cmp.Ordering.TheVariants.{Less, Equal, Greater}
+use Rattle.std.specs.declared.cmp.Ordering.TheVariants.{Less}
 use Rattle.ct_bytes.specs.Address.{address_before, address_cmp}
 use Rattle.ct_bytes.specs.declared.address.Address.{Address}
 use Rattle.ct_bytes.proofs.AddressOrder.{address_total}
+use Rattle.ct_bytes.proofs.Orders.{is_less}
 use Rattle.ct_msg.specs.Config.{config_fault}
 use Rattle.ct_msg.specs.declared.config.Config.{Config}
 use Rattle.ct_msg.specs.declared.config.ConfigFault.{ConfigFault}
@@ -60,11 +60,6 @@ sorted_addresses (a ∷ as') h = sorted_after a as' h
 
 -- ---- addresses that ascend
 
-less : (o : Ordering) → is_lt o ≡ true → o ≡ Less
-less Less h = refl
-less Equal h = absurd (cc)
-less Greater h = absurd (cc)
-
 above : (a b : Address) (bs : List Address) → address_cmp a b ≡ Less → AllByRecursion (λ x. address_cmp b x ≡ Less) bs → AllByRecursion (λ x. address_cmp a x ≡ Less) bs
 above a b [] l all = tt
 above a b (x ∷ bs) l all = (address_total.trans a b x l all.0, above a b bs l all.1)
@@ -72,7 +67,7 @@ above a b (x ∷ bs) l all = (address_total.trans a b x l all.0, above a b bs l 
 sorted_on : (a : Address) (bs : List Address) → ascends_after address_before a bs ≡ true → AllByRecursion (λ x. address_cmp a x ≡ Less) bs × IsStrictlySortedBy address_cmp bs
 unfolding IsStrictlySortedBy
 sorted_on a [] e = (tt, tt)
-sorted_on a (b ∷ bs) e = (let p = and_parts _ _ e in let l = less (address_cmp a b) p.0 in let s = sorted_on b bs p.1 in ((l, above a b bs l s.0), s))
+sorted_on a (b ∷ bs) e = (let p = and_parts _ _ e in let l = is_less (address_cmp a b) p.0 in let s = sorted_on b bs p.1 in ((l, above a b bs l s.0), s))
 
 pub sorted_so : (as' : List Address) → are_addresses as' ≡ true → IsStrictlySortedBy address_cmp as'
 unfolding IsStrictlySortedBy

@@ -33,12 +33,12 @@ freed s = record s { holder = None }
 
 -- a take gives the next ticket, also to the node that holds the lock already. It is refused exactly where another node
 -- holds the lock or no ticket is left, or, without a cause here, where the outside fails or memory runs out
-abbrev pub Takes : Result ℕ TakeFault → ℕ → LockState → LockState → Type 0
-Takes (Ok ticket) node old new = (is_with_another node old.holder ≡ false) × (ticket ≡ old.last + 1) × (ticket < ticket_limit) × (new ≡ given node old)
-Takes (Err (take.Held holder ticket)) node old new = (old.holder ≡ Some holder) × (holder ≢ node) × (ticket ≡ old.last) × (new ≡ old)
-Takes (Err take.Exhausted) node old new = (is_with_another node old.holder ≡ false) × (old.last + 1 ≡ ticket_limit) × (new ≡ old)
-Takes (Err take.Failed) node old new = new ≡ old
-Takes (Err take.NoMemory) node old new = new ≡ old
+abbrev pub TakesLock : Result ℕ TakeFault → ℕ → LockState → LockState → Type 0
+TakesLock (Ok ticket) node old new = (is_with_another node old.holder ≡ false) × (ticket ≡ old.last + 1) × (ticket < ticket_limit) × (new ≡ given node old)
+TakesLock (Err (take.Held holder ticket)) node old new = (old.holder ≡ Some holder) × (holder ≢ node) × (ticket ≡ old.last) × (new ≡ old)
+TakesLock (Err take.Exhausted) node old new = (is_with_another node old.holder ≡ false) × (old.last + 1 ≡ ticket_limit) × (new ≡ old)
+TakesLock (Err take.Failed) node old new = new ≡ old
+TakesLock (Err take.NoMemory) node old new = new ≡ old
 
 -- a release leaves no holder. It is refused exactly where the node does not hold the lock, or where the outside fails
 abbrev pub Releases : Result (Unit {0}) ReleaseFault → ℕ → LockState → LockState → Type 0

@@ -1,6 +1,6 @@
 //! The recovery lock.
 ghost use Rattle.std.specs.Prelude.{◌≡◌, ◌≤◌, ℕ, Option};
-ghost use Rattle.ct_outside.specs.Locks.{LockState, Releases, Takes, is_release_failure, is_release_refusal, is_take_failure, is_take_refusal};
+ghost use Rattle.ct_outside.specs.Locks.{LockState, Releases, TakesLock, is_release_failure, is_release_refusal, is_take_failure, is_take_refusal};
 ghost use Rattle.ct_outside.specs.Told.{RisesWhere, Told};
 
 use crate::fault::{ReleaseFault, TakeFault};
@@ -18,7 +18,7 @@ pub trait RecLock {
 
     /// Gives the lock to the node, with the ticket after the last one.
     fn take(&mut self, node: u32) -> Result<u64, TakeFault>
-        ensures state { Told (state self.old) (state self.new) (Takes result node) }
+        ensures state { Told (state self.old) (state self.new) (TakesLock result node) }
         ensures cause { RisesWhere (is_take_failure result) (faults self.old) (faults self.new) }
         ensures refused { RisesWhere (is_take_refusal result) (refusals self.old) (refusals self.new) };
 

@@ -1,6 +1,6 @@
 //! A recovery lock in memory.
 ghost use Rattle.std.specs.Prelude.{◌≡◌, ◌≢◌, ◌≤◌, ◌<◌, ◌+◌, ◌^◌, ℕ, Some};
-ghost use Rattle.ct_outside.specs.Locks.{Releases, Takes, free_lock, is_release_failure, is_release_refusal, is_take_failure, is_take_refusal};
+ghost use Rattle.ct_outside.specs.Locks.{Releases, TakesLock, free_lock, is_release_failure, is_release_refusal, is_take_failure, is_take_refusal};
 ghost use Rattle.ct_outside.specs.MemoryLock.{refused_more};
 ghost use Rattle.ct_outside.specs.Told.{RisesWhere};
 
@@ -53,7 +53,7 @@ impl RecLock for MemLock {
 
     /// Takes no memory.
     fn take(&mut self, node: u32) -> Result<u64, TakeFault>
-        ensures state { Takes result node self.old.state self.new.state }
+        ensures state { TakesLock result node self.old.state self.new.state }
         ensures cause { RisesWhere (is_take_failure result) 0 0 }
         ensures refused { RisesWhere (is_take_refusal result) self.old.refusals self.new.refusals }
         ensures counts { self.new.refusals ≡ refused_more (is_take_refusal result) self.old.refusals }

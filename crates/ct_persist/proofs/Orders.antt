@@ -1,14 +1,14 @@
 -- Pairs in order, as a list and as a map.
 use Rattle.std.proofs.Common.{◌≡◌, ◌≢◌, ◌+◌, ℕ, Bool, true, false, ◌&&◌, nat_lt, List, [], ◌∷◌, ◌++◌, length, refl, sym, ◌∙◌, ap, subst, arith}
 use Rattle.std.specs.Bool.{IsTrue}
-use Rattle.std.specs.declared.cmp.Ordering.{Ordering}
-use Rattle.std.specs.declared.cmp.Ordering.TheVariants.{Less, Equal, Greater}
-use Rattle.std.specs.Ordering.{is_lt, ordering_reverse, match_ordering}
+use Rattle.std.specs.declared.cmp.Ordering.TheVariants.{Less}
+use Rattle.std.specs.Ordering.{ordering_reverse, match_ordering}
 use Rattle.std.specs.List.{AllByRecursion, list_all}
 use Rattle.std.specs.List.Sorted.{IsStrictlySortedBy}
 use Rattle.std.specs.Map.{keys_of}
 use Rattle.std.proofs.lemmas.Bool.{and_parts, and_from}
 use Rattle.ct_bytes.specs.Key.{key_cmp}
+use Rattle.ct_bytes.proofs.Orders.{less_is, is_less}
 use Rattle.ct_msg.specs.declared.client.Pair.{Pair}
 use Rattle.ct_frame.specs.Fields.{ascends, ascends_after, pair_before, is_kept}
 use Rattle.ct_store.specs.Map.{Pairs, Ascends, write}
@@ -16,18 +16,10 @@ use Rattle.ct_store.proofs.Maps.{key_total}
 use Rattle.ct_persist.specs.Persisted.{IsKept, keyed, listed}
 use Rattle.ct_persist.proofs.Looks.{V, Full}
 
-is_less : (o : Ordering) → o ≡ Less → is_lt o ≡ true
-is_less o e = ap is_lt e
-
-less : (o : Ordering) → is_lt o ≡ true → o ≡ Less
-less Less h = refl
-less Equal h = absurd (cc)
-less Greater h = absurd (cc)
-
 listed_after : (k v : List ℕ) (m : Pairs V) → Ascends ((k, v) ∷ m) → ascends_after pair_before (record { key = k; value = v }) (listed m) ≡ true
 unfolding IsStrictlySortedBy
 listed_after k v [] a = refl
-listed_after k v (e ∷ m) a = and_from _ _ (is_less (key_cmp k e.0) a.0.0) (listed_after e.0 e.1 m a.1)
+listed_after k v (e ∷ m) a = and_from _ _ (less_is (key_cmp k e.0) a.0.0) (listed_after e.0 e.1 m a.1)
 
 -- what a map has is in order
 pub listed_ascends : (m : Pairs V) → IsKept m → IsTrue (ascends pair_before (listed m))
@@ -53,7 +45,7 @@ keyed_after : (p : Pair) (ps : List Pair) → ascends_after pair_before p ps ≡
 unfolding IsStrictlySortedBy
 keyed_after p [] h = (tt, tt)
 keyed_after p (r ∷ ps) h =
-    let l = less (key_cmp p.key r.key) (and_parts _ _ h).0 in
+    let l = is_less (key_cmp p.key r.key) (and_parts _ _ h).0 in
     let rest = keyed_after r ps (and_parts _ _ h).1 in
     ((l, above p.key r.key _ l rest.0), rest)
 

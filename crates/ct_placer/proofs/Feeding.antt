@@ -7,7 +7,7 @@ use Rattle.ct_lines.specs.declared.line.LineKind.TheVariants.{Long}
 use Rattle.ct_lines.specs.declared.line.LineKindFault.{LineKindFault}
 use Rattle.ct_lines.specs.declared.line.LineKindFault.TheVariants.{Kind, NoMemory}
 use Rattle.ct_placing.specs.Lines.{lines_after, rest_after}
-use Rattle.ct_placing.specs.Placing.{Given, Takes, form_refusal, refusal, with_line}
+use Rattle.ct_placing.specs.Placing.{Given, TakesLine, form_refusal, refusal, with_line}
 use Rattle.ct_placing.specs.Grammar.{line_of}
 use Rattle.ct_placer.specs.Feeding.{Fed, FedRefused, Feeds, read_on}
 use Rattle.ct_placer.specs.Input.{continued, ended, read_from, read_lines, with_rest}
@@ -80,7 +80,7 @@ line_ends p q e h = record {
 }
 
 -- a whole line is not taken
-pub line_stops : (fault : LineKindFault) (p q : Placer) (line : List ℕ) → line ≡ p.line → Takes (Err fault) (refusal line p.placing) (with_line line p.placing) p.placing q.placing → q.count ≡ p.count → Feeds (Err fault) p (10 ∷ []) q
+pub line_stops : (fault : LineKindFault) (p q : Placer) (line : List ℕ) → line ≡ p.line → TakesLine (Err fault) (refusal line p.placing) (with_line line p.placing) p.placing q.placing → q.count ≡ p.count → Feeds (Err fault) p (10 ∷ []) q
 line_stops (Kind kind) p q line e h n = record { refused = λ later. ap (λ r. r.refusal) (by later); counted = λ later. ap (λ r. r.count) (by later) ∙ sym n }
   where
     by : (later : List ℕ) → read_on p (10 ∷ later) ≡ ended p.count p.placing (Some kind)

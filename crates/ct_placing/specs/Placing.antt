@@ -92,7 +92,7 @@ with_line line g = with_form (line_of line) g
 
 -- Ok adds what is said, exactly where it is not refused; a refusal is the rule's, and changes nothing. Want of memory changes
 -- nothing either
-abbrev pub Takes : Result (Unit {0}) LineKindFault → Option LineKind → Given → Given → Given → Type 0
-Takes (Ok u) refused after old new = (refused ≡ None) × (new ≡ after)
-Takes (Err (Kind k)) refused after old new = (refused ≡ Some k) × (new ≡ old)
-Takes (Err NoMemory) refused after old new = new ≡ old
+abbrev pub TakesLine : Result (Unit {0}) LineKindFault → Option LineKind → Given → Given → Given → Type 0
+TakesLine (Ok u) refused after old new = (refused ≡ None) × (new ≡ after)
+TakesLine (Err (Kind k)) refused after old new = (refused ≡ Some k) × (new ≡ old)
+TakesLine (Err NoMemory) refused after old new = new ≡ old

@@ -1,6 +1,6 @@
 //! What lines say of nodes and addresses, and the placement over it.
 ghost use Rattle.std.specs.Prelude.{◌≡◌, ◌≤◌, ◌∷◌, ◌++◌, drop, length, take, None, IfOk, OnErr, OnOk};
-ghost use Rattle.ct_placing.specs.Placing.{Takes, first_reason, is_beyond, is_disabled, is_held_beyond, is_there, nothing_given, refusal, said_refusal, with_address, with_line, with_said};
+ghost use Rattle.ct_placing.specs.Placing.{TakesLine, first_reason, is_beyond, is_disabled, is_held_beyond, is_there, nothing_given, refusal, said_refusal, with_address, with_line, with_said};
 ghost use Rattle.ct_placing.specs.Text.{text_of};
 
 use crate::line::{GivenLine, read_line};
@@ -156,7 +156,7 @@ impl Placing {
     }
 
     fn accept(&mut self, said: GivenLine) -> Result<(), LineKindFault>
-        ensures { Takes result (said_refusal said self.old) (with_said said self.old) self.old self.new }
+        ensures { TakesLine result (said_refusal said self.old) (with_said said self.old) self.old self.new }
     {
         if let Some(kind) = self.refusal(&said) {
             return Err(LineKindFault::Kind(kind));
@@ -171,7 +171,7 @@ impl Placing {
     /// no form of a line or names a node that there is not, it is out of its order, it names what was named already, or
     /// there are as many addresses as there may be. A refusal changes nothing, and so does want of memory.
     pub fn line(&mut self, line: &[u8]) -> Result<(), LineKindFault>
-        ensures { Takes result (refusal line.now self.old) (with_line line.now self.old) self.old self.new }
+        ensures { TakesLine result (refusal line.now self.old) (with_line line.now self.old) self.old self.new }
     {
         if line.len() > 65535 {
             return Err(LineKindFault::Kind(LineKind::Long));

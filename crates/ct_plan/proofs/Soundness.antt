@@ -1,9 +1,9 @@
 -- The plan that a seed makes is sound.
-use Rattle.std.proofs.Common.{◌≡◌, ◌∙◌, ◌+◌, ◌*◌, ◌/◌, ◌<◌, ◌≤◌, ℕ, zero, suc, Bool, true, false, List, [], ◌∷◌, ◌++◌, length, drop, take, None, Some, refl, sym, ap, subst, arith}
+use Rattle.std.proofs.Common.{◌≡◌, ◌∙◌, ◌+◌, ◌*◌, ◌/◌, ◌<◌, ◌≤◌, ℕ, zero, suc, Bool, true, false, List, [], ◌∷◌, ◌++◌, length, drop, take, None, Some, refl, sym, ap, subst, arith, Option}
 use Rattle.std.proofs.lemmas.Bool.{and_from, cond_both, eqb-true, ltb-false, ltb-true}
 use Rattle.std.proofs.lemmas.List.{length-append, length-drop, length-map, length-take-le}
 use Rattle.std.proofs.lemmas.List.Folds.{list_all-append, list_any-append}
-use Rattle.std.proofs.lemmas.Option.{slice_get-map}
+use Rattle.std.proofs.lemmas.Option.{slice_get-map, slice_get_past}
 use Rattle.std.specs.List.{flat_map, list_all, list_any}
 use Rattle.std.specs.Prelude.{nat_eq, nat_lt, option_map, slice_get, ◌||◌}
 use Rattle.ct_cluster.specs.Cluster.{everyone, numbers}
@@ -12,6 +12,7 @@ use Rattle.ct_frame.specs.declared.plan.PlanItem.TheVariants.{Round}
 use Rattle.ct_msg.specs.Generated.{each_kind, generated_config}
 use Rattle.ct_msg.specs.declared.config.Config.{Config}
 use Rattle.ct_msg.proofs.Faultless.{makes}
+use Rattle.ct_frame.specs.declared.plan.Plan.{Plan}
 use Rattle.ct_rules_node.specs.Coming.{is_allowed_op}
 use Rattle.ct_rules_node.specs.Node.{is_among}
 use Rattle.ct_cluster.proofs.Numbers.{numbers_below, numbers_ascend}
@@ -182,3 +183,7 @@ module _ (nodes calls seed : ℕ) where
         told = λ n. each_script (λ s. list_all (may_be_told c n) s ≡ true) n refl (λ l. script_told c calls n (drawn calls (generator_of seed n)) l);
         one_leader = λ m n a b. leader_is m a ∙ sym (leader_is n b);
       }
+
+pub no_script_past : (p : Plan) (n : ℕ) → length p.scripts ≤ n → script_of p n ≡ []
+unfolding script_of or_no_items
+no_script_past p n l = ap (λ (o : Option (List PlanItem)). or_no_items o) (slice_get_past p.scripts n l)

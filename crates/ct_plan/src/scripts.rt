@@ -1,8 +1,7 @@
 //! The plan that a seed makes.
-ghost use Rattle.std.specs.Prelude.{◌≡◌, ◌≤◌, ◌<◌, ◌+◌, ◌++◌, ◌∷◌, [], ◌/◌, None, length, codes, IfOk, OnOk, map};
+ghost use Rattle.std.specs.Prelude.{◌≡◌, ◌≤◌, ◌<◌, ◌+◌, ◌++◌, ◌∷◌, [], ◌/◌, length, codes, IfOk, OnOk, map};
 ghost use Rattle.std.specs.List.{flat_map};
 ghost use Rattle.ct_cluster.specs.Cluster.{everyone};
-ghost use Rattle.ct_msg.specs.Generated.{generated_config};
 ghost use Rattle.ct_plan.specs.Scripts.{asked_by, asked_db, asked_key, asked_kind, asked_letter, asked_number, asked_op, asked_pair, asked_value, cluster_plan, drawn, generator_of, led_by, locked_commit, planned_script, script_by};
 ghost use Rattle.ct_plan.specs.Sound.{IsSound};
 

@@ -1,17 +1,16 @@
 -- Addresses in ascending order: they are those that are given, and no other list in that order has the same items.
-use Rattle.std.proofs.Common.{◌≡◌, ◌==◌, ℕ, Bool, true, false, cond, ◌⊎◌, inl, inr, ⊎_elim, List, [], ◌∷◌, refl, sym, ap, ◌∙◌, subst, arith}
+use Rattle.std.proofs.Common.{◌≡◌, Bool, true, false, cond, ◌⊎◌, inl, inr, ⊎_elim, List, [], ◌∷◌, refl, sym, ap, ◌∙◌, subst}
 use Rattle.std.specs.List.{AllByRecursion, IsDistinct}
 use Rattle.std.specs.List.Sorted.{IsPermutation, IsStrictlySortedBy}
-use Rattle.std.specs.Ordering.{is_lt, nat_cmp, ordering_reverse}
-use Rattle.std.specs.declared.cmp.Ordering.{Ordering}
-use Rattle.std.specs.declared.cmp.Ordering.TheVariants.{Less, Equal, Greater}
-use Rattle.std.proofs.lemmas.Bool.Decides.{nat_tests}
+use Rattle.std.specs.Ordering.{ordering_reverse}
+use Rattle.std.specs.declared.cmp.Ordering.TheVariants.{Less, Greater}
 use Rattle.std.proofs.lemmas.List.Elements.{All-from_recursion, recursion_from_All}
 use Rattle.std.proofs.lemmas.List.Sorted.{All-permutation, IsPermutation-cons, IsPermutation-middle, IsPermutation-refl, IsPermutation-sym, IsPermutation-trans}
 use Rattle.ct_bytes.specs.Address.{address_before, address_cmp, same_address}
 use Rattle.ct_bytes.specs.declared.address.Address.{Address}
 use Rattle.ct_bytes.specs.declared.address.Address.TheVariants.{V4, V6}
 use Rattle.ct_bytes.proofs.AddressOrder.{address_total}
+use Rattle.ct_bytes.proofs.Orders.{is_less, number_rises}
 use Rattle.ct_play.specs.Opening.{ascending, in_place}
 
 abbrev Before : Address → Address → Type 0
@@ -46,9 +45,6 @@ ascending_permutes (a ∷ xs) =
 
 -- ---- in order
 
-number_rises : (m n : ℕ) → is_lt (nat_cmp n m) ≡ false → (m == n) ≡ false → nat_cmp m n ≡ Less
-number_rises m n l e = grind (arith, nat_tests)
-
 -- of two that differ one comes before the other
 rises : (a b : Address) → address_before b a ≡ false → same_address a b ≡ false → Before a b
 rises (V4 m) (V4 n) l e = number_rises m n l e
@@ -56,18 +52,13 @@ rises (V4 m) (V6 n) l e = refl
 rises (V6 m) (V4 n) l e = absurd (let h : true ≡ false = l in cc)
 rises (V6 m) (V6 n) l e = number_rises m n l e
 
-less : (o : Ordering) → is_lt o ≡ true → o ≡ Less
-less Less e = refl
-less Equal e = absurd (cc)
-less Greater e = absurd (cc)
-
 placed_sorted : (a : Address) (xs : List Address) → AllByRecursion (λ y. same_address a y ≡ false) xs → IsStrictlySortedBy address_cmp xs → IsStrictlySortedBy address_cmp (in_place a xs)
 unfolding IsStrictlySortedBy
 placed_sorted a [] d s = (tt, tt)
 placed_sorted a (x ∷ xs) d s = by_test (address_before x a) refl (placed_sorted a xs d.1 s.1)
   where
     by_test : (b : Bool) → address_before x a ≡ b → IsStrictlySortedBy address_cmp (in_place a xs) → IsStrictlySortedBy address_cmp (cond b (x ∷ in_place a xs) (a ∷ x ∷ xs))
-    by_test true e more = (carried (λ y. Before x y) (a ∷ xs) (in_place a xs) (placed_permutes a xs) (less (address_cmp x a) e, s.0), more)
+    by_test true e more = (carried (λ y. Before x y) (a ∷ xs) (in_place a xs) (placed_permutes a xs) (is_less (address_cmp x a) e, s.0), more)
     by_test false e more =
         let h : Before a x = rises a x e d.0 in
         ((h, mapped (λ y. Before x y) (λ y. Before a y) xs (λ y k. address_total.trans a x y h k) s.0), s)

@@ -15,7 +15,7 @@ use Rattle.ct_msg.proofs.Repeats.{all_distinct}
 use Rattle.ct_promise.specs.Promises.{IsConfig}
 use Rattle.ct_world.specs.World.{World}
 use Rattle.ct_bytes.specs.declared.memory.NoMemory.{NoMemory}
-use Rattle.ct_play.specs.Opening.{ascending, config_of, opened, world_at}
+use Rattle.ct_play.specs.Opening.{ascending, config_of, world_opened, world_at}
 use Rattle.ct_play.proofs.Ascending.{ascending_permutes, ascending_sorted, sorted_is}
 
 -- where nothing is wrong, the last choice was made
@@ -51,6 +51,6 @@ pub is_config : (a : Accepted) (c : Config) → IsConfigOf a c → IsConfig c
 is_config a c h = (a.dbs, a.addresses, h.1)
 
 -- the cluster that is opened is the one at a line that is the first that is no configuration line
-pub opened_at : (a : Accepted) (c : Config) (o : Option World) (r : Result World NoMemory) → o ≡ None → IsConfigOf a c → IfOk r (λ w. w ≡ opened c) → IfOk r (λ w. w ≡ world_at a o)
-opened_at a c o (Ok w) none h e = e ∙ ap opened (only_config a c h) ∙ ap (world_at a) (sym none)
+pub opened_at : (a : Accepted) (c : Config) (o : Option World) (r : Result World NoMemory) → o ≡ None → IsConfigOf a c → IfOk r (λ w. w ≡ world_opened c) → IfOk r (λ w. w ≡ world_at a o)
+opened_at a c o (Ok w) none h e = e ∙ ap world_opened (only_config a c h) ∙ ap (world_at a) (sym none)
 opened_at a c o (Err f) none h e = tt

@@ -12,7 +12,7 @@ use Rattle.ct_cluster.specs.declared.step.Step.TheVariants as step
 use Rattle.ct_cluster.specs.declared.step.StepFault.{StepFault}
 use Rattle.ct_mail.specs.Mail.{next_waiting}
 use Rattle.ct_msg.specs.declared.config.Config.{Config}
-use Rattle.ct_play.specs.Course.{Course, Deed, after_deeds, and_then, comes, deed_of, one_step, printed, settled, steps_of, still}
+use Rattle.ct_play.specs.Course.{Course, Deed, after_deeds, and_then, delivered_first, deed_of, one_step, printed, settled, steps_of, still}
 
 after_after : (q r t : Ran) → after q (after r t) ≡ after (after q r) t
 unfolding after
@@ -92,7 +92,7 @@ deliver_allowed k = refl
 
 comes_leads : (c : Config) (rules : Rules) (w : Cluster) (log : List OpenCall) (next : Option ℕ) (later : Cluster → Result Course StepFault) (z : Course)
     → ((v : Cluster) (calls : List OpenCall) (y : Course) → later v ≡ Ok y → Leads c rules v calls y)
-    → comes c rules w next later ≡ Ok z
+    → delivered_first c rules w next later ≡ Ok z
     → Leads c rules w log z
 comes_leads c rules w log None later z k e =
     let same : still w ≡ z = cc in subst (λ v. Leads c rules w log v) same (still_leads c rules w log)

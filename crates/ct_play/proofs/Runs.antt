@@ -22,7 +22,7 @@ use Rattle.ct_lines.specs.declared.line.ScenarioLine.{ScenarioLine}
 use Rattle.ct_lines.specs.declared.line.ScenarioLine.TheVariants as item
 use Rattle.ct_world.specs.World.{World}
 use Rattle.ct_play.specs.Course.{Course, Deed, one_step, settled}
-use Rattle.ct_play.specs.Effect.{Effect, commanded, cut_after, effect_of, line_effect, shown, told, texts_of}
+use Rattle.ct_play.specs.Effect.{Effect, commanded, cut_after, effect_of, line_effect, shown, text_effect, texts_of}
 use Rattle.ct_play.specs.Named.{command_step, named_step, number_of_db}
 use Rattle.ct_play.specs.Opening.{world_at}
 use Rattle.ct_play.specs.Play.{IsRunOf, Run, continued, lines_after, played, run_from, run_lines}
@@ -82,7 +82,7 @@ goes rules w (Ok x) e m h deeds r =
     subst (λ (y : Effect). IsRunOf rules (Some y.world) (deeds ++ y.deeds)) same (went rules w x (λ log. h log x refl) deeds r)
 goes rules w (Err f) e m h deeds r = absurd (cc)
 
-tells : (rules : Rules) (w : World) (r : Result (List ℕ) TextFault) (e : Effect) → told w r ≡ Ok e → (deeds : List Deed) → IsRunOf rules (Some w) deeds → IsRunOf rules (Some e.world) (deeds ++ e.deeds)
+tells : (rules : Rules) (w : World) (r : Result (List ℕ) TextFault) (e : Effect) → text_effect w r ≡ Ok e → (deeds : List Deed) → IsRunOf rules (Some w) deeds → IsRunOf rules (Some e.world) (deeds ++ e.deeds)
 tells rules w (Ok text) e m deeds r = unchanged rules w (cut_after [] text) e (cc) deeds r
 tells rules w (Err f) e m deeds r = absurd (cc)
 

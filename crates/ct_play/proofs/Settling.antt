@@ -11,7 +11,7 @@ use Rattle.ct_cluster.specs.declared.step.StepFault.TheVariants.{NoMemory}
 use Rattle.ct_mail.specs.Mail.{next_waiting}
 use Rattle.ct_msg.specs.declared.config.Config.{Config}
 use Rattle.ct_world.specs.World.{World}
-use Rattle.ct_play.specs.Course.{Adds, Course, Deed, Goes, LeadsTo, PrintsAfter, after_deeds, and_then, comes, deed_of, printed, settled}
+use Rattle.ct_play.specs.Course.{Adds, Course, Deed, Goes, CourseLeadsTo, PrintsAfter, after_deeds, and_then, delivered_first, deed_of, printed, settled}
 
 -- so many deliveries are left at this cluster, and these lines were printed
 pub record Settling (c : Config) (rules : Rules) (count : ℕ) (first now : Cluster) (left : ℕ) (lines : List Line) : Type 0 where
@@ -30,9 +30,9 @@ after_both xs ys (Err f) = refl
 pub begins : (c : Config) (rules : Rules) (count : ℕ) (first : Cluster) → Settling c rules count first first count []
 begins c rules count first = record { deeds = []; printed_are = refl; goes_on = after_nothing (settled c rules count first) }
 
-one_left : (c : Config) (rules : Rules) (m left : ℕ) (now : Cluster) (next : Option ℕ) → m ≡ suc left → next_waiting now.sent ≡ next → settled c rules m now ≡ comes c rules now next (λ v. settled c rules left v)
+one_left : (c : Config) (rules : Rules) (m left : ℕ) (now : Cluster) (next : Option ℕ) → m ≡ suc left → next_waiting now.sent ≡ next → settled c rules m now ≡ delivered_first c rules now next (λ v. settled c rules left v)
 unfolding settled
-one_left c rules m left now next e n = ap (λ k. settled c rules k now) e ∙ ap (λ o. comes c rules now o (λ v. settled c rules left v)) n
+one_left c rules m left now next e n = ap (λ k. settled c rules k now) e ∙ ap (λ o. delivered_first c rules now o (λ v. settled c rules left v)) n
 
 -- one more message came
 pub goes_on : (c : Config) (rules : Rules) (count : ℕ) (first now : Cluster) (m left k : ℕ) (lines : List Line) (y : Stepped)
@@ -53,17 +53,17 @@ goes_on c rules count first now m left k lines y e n a h =
     }
 
 -- a course leads to the cluster of a world that has the same configuration
-leads : (r : Result Course StepFault) (old new : World) (lines : List Line) (deeds : List Deed) → printed deeds ≡ lines → new.config ≡ old.config → r ≡ Ok (record { cluster = new.cluster; deeds = deeds }) → LeadsTo r old new lines
+leads : (r : Result Course StepFault) (old new : World) (lines : List Line) (deeds : List Deed) → printed deeds ≡ lines → new.config ≡ old.config → r ≡ Ok (record { cluster = new.cluster; deeds = deeds }) → CourseLeadsTo r old new lines
 leads r old new lines deeds p h e =
     let same : new ≡ record { config = old.config; cluster = new.cluster } = (λ i. record { config = h i; cluster = new.cluster }) in
-    subst (λ q. LeadsTo q old new lines) (sym e) (same, sym p)
+    subst (λ q. CourseLeadsTo q old new lines) (sym e) (same, sym p)
 
-stop_at : (c : Config) (rules : Rules) (count : ℕ) (old new : World) (m : ℕ) (lines : List Line) → settled c rules m new.cluster ≡ Ok (record { cluster = new.cluster; deeds = [] }) → new.config ≡ old.config → Settling c rules count old.cluster new.cluster m lines → LeadsTo (settled c rules count old.cluster) old new lines
+stop_at : (c : Config) (rules : Rules) (count : ℕ) (old new : World) (m : ℕ) (lines : List Line) → settled c rules m new.cluster ≡ Ok (record { cluster = new.cluster; deeds = [] }) → new.config ≡ old.config → Settling c rules count old.cluster new.cluster m lines → CourseLeadsTo (settled c rules count old.cluster) old new lines
 stop_at c rules count old new m lines e same h =
     leads (settled c rules count old.cluster) old new lines (h.deeds ++ []) (ap printed (append-nil h.deeds) ∙ h.printed_are) same (sym h.goes_on ∙ ap (λ r. after_deeds h.deeds r) e)
 
 -- none waits
-pub none_waits : (c : Config) (rules : Rules) (count : ℕ) (old new : World) (m left : ℕ) (lines : List Line) → m ≡ suc left → next_waiting new.cluster.sent ≡ None → new.config ≡ old.config → Settling c rules count old.cluster new.cluster m lines → LeadsTo (settled c rules count old.cluster) old new lines
+pub none_waits : (c : Config) (rules : Rules) (count : ℕ) (old new : World) (m left : ℕ) (lines : List Line) → m ≡ suc left → next_waiting new.cluster.sent ≡ None → new.config ≡ old.config → Settling c rules count old.cluster new.cluster m lines → CourseLeadsTo (settled c rules count old.cluster) old new lines
 none_waits c rules count old new m left lines e n same h = stop_at c rules count old new m lines (one_left c rules m left new.cluster None e n) same h
 
 -- all were delivered
@@ -71,7 +71,7 @@ none_left : (c : Config) (rules : Rules) (m : ℕ) (now : Cluster) → m ≡ zer
 unfolding settled
 none_left c rules m now e = ap (λ k. settled c rules k now) e
 
-pub ends : (c : Config) (rules : Rules) (count : ℕ) (old new : World) (m : ℕ) (lines : List Line) → m ≡ zero → new.config ≡ old.config → Settling c rules count old.cluster new.cluster m lines → LeadsTo (settled c rules count old.cluster) old new lines
+pub ends : (c : Config) (rules : Rules) (count : ℕ) (old new : World) (m : ℕ) (lines : List Line) → m ≡ zero → new.config ≡ old.config → Settling c rules count old.cluster new.cluster m lines → CourseLeadsTo (settled c rules count old.cluster) old new lines
 ends c rules count old new m lines e same h = stop_at c rules count old new m lines (none_left c rules m new.cluster e) same h
 
 -- a delivery is refused

@@ -56,14 +56,14 @@ and_then (Ok x) later = after_deeds x.deeds (later x.cluster)
 and_then (Err f) later = Err f
 
 -- the message of this number comes, and then what the cluster leads to; nothing more is done where none waits
-abbrev pub comes : Config → Rules → Cluster → Option ℕ → (Cluster → Result Course StepFault) → Result Course StepFault
-comes c rules w None later = Ok (still w)
-comes c rules w (Some k) later = and_then (one_step c rules w (step.Deliver k)) later
+abbrev pub delivered_first : Config → Rules → Cluster → Option ℕ → (Cluster → Result Course StepFault) → Result Course StepFault
+delivered_first c rules w None later = Ok (still w)
+delivered_first c rules w (Some k) later = and_then (one_step c rules w (step.Deliver k)) later
 
 -- so many deliveries of the least message that waits, one after the other; fewer where none waits
 unfoldable pub settled : Config → Rules → ℕ → Cluster → Result Course StepFault
 settled c rules zero w = Ok (still w)
-settled c rules (suc m) w = comes c rules w (next_waiting w.sent) (λ v. settled c rules m v)
+settled c rules (suc m) w = delivered_first c rules w (next_waiting w.sent) (λ v. settled c rules m v)
 
 -- ---- in code
 
@@ -79,12 +79,12 @@ Adds (Err NoMemory) step old new before now = Unit {0}
 Adds (Err f) step old new before now = step ≡ Err f
 
 -- the course leads from the old cluster to the new one, and prints these lines
-abbrev pub LeadsTo : Result Course StepFault → World → World → List Line → Type 0
-LeadsTo (Ok x) old new lines = (new ≡ record old { cluster = x.cluster }) × (lines ≡ printed x.deeds)
-LeadsTo (Err f) old new lines = ⊥
+abbrev pub CourseLeadsTo : Result Course StepFault → World → World → List Line → Type 0
+CourseLeadsTo (Ok x) old new lines = (new ≡ record old { cluster = x.cluster }) × (lines ≡ printed x.deeds)
+CourseLeadsTo (Err f) old new lines = ⊥
 
 -- Ok is exactly the course, and a refusal comes exactly where the course has it. Memory may be wanting in place of each.
 abbrev pub Goes : Result (Vec Line Global) StepFault → Result Course StepFault → World → World → Type 0
-Goes (Ok lines) course old new = LeadsTo course old new lines.items
+Goes (Ok lines) course old new = CourseLeadsTo course old new lines.items
 Goes (Err NoMemory) course old new = Unit {0}
 Goes (Err f) course old new = course ≡ Err f

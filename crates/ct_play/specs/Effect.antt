@@ -89,14 +89,14 @@ untold_of untold.WrongKind = what.WrongKind
 untold_of untold.NoMemory = what.Exhausted
 
 -- a command that prints changes nothing
-abbrev pub told : World → Result (List ℕ) TextFault → Result Effect What
-told w (Ok text) = Ok (record { world = w; texts = cut_after [] text; deeds = [] })
-told w (Err f) = Err (untold_of f)
+abbrev pub text_effect : World → Result (List ℕ) TextFault → Result Effect What
+text_effect w (Ok text) = Ok (record { world = w; texts = cut_after [] text; deeds = [] })
+text_effect w (Err f) = Err (untold_of f)
 
 -- it is refused as a step at a node that is not there, or is down
 abbrev pub shown : World → ℕ → Command → Option StepFault → Result Effect What
 shown w n command (Some f) = Err (what_of f)
-shown w n command None = told w (command_text w.config n (node_at n w.cluster) w.cluster.running w.cluster.able command)
+shown w n command None = text_effect w (command_text w.config n (node_at n w.cluster) w.cluster.running w.cluster.able command)
 
 -- a command that is a step, or prints
 abbrev pub commanded : Rules → World → ℕ → Command → Option Step → Result Effect What

@@ -23,10 +23,10 @@ abbrev pub config_of : Accepted → Config
 config_of p = record { nodes = or_one p.nodes; dbs = lock_db ∷ p.dbs; addresses = ascending p.addresses }
 
 -- the cluster of this configuration at its opening
-abbrev pub opened : Config → World
-opened c = record { config = c; cluster = opening c }
+abbrev pub world_opened : Config → World
+world_opened c = record { config = c; cluster = opening c }
 
 -- the cluster where a line that is none of the configuration's comes: the first such line opens it
 abbrev pub world_at : Accepted → Option World → World
-world_at p None = opened (config_of p)
+world_at p None = world_opened (config_of p)
 world_at p (Some w) = w

@@ -41,12 +41,12 @@ abbrev pub ended : Option What → Session → Run
 ended refusal s = record { text = []; deeds = []; count = 0; refusal = refusal; session = s }
 
 -- a run after what was printed and done before it, and some lines
-abbrev pub told : List ℕ → List Deed → ℕ → Run → Run
-told text deeds count r = record { text = text ++ r.text; deeds = deeds ++ r.deeds; count = count + r.count; refusal = r.refusal; session = r.session }
+abbrev pub preceded : List ℕ → List Deed → ℕ → Run → Run
+preceded text deeds count r = record { text = text ++ r.text; deeds = deeds ++ r.deeds; count = count + r.count; refusal = r.refusal; session = r.session }
 
 -- a run after one line, where later says how it goes on
 abbrev pub continued : Result Played What → Session → (Session → Run) → Run
-continued (Ok p) s later = told (all_text p.texts) p.deeds 1 (later p.session)
+continued (Ok p) s later = preceded (all_text p.texts) p.deeds 1 (later p.session)
 continued (Err what) s later = ended (Some what) s
 
 -- whole lines, one after the other

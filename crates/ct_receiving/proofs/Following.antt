@@ -13,7 +13,7 @@ use Rattle.ct_parcels.specs.Parcels.{bytes_of}
 use Rattle.ct_parcels.proofs.Joined.{fronts_join}
 use Rattle.ct_receiving.specs.declared.arrived.Arrived.{Arrived}
 use Rattle.ct_receiving.specs.Following.{AllArrive, AreFirst, AreWhole, BreaksAt, BrokenBreaks, FirstArrive, FirstLead, FirstStay, Follows, FollowsFirst, FollowsNext, WholeArrive, frames_from}
-use Rattle.ct_receiving.specs.Reading.{Reading, Reads, Takes, before_strange, broken_at, first_strange, is_ours, is_sound, or_strange, progress_of, strange_at, unread}
+use Rattle.ct_receiving.specs.Reading.{Reading, Reads, TakesPiece, before_strange, broken_at, first_strange, is_ours, is_sound, or_strange, progress_of, strange_at, unread}
 use Rattle.ct_wire.specs.declared.cursor.Cursor.{Cursor}
 use Rattle.ct_wire.specs.declared.cursor.Outcome.{Outcome}
 use Rattle.ct_wire.specs.declared.cursor.Outcome.TheVariants as outcome
@@ -122,10 +122,10 @@ none_kept me sender fs is = ap (before_strange me sender) (sym (append-nil fs)) 
 -- ---- the bytes of a sender, and a piece more of it
 
 reads_by : (me sender : ℕ) (bytes piece : List ℕ) (arrived : List Frame) (old new : Progress) (a : Arrived) (fs : List Frame) (o : Option ℕ) (p : Progress)
-    → first_strange me sender fs ≡ o → Completes (eaten start [] bytes) fs p → arrived ≡ before_strange me sender fs → old ≡ or_strange o p → Takes (Ok a) me sender piece old new
+    → first_strange me sender fs ≡ o → Completes (eaten start [] bytes) fs p → arrived ≡ before_strange me sender fs → old ≡ or_strange o p → TakesPiece (Ok a) me sender piece old new
     → Reads me sender (eaten start [] (bytes ++ piece)) (arrived ++ a.frames.items) new
 reads_by me sender bytes piece arrived old new a fs (Some offset) p is done kept at takes =
-    let stopped : Takes (Ok a) me sender piece (progress.Failed (fault.Malformed offset)) new = subst (λ (x : Progress). Takes (Ok a) me sender piece x new) at takes in
+    let stopped : TakesPiece (Ok a) me sender piece (progress.Failed (fault.Malformed offset)) new = subst (λ (x : Progress). TakesPiece (Ok a) me sender piece x new) at takes in
     let more = longer bytes piece fs p done in
     let same = strange_stays me sender offset fs more.0 is in (
       fs ++ more.0,
@@ -135,7 +135,7 @@ reads_by me sender bytes piece arrived old new a fs (Some offset) p is done kept
       stopped.4 ∙ ap (λ (x : Option ℕ). or_strange x more.1) (sym (same.1 ∙ is)),
     )
 reads_by me sender bytes piece arrived old new a fs None (progress.Amid s) is done kept at takes =
-    let goes : Takes (Ok a) me sender piece (progress.Amid s) new = subst (λ (x : Progress). Takes (Ok a) me sender piece x new) at takes in
+    let goes : TakesPiece (Ok a) me sender piece (progress.Amid s) new = subst (λ (x : Progress). TakesPiece (Ok a) me sender piece x new) at takes in
     let gs = goes.0.0 in
     let q = goes.0.1 in
     let both = none_strange me sender fs gs is in (
@@ -146,7 +146,7 @@ reads_by me sender bytes piece arrived old new a fs None (progress.Amid s) is do
       goes.0.4 ∙ ap (λ (x : Option ℕ). or_strange x q) (sym both.1),
     )
 reads_by me sender bytes piece arrived old new a fs None (progress.Failed f) is done kept at takes =
-    let stopped : Takes (Ok a) me sender piece (progress.Failed f) new = subst (λ (x : Progress). Takes (Ok a) me sender piece x new) at takes in (
+    let stopped : TakesPiece (Ok a) me sender piece (progress.Failed f) new = subst (λ (x : Progress). TakesPiece (Ok a) me sender piece x new) at takes in (
       fs,
       progress.Failed f,
       failed_stays bytes piece fs f done,
@@ -154,7 +154,7 @@ reads_by me sender bytes piece arrived old new a fs None (progress.Failed f) is 
       stopped.4 ∙ ap (λ (x : Option ℕ). or_strange x (progress.Failed f)) (sym is),
     )
 
-reads_next : (me sender : ℕ) (bytes piece : List ℕ) (arrived : List Frame) (old new : Progress) (a : Arrived) → Reads me sender (eaten start [] bytes) arrived old → Takes (Ok a) me sender piece old new
+reads_next : (me sender : ℕ) (bytes piece : List ℕ) (arrived : List Frame) (old new : Progress) (a : Arrived) → Reads me sender (eaten start [] bytes) arrived old → TakesPiece (Ok a) me sender piece old new
     → Reads me sender (eaten start [] (bytes ++ piece)) (arrived ++ a.frames.items) new
 reads_next me sender bytes piece arrived old new a h takes = reads_by me sender bytes piece arrived old new a h.0 (first_strange me sender h.0) h.1 refl h.2 h.3 h.4 takes
 
@@ -211,7 +211,7 @@ unfolding Follows eaten
 follows_first me sender = ([], unread, refl, refl, refl)
 
 own_next : (me sender : ℕ) (piece : List ℕ) (a : Arrived) (pieces : List Parcel) (arrived : List Frame) (old new : List Reading) → Reads me sender (eaten start [] (bytes_of sender pieces)) (frames_from sender arrived) (progress_of sender old)
-    → Takes (Ok a) me sender piece (progress_of sender old) (progress_of sender new) → list_all (is_sound me sender) a.frames.items ≡ true
+    → TakesPiece (Ok a) me sender piece (progress_of sender old) (progress_of sender new) → list_all (is_sound me sender) a.frames.items ≡ true
     → Reads me sender (eaten start [] (bytes_of sender (pieces ++ parcel sender piece ∷ []))) (frames_from sender (arrived ++ a.frames.items)) (progress_of sender new)
 own_next me sender piece a pieces arrived old new h takes sound =
     reads_same me sender (bytes_of sender pieces ++ piece) (bytes_of sender (pieces ++ parcel sender piece ∷ [])) (frames_from sender arrived ++ a.frames.items) (frames_from sender (arrived ++ a.frames.items)) (progress_of sender new) (progress_of sender new)

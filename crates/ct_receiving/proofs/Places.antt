@@ -4,7 +4,7 @@ use Rattle.std.proofs.lemmas.Bool.{eq-eqb, ne_eqb}
 use Rattle.std.proofs.lemmas.List.{get_or_default}
 use Rattle.ct_bytes.specs.declared.memory.NoMemory.{NoMemory}
 use Rattle.ct_receiving.specs.declared.arrived.Arrived.{Arrived}
-use Rattle.ct_receiving.specs.Reading.{Reading, Takes, NoneBefore, fresh, progress_of, unread}
+use Rattle.ct_receiving.specs.Reading.{Reading, TakesPiece, NoneBefore, fresh, progress_of, unread}
 use Rattle.ct_wire.specs.declared.decode.Progress.{Progress}
 
 passed_suc : (sender i : ℕ) (rs : List Reading) (r : Reading) → NoneBefore i sender rs → r ≡ get_or rs i r → r.sender ≢ sender → NoneBefore (suc i) sender rs
@@ -68,14 +68,14 @@ own_there sender i xs old lt found is = ap (λ (r : Reading). r.sender) (is ∙ 
 
 -- by the reading that the sender has
 pub takes_at : (r : Result Arrived NoMemory) (me sender : ℕ) (bytes : List ℕ) (i : ℕ) (xs : List Reading) (old new : Reading) → NoneBefore i sender xs → i < length xs → (get_or xs i (fresh sender)).sender ≡ sender → old ≡ get_or xs i old → new.sender ≡ old.sender
-    → Takes r me old.sender bytes old.progress new.progress → Takes r me sender bytes (progress_of sender xs) (progress_of sender (slice_set xs i new))
+    → TakesPiece r me old.sender bytes old.progress new.progress → TakesPiece r me sender bytes (progress_of sender xs) (progress_of sender (slice_set xs i new))
 takes_at r me sender bytes i xs old new p lt found is kept takes =
     let own : old.sender ≡ sender = own_there sender i xs old lt found is in
     let before : progress_of sender xs ≡ old.progress = own_at sender i xs (fresh sender) old p lt found ∙ ap (λ (x : Reading). x.progress) (sym is) in
     let after : progress_of sender (slice_set xs i new) ≡ new.progress = own_put sender i xs new p lt (kept ∙ own) in
-    subst (λ (x : Progress). Takes r me sender bytes (progress_of sender xs) x) (sym after)
-    (subst (λ (x : Progress). Takes r me sender bytes x new.progress) (sym before)
-    (subst (λ (n : ℕ). Takes r me n bytes old.progress new.progress) own takes))
+    subst (λ (x : Progress). TakesPiece r me sender bytes (progress_of sender xs) x) (sym after)
+    (subst (λ (x : Progress). TakesPiece r me sender bytes x new.progress) (sym before)
+    (subst (λ (n : ℕ). TakesPiece r me n bytes old.progress new.progress) own takes))
 
 pub others_at : (sender i : ℕ) (xs : List Reading) (old new : Reading) → i < length xs → (get_or xs i (fresh sender)).sender ≡ sender → old ≡ get_or xs i old → new.sender ≡ old.sender
     → (other : ℕ) → other ≢ sender → progress_of other (slice_set xs i new) ≡ progress_of other xs
@@ -83,14 +83,14 @@ others_at sender i xs old new lt found is kept other ne = others_put sender othe
 
 -- by a new reading
 pub takes_pushed : (r : Result Arrived NoMemory) (me sender : ℕ) (bytes : List ℕ) (i : ℕ) (xs ys : List Reading) (old new : Reading) → NoneBefore i sender xs → length xs ≤ i → old ≡ fresh sender → new.sender ≡ old.sender → ys ≡ xs ++ new ∷ []
-    → Takes r me old.sender bytes old.progress new.progress → Takes r me sender bytes (progress_of sender xs) (progress_of sender ys)
+    → TakesPiece r me old.sender bytes old.progress new.progress → TakesPiece r me sender bytes (progress_of sender xs) (progress_of sender ys)
 takes_pushed r me sender bytes i xs ys old new p le is kept put takes =
     let own : old.sender ≡ sender = ap (λ (x : Reading). x.sender) is in
     let before : progress_of sender xs ≡ old.progress = own_none sender i xs p le ∙ ap (λ (x : Reading). x.progress) (sym is) in
     let after : progress_of sender ys ≡ new.progress = ap (progress_of sender) put ∙ own_pushed sender i xs new p le (kept ∙ own) in
-    subst (λ (x : Progress). Takes r me sender bytes (progress_of sender xs) x) (sym after)
-    (subst (λ (x : Progress). Takes r me sender bytes x new.progress) (sym before)
-    (subst (λ (n : ℕ). Takes r me n bytes old.progress new.progress) own takes))
+    subst (λ (x : Progress). TakesPiece r me sender bytes (progress_of sender xs) x) (sym after)
+    (subst (λ (x : Progress). TakesPiece r me sender bytes x new.progress) (sym before)
+    (subst (λ (n : ℕ). TakesPiece r me n bytes old.progress new.progress) own takes))
 
 pub others_after : (sender : ℕ) (xs ys : List Reading) (old new : Reading) → old ≡ fresh sender → new.sender ≡ old.sender → ys ≡ xs ++ new ∷ [] → (other : ℕ) → other ≢ sender → progress_of other ys ≡ progress_of other xs
 others_after sender xs ys old new is kept put other ne = ap (progress_of other) put ∙ others_pushed sender other xs new ne (kept ∙ ap (λ (x : Reading). x.sender) is)

@@ -5,7 +5,7 @@ use Rattle.ct_frame.specs.declared.frame.Frame.{Frame}
 use Rattle.ct_outside.specs.Links.{Parcel, parcel}
 use Rattle.ct_parcels.specs.Parcels.{bytes_of}
 use Rattle.ct_receiving.specs.declared.arrived.Arrived.{Arrived}
-use Rattle.ct_receiving.specs.Reading.{Reading, Reads, Takes, broken_at, first_strange, is_sound, progress_of}
+use Rattle.ct_receiving.specs.Reading.{Reading, Reads, TakesPiece, broken_at, first_strange, is_sound, progress_of}
 use Rattle.ct_wire.specs.declared.decode.Progress.{Progress}
 use Rattle.ct_wire.specs.declared.decode.Progress.TheVariants as progress
 use Rattle.ct_wire.specs.declared.decode.WireFault.TheVariants as fault
@@ -31,7 +31,7 @@ abbrev pub FollowsNext : Type 0
 FollowsNext =
     (me sender : ℕ) (bytes : List ℕ) (a : Arrived) (pieces : List Parcel) (arrived : List Frame) (old new : List Reading)
     → Follows me pieces arrived old
-    → Takes (Ok a) me sender bytes (progress_of sender old) (progress_of sender new)
+    → TakesPiece (Ok a) me sender bytes (progress_of sender old) (progress_of sender new)
     → ((other : ℕ) → other ≢ sender → progress_of other new ≡ progress_of other old)
     → list_all (is_sound me sender) a.frames.items ≡ true
     → Follows me (pieces ++ parcel sender bytes ∷ []) (arrived ++ a.frames.items) new

@@ -80,10 +80,10 @@ ReadsOn (Err e) old bytes new = (new ≡ old) ⊎ (new ≡ progress.Failed fault
 
 -- A piece of a sender, by cases on the answer. Where its bytes have broken a rule, they stay so, and nothing arrives; else the
 -- frames that the piece completes arrive. Without memory the bytes are read as far as before, or no further ever.
-abbrev pub Takes : Result Arrived NoMemory → ℕ → ℕ → List ℕ → Progress → Progress → Type 0
-Takes (Ok a) me sender bytes (progress.Amid s) new = Reads me sender (eaten s.cursor s.raw bytes) a.frames.items new × (a.broken ≡ broken_at new)
-Takes (Ok a) me sender bytes (progress.Failed f) new = (offset : ℕ) × (f ≡ fault.Malformed offset) × (a.frames.items ≡ []) × (a.broken ≡ Some offset) × (new ≡ progress.Failed f)
-Takes (Err e) me sender bytes old new = (new ≡ old) ⊎ (new ≡ progress.Failed fault.NoMemory)
+abbrev pub TakesPiece : Result Arrived NoMemory → ℕ → ℕ → List ℕ → Progress → Progress → Type 0
+TakesPiece (Ok a) me sender bytes (progress.Amid s) new = Reads me sender (eaten s.cursor s.raw bytes) a.frames.items new × (a.broken ≡ broken_at new)
+TakesPiece (Ok a) me sender bytes (progress.Failed f) new = (offset : ℕ) × (f ≡ fault.Malformed offset) × (a.frames.items ≡ []) × (a.broken ≡ Some offset) × (new ≡ progress.Failed f)
+TakesPiece (Err e) me sender bytes old new = (new ≡ old) ⊎ (new ≡ progress.Failed fault.NoMemory)
 
 -- a frame that arrives keeps the rules of its fields, and names this node and its sender
 abbrev pub is_sound : ℕ → ℕ → Frame → Bool

@@ -1,7 +1,7 @@
 //! The bytes of each sender are read apart.
 ghost use Rattle.std.specs.Prelude.{◌≡◌, ◌≢◌, ◌↔◌, ◌<◌, [], ℕ, true, length, slice_index_or, IfOk, IsTrue};
 ghost use Rattle.std.specs.List.{list_all};
-ghost use Rattle.ct_receiving.specs.Reading.{before_strange, first_strange, is_ours, is_sound, progress_of, fresh, strange_at, NoneBefore, ReadsOn, Takes};
+ghost use Rattle.ct_receiving.specs.Reading.{before_strange, first_strange, is_ours, is_sound, progress_of, fresh, strange_at, NoneBefore, ReadsOn, TakesPiece};
 ghost use Rattle.ct_law_spelling.specs.Alone.{IsBytes};
 
 use crate::arrived::Arrived;
@@ -120,7 +120,7 @@ impl Reader {
 
     /// Takes the next piece.
     fn take(&mut self, alloc: Global, me: u32, bytes: &[u8]) -> Result<Arrived, NoMemory>
-        ensures takes { Takes result me self.old.sender bytes.now self.old.progress self.new.progress }
+        ensures takes { TakesPiece result me self.old.sender bytes.now self.old.progress self.new.progress }
         ensures sender { self.new.sender ≡ self.old.sender }
         ensures sound { IfOk result (λ a. list_all (is_sound me self.old.sender) a.frames.items ≡ true) }
     {
@@ -192,7 +192,7 @@ impl Readers {
         sender: u32,
         bytes: &[u8],
     ) -> Result<Arrived, NoMemory>
-        ensures takes { Takes result me sender bytes.now (progress_of sender self.old) (progress_of sender self.new) }
+        ensures takes { TakesPiece result me sender bytes.now (progress_of sender self.old) (progress_of sender self.new) }
         ensures others { (other : ℕ) → other ≢ sender → progress_of other self.new ≡ progress_of other self.old }
         ensures sound { IfOk result (λ a. list_all (is_sound me sender) a.frames.items ≡ true) }
     {

@@ -23,16 +23,16 @@ told_in (Freezing g leader) generation = phase.Freezing g
 told_in (Frozen g) generation = phase.Frozen g
 told_in Installed generation = phase.Installed generation
 
-abbrev pub told : Membership → Phase
-told m = told_in m.phase m.generation
+abbrev pub told_phase : Membership → Phase
+told_phase m = told_in m.phase m.generation
 
 -- in no generation, with this promise
 abbrev pub apart : ℕ → Membership
 apart promise = record { promise = promise; phase = Idle; generation = 0 }
 
 -- Opening: it serves in this generation, which it promised
-abbrev pub opened : ℕ → Membership
-opened generation = record { promise = generation; phase = Serving; generation = generation }
+abbrev pub opening_member : ℕ → Membership
+opening_member generation = record { promise = generation; phase = Serving; generation = generation }
 
 -- Freeze: above the promise it is followed, and a member that is Frozen for it acknowledges again
 abbrev pub freeze_step : ℕ → Membership → FreezeStep

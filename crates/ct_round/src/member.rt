@@ -1,7 +1,7 @@
 //! Where a member stands in its rounds.
 ghost use Rattle.std.specs.Prelude.{◌≡◌};
 ghost use Rattle.ct_rules_node.specs.Node as node;
-ghost use Rattle.ct_round.specs.Member.{after_freeze, after_locks, after_push, after_thaw, apart, freeze_step, is_thawed, opened, push_step, told, waits_for};
+ghost use Rattle.ct_round.specs.Member.{after_freeze, after_locks, after_push, after_thaw, apart, freeze_step, is_thawed, opening_member, push_step, told_phase, waits_for};
 ghost use Rattle.ct_round.specs.State.{phase_of};
 
 use ct_frame::round::Phase;
@@ -96,7 +96,7 @@ impl Member {
 
     /// It serves in this generation, which it promised.
     pub fn serving(generation: u64) -> Member
-        ensures { result ≡ opened generation }
+        ensures { result ≡ opening_member generation }
     {
         Member {
             promised: generation,
@@ -191,7 +191,7 @@ impl Member {
 
     /// Its phase, with the generation that it is of.
     pub fn phase(&self) -> Phase
-        ensures { result ≡ told self.now }
+        ensures { result ≡ told_phase self.now }
     {
         match self.state {
             State::Idle => Phase::Idle,

@@ -31,13 +31,13 @@ use Rattle.ct_rules_node.specs.Turn.{Turn}
 use Rattle.ct_turn.specs.declared.turn.CoreFault.{CoreFault}
 use Rattle.ct_queue.specs.Queues.{is_for}
 use Rattle.ct_law_cues.proofs.Following.{next_got}
-use Rattle.ct_seat.specs.Seats.{IsItem, IsSeatOf, Takes, TakesItem}
+use Rattle.ct_seat.specs.Seats.{IsItem, IsSeatOf, TakesEvent, TakesItem}
 use Rattle.ct_seat.specs.declared.seat.Seat.{Seat}
 
 -- ---- one event
 
 takes_by : (rules : Rules) (p : Plan) (n : ℕ) (e : Event) (rule : Option Turn) (u : Unit {0}) (old new : Seat) → IsSeatOf rules p n old → TakesNext (script_of p n) old.cue e → IsFed (Ok u) e rule old.node new.node →
-    ActsOn rules e old.node old.cue new.node new.cue → list_all (is_sound_out old.node.core.config old.node.core.pnn) (last_outs new.node.entries) ≡ true → Takes rules p n e old new
+    ActsOn rules e old.node old.cue new.node new.cue → list_all (is_sound_out old.node.core.config old.node.core.pnn) (last_outs new.node.entries) ≡ true → TakesEvent rules p n e old new
 takes_by rules p n e rule u old new seat next fed acts sound =
     let put : new.node.entries ≡ old.node.entries ++ record { event = e; outs = fed.0 } ∷ [] = ap (λ (x : Journalled). x.entries) fed.2 in
     let own : last_outs new.node.entries ≡ fed.0 = ap (λ (xs : List JournalEntry). last_outs xs) put ∙ put_last old.node.entries (record { event = e; outs = fed.0 }) in
@@ -53,24 +53,24 @@ takes_by rules p n e rule u old new seat next fed acts sound =
 
 -- whatever is answered
 takes_any : (rules : Rules) (p : Plan) (n : ℕ) (e : Event) (rule : Option Turn) (r : Result (Unit {0}) CoreFault) (old new : Seat) → IsSeatOf rules p n old → TakesNext (script_of p n) old.cue e → IsFed r e rule old.node new.node →
-    ActsOn rules e old.node old.cue new.node new.cue → OnOk r (list_all (is_sound_out old.node.core.config old.node.core.pnn) (last_outs new.node.entries) ≡ true) → OnOk r (Takes rules p n e old new)
+    ActsOn rules e old.node old.cue new.node new.cue → OnOk r (list_all (is_sound_out old.node.core.config old.node.core.pnn) (last_outs new.node.entries) ≡ true) → OnOk r (TakesEvent rules p n e old new)
 takes_any rules p n e rule (Ok u) old new seat next fed acts sound = takes_by rules p n e rule u old new seat next fed acts sound
 takes_any rules p n e rule (Err f) old new seat next fed acts sound = tt
 
 pub takes_message : (rules : Rules) (p : Plan) (n : ℕ) (f : Frame) (rule : Option Turn) (r : Result (Unit {0}) CoreFault) (old new : Seat) → IsSeatOf rules p n old → IsFed r (event.Arrive f) rule old.node new.node →
-    ActsOn rules (event.Arrive f) old.node old.cue new.node new.cue → OnOk r (list_all (is_sound_out old.node.core.config old.node.core.pnn) (last_outs new.node.entries) ≡ true) → OnOk r (Takes rules p n (event.Arrive f) old new)
+    ActsOn rules (event.Arrive f) old.node old.cue new.node new.cue → OnOk r (list_all (is_sound_out old.node.core.config old.node.core.pnn) (last_outs new.node.entries) ≡ true) → OnOk r (TakesEvent rules p n (event.Arrive f) old new)
 unfolding TakesNext
 takes_message rules p n f rule r old new seat fed acts sound = takes_any rules p n (event.Arrive f) rule r old new seat tt fed acts sound
 
 pub takes_call : (rules : Rules) (p : Plan) (n : ℕ) (o : ClientOp) (rule : Option Turn) (r : Result (Unit {0}) CoreFault) (old new : Seat) → IsSeatOf rules p n old → next_item (script_of p n) old.cue ≡ Some (Call o) →
     IsFed r (event.Client (old.cue.calls + 1) o) rule old.node new.node → ActsOn rules (event.Client (old.cue.calls + 1) o) old.node old.cue new.node new.cue →
-    OnOk r (list_all (is_sound_out old.node.core.config old.node.core.pnn) (last_outs new.node.entries) ≡ true) → OnOk r (Takes rules p n (event.Client (old.cue.calls + 1) o) old new)
+    OnOk r (list_all (is_sound_out old.node.core.config old.node.core.pnn) (last_outs new.node.entries) ≡ true) → OnOk r (TakesEvent rules p n (event.Client (old.cue.calls + 1) o) old new)
 unfolding TakesNext
 takes_call rules p n o rule r old new seat next fed acts sound = takes_any rules p n (event.Client (old.cue.calls + 1) o) rule r old new seat (refl, next) fed acts sound
 
 pub takes_round : (rules : Rules) (p : Plan) (n t : ℕ) (members : List ℕ) (rule : Option Turn) (r : Result (Unit {0}) CoreFault) (old new : Seat) → IsSeatOf rules p n old → next_item (script_of p n) old.cue ≡ Some (Round members) →
     IsFed r (event.BeginRound t members) rule old.node new.node → ActsOn rules (event.BeginRound t members) old.node old.cue new.node new.cue →
-    OnOk r (list_all (is_sound_out old.node.core.config old.node.core.pnn) (last_outs new.node.entries) ≡ true) → OnOk r (Takes rules p n (event.BeginRound t members) old new)
+    OnOk r (list_all (is_sound_out old.node.core.config old.node.core.pnn) (last_outs new.node.entries) ≡ true) → OnOk r (TakesEvent rules p n (event.BeginRound t members) old new)
 unfolding TakesNext
 takes_round rules p n t members rule r old new seat next fed acts sound = takes_any rules p n (event.BeginRound t members) rule r old new seat next fed acts sound
 
@@ -117,11 +117,11 @@ member p n cue members sound next =
 
 -- ---- the next item
 
-pub item_call : (rules : Rules) (p : Plan) (n last : ℕ) (o : ClientOp) (old new : Seat) → Takes rules p n (event.Client (old.cue.calls + 1) o) old new → TakesItem rules p n last true old new
+pub item_call : (rules : Rules) (p : Plan) (n last : ℕ) (o : ClientOp) (old new : Seat) → TakesEvent rules p n (event.Client (old.cue.calls + 1) o) old new → TakesItem rules p n last true old new
 unfolding IsItem
 item_call rules p n last o old new takes = (event.Client (old.cue.calls + 1) o, tt, takes)
 
-pub item_round : (rules : Rules) (p : Plan) (n last : ℕ) (members : List ℕ) (old new : Seat) → IsSound p → next_item (script_of p n) old.cue ≡ Some (Round members) → Takes rules p n (event.BeginRound (last + 1) members) old new →
+pub item_round : (rules : Rules) (p : Plan) (n last : ℕ) (members : List ℕ) (old new : Seat) → IsSound p → next_item (script_of p n) old.cue ≡ Some (Round members) → TakesEvent rules p n (event.BeginRound (last + 1) members) old new →
     TakesItem rules p n last true old new
 unfolding IsItem
 item_round rules p n last members old new sound next takes = (event.BeginRound (last + 1) members, (refl, member p n old.cue members sound next), takes)

@@ -20,7 +20,7 @@ pub record IsSeatOf (rules : Rules) (p : Plan) (n : ℕ) (s : Seat) : Type 0 whe
   pub acting : IsActing rules (script_of p n) [] s.node s.cue
 
 -- Turns: node n of the plan takes an event: its journal has one entry more, and what it does is sound
-pub record Takes (rules : Rules) (p : Plan) (n : ℕ) (e : Event) (old new : Seat) : Type 0 where
+pub record TakesEvent (rules : Rules) (p : Plan) (n : ℕ) (e : Event) (old new : Seat) : Type 0 where
   pub seat : IsSeatOf rules p n new
   pub outs : List Out
   pub put : new.node.entries ≡ old.node.entries ++ record { event = e; outs = outs } ∷ []
@@ -38,5 +38,5 @@ IsItem n last (event.BeginTakeover able) = ⊥
 
 -- Turns: node n of the plan takes its next item, or there is none to take, and then nothing is changed
 abbrev pub TakesItem : Rules → Plan → ℕ → ℕ → Bool → Seat → Seat → Type 0
-TakesItem rules p n last true old new = (e : Event) × IsItem n last e × Takes rules p n e old new
+TakesItem rules p n last true old new = (e : Event) × IsItem n last e × TakesEvent rules p n e old new
 TakesItem rules p n last false old new = (next_item (script_of p n) old.cue ≡ None) × (new ≡ old)

@@ -6,7 +6,7 @@ ghost use Rattle.ct_frame.specs.declared.event.Event.TheVariants as event;
 ghost use Rattle.ct_frame.specs.declared.plan.PlanItem.TheVariants as item;
 ghost use Rattle.ct_plan.specs.Sound.{IsSound, script_of};
 ghost use Rattle.ct_queue.specs.Queues.{is_for};
-ghost use Rattle.ct_seat.specs.Seats.{IsSeatOf, Takes, TakesItem};
+ghost use Rattle.ct_seat.specs.Seats.{IsSeatOf, TakesEvent, TakesItem};
 
 use ct_acting::acting::{arrive, take_call, take_round};
 use ct_bytes::copies::Duplicate;
@@ -49,7 +49,7 @@ impl Seat {
     ) -> Result<(), CoreFault>
         requires seat { IsSeatOf (rules_of table.now) plan.now node self.old }
         requires to { is_for node frame ≡ true }
-        ensures { OnOk result (Takes (rules_of table.now) plan.now node (event.Arrive frame) self.old self.new) }
+        ensures { OnOk result (TakesEvent (rules_of table.now) plan.now node (event.Arrive frame) self.old self.new) }
     {
         arrive(&mut self.node, table, &mut self.cue, frame)
     }
@@ -66,7 +66,7 @@ impl Seat {
         requires seat { IsSeatOf (rules_of table.now) plan.now node self.old }
         requires sound { IsSound plan.now }
         requires next { next_item (script_of plan.now node) self.old.cue ≡ Some (item.Call op) }
-        ensures { OnOk result (Takes (rules_of table.now) plan.now node (event.Client (self.old.cue.calls + 1) op) self.old self.new) }
+        ensures { OnOk result (TakesEvent (rules_of table.now) plan.now node (event.Client (self.old.cue.calls + 1) op) self.old self.new) }
     {
         take_call(&mut self.node, table, &mut self.cue, op)
     }
@@ -84,7 +84,7 @@ impl Seat {
         requires seat { IsSeatOf (rules_of table.now) plan.now node self.old }
         requires sound { IsSound plan.now }
         requires next { next_item (script_of plan.now node) self.old.cue ≡ Some (item.Round members) }
-        ensures { OnOk result (Takes (rules_of table.now) plan.now node (event.BeginRound ticket members) self.old self.new) }
+        ensures { OnOk result (TakesEvent (rules_of table.now) plan.now node (event.BeginRound ticket members) self.old self.new) }
     {
         take_round(&mut self.node, table, &mut self.cue, ticket, members)
     }

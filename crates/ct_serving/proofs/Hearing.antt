@@ -8,7 +8,7 @@ use Rattle.ct_outside.specs.Links.{Parcel, parcel}
 use Rattle.ct_parcels.specs.Parcels.{bytes_of}
 use Rattle.ct_receiving.specs.declared.arrived.Arrived.{Arrived}
 use Rattle.ct_receiving.specs.Following.{AreFirst, Follows, frames_from}
-use Rattle.ct_receiving.specs.Reading.{Reading, Takes, broken_at, is_sound, progress_of}
+use Rattle.ct_receiving.specs.Reading.{Reading, TakesPiece, broken_at, is_sound, progress_of}
 use Rattle.ct_receiving.proofs.Following.{all_arrive, broken_breaks, first_arrive, first_lead, first_stay, follows_first, follows_next}
 use Rattle.ct_serving.specs.Hearing.{AreForeign, Arrive, Hears, IsReadSoFar, IsReadTo}
 use Rattle.ct_serving.specs.Outside.{Heard, heard, heard_then}
@@ -48,14 +48,14 @@ arrive_last me h readings read = λ sender. all_arrive me sender h.taken h.arriv
 -- ---- a piece
 
 -- the fault that is answered is the one that stands
-broken_told : (a : Arrived) (me sender : ℕ) (bytes : List ℕ) (old new : Progress) → Takes (Ok a) me sender bytes old new → a.broken ≡ broken_at new
+broken_told : (a : Arrived) (me sender : ℕ) (bytes : List ℕ) (old new : Progress) → TakesPiece (Ok a) me sender bytes old new → a.broken ≡ broken_at new
 broken_told a me sender bytes (progress.Amid s) new takes = takes.1
 broken_told a me sender bytes (progress.Failed f) new takes =
     takes.3 ∙ sym (ap (λ (p : Progress). broken_at p) (takes.4 ∙ ap (λ (g : WireFault). progress.Failed g) takes.1))
 
 -- what a piece gives
 pub record Gives (me sender : ℕ) (bytes : List ℕ) (a : Arrived) (old new : List Reading) : Type 0 where
-  pub takes : Takes (Ok a) me sender bytes (progress_of sender old) (progress_of sender new)
+  pub takes : TakesPiece (Ok a) me sender bytes (progress_of sender old) (progress_of sender new)
   pub others : (other : ℕ) → other ≢ sender → progress_of other new ≡ progress_of other old
   pub sound : list_all (is_sound me sender) a.frames.items ≡ true
 

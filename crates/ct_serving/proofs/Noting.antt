@@ -9,7 +9,7 @@ use Rattle.ct_frame.specs.declared.frame.Frame.{Frame}
 use Rattle.ct_msg.specs.declared.client.ClientOp.{ClientOp}
 use Rattle.ct_node.specs.Journalled.{IsFed, Journalled, last_outs}
 use Rattle.ct_outside.specs.Links.{Parcel, Pieces, Receives}
-use Rattle.ct_outside.specs.Locks.{LockState, Takes}
+use Rattle.ct_outside.specs.Locks.{LockState, TakesLock}
 use Rattle.ct_outside.specs.Told.{Told}
 use Rattle.ct_outside.specs.declared.fault.LinkFault.{LinkFault}
 use Rattle.ct_outside.specs.declared.fault.TakeFault.TheVariants as take
@@ -86,24 +86,24 @@ step_ours f g me taken is = subst (λ (h : ServeFault). AreForeign (Some h) me t
 
 -- ---- tickets
 
-pub ticket_given : (ticket node : ℕ) (s t : Option LockState) → Told s t (Takes (Ok ticket) node) → Told s t (TakesTicket (Ok ticket) node)
-ticket_given ticket node s t h = told_so s t (Takes (Ok ticket) node) (TakesTicket (Ok ticket) node) (λ u v k. (k.1, ap (λ (l : LockState). l.last) k.3 ∙ sym k.1)) h
+pub ticket_given : (ticket node : ℕ) (s t : Option LockState) → Told s t (TakesLock (Ok ticket) node) → Told s t (TakesTicket (Ok ticket) node)
+ticket_given ticket node s t h = told_so s t (TakesLock (Ok ticket) node) (TakesTicket (Ok ticket) node) (λ u v k. (k.1, ap (λ (l : LockState). l.last) k.3 ∙ sym k.1)) h
 
-pub ticket_held : (holder last node : ℕ) (s t : Option LockState) → Told s t (Takes (Err (take.Held holder last)) node) → Told s t (TakesTicket (Err (fault.Held holder)) node)
+pub ticket_held : (holder last node : ℕ) (s t : Option LockState) → Told s t (TakesLock (Err (take.Held holder last)) node) → Told s t (TakesTicket (Err (fault.Held holder)) node)
 ticket_held holder last node s t h =
-    told_so s t (Takes (Err (take.Held holder last)) node) (TakesTicket (Err (fault.Held holder)) node)
+    told_so s t (TakesLock (Err (take.Held holder last)) node) (TakesTicket (Err (fault.Held holder)) node)
     (λ u v k. (ap (λ (l : LockState). l.last) k.3, λ rules x own. (ap (λ (l : LockState). l.holder) k.3 ∙ k.0, λ same. k.1 (same ∙ own)))) h
 
-pub tickets_out : (node : ℕ) (s t : Option LockState) → Told s t (Takes (Err take.Exhausted) node) → Told s t (TakesTicket (Err fault.Exhausted) node)
+pub tickets_out : (node : ℕ) (s t : Option LockState) → Told s t (TakesLock (Err take.Exhausted) node) → Told s t (TakesTicket (Err fault.Exhausted) node)
 tickets_out node s t h =
-    told_so s t (Takes (Err take.Exhausted) node) (TakesTicket (Err fault.Exhausted) node)
+    told_so s t (TakesLock (Err take.Exhausted) node) (TakesTicket (Err fault.Exhausted) node)
     (λ u v k. (ap (λ (l : LockState). l.last) k.2, λ rules x own. inl (ap (λ (l : LockState). l.last + 1) k.2 ∙ k.1))) h
 
-pub lock_fails : (node : ℕ) (s t : Option LockState) → Told s t (Takes (Err take.Failed) node) → Told s t (TakesTicket (Err fault.Link) node)
-lock_fails node s t h = told_so s t (Takes (Err take.Failed) node) (TakesTicket (Err fault.Link) node) (λ u v k. (ap (λ (l : LockState). l.last) k, λ rules x own. tt)) h
+pub lock_fails : (node : ℕ) (s t : Option LockState) → Told s t (TakesLock (Err take.Failed) node) → Told s t (TakesTicket (Err fault.Link) node)
+lock_fails node s t h = told_so s t (TakesLock (Err take.Failed) node) (TakesTicket (Err fault.Link) node) (λ u v k. (ap (λ (l : LockState). l.last) k, λ rules x own. tt)) h
 
-pub lock_wants : (node : ℕ) (s t : Option LockState) → Told s t (Takes (Err take.NoMemory) node) → Told s t (TakesTicket (Err fault.NoMemory) node)
-lock_wants node s t h = told_so s t (Takes (Err take.NoMemory) node) (TakesTicket (Err fault.NoMemory) node) (λ u v k. (ap (λ (l : LockState). l.last) k, λ rules x own. tt)) h
+pub lock_wants : (node : ℕ) (s t : Option LockState) → Told s t (TakesLock (Err take.NoMemory) node) → Told s t (TakesTicket (Err fault.NoMemory) node)
+lock_wants node s t h = told_so s t (TakesLock (Err take.NoMemory) node) (TakesTicket (Err fault.NoMemory) node) (λ u v k. (ap (λ (l : LockState). l.last) k, λ rules x own. tt)) h
 
 -- the lock stays
 pub lock_same : (g : ServeFault) (s : Option LockState) → Told s s (GivesTickets (Some g) [])

@@ -6,7 +6,7 @@ use Rattle.ct_cluster.specs.declared.step.Step.TheVariants as step
 use Rattle.ct_cluster.specs.declared.step.StepFault.{StepFault}
 use Rattle.ct_mail.specs.Mail.{next_waiting}
 use Rattle.ct_soak_run.specs.Counts.{is_taken}
-use Rattle.ct_soak_run.specs.Soaking.{Soaked, after, came, comes, settled, soak_config, took}
+use Rattle.ct_soak_run.specs.Soaking.{Soaked, after, came, comes_or_skips, settled, soak_config, took}
 
 came_on : (s : Soaked) (r : Result Stepped StepFault) (later : Soaked → Soaked) → is_taken r ≡ true → came s r later ≡ later (after s r)
 came_on s (Ok x) later e = refl
@@ -20,19 +20,19 @@ came_out s (Err f) later e = refl
 pub settles_on : (rules : Rules) (m : ℕ) (s : Soaked) (k : ℕ) → next_waiting s.cluster.sent ≡ Some k → is_taken (applied soak_config rules s.cluster (step.Deliver k)) ≡ true
     → settled rules (suc m) s ≡ settled rules m (took rules s (step.Deliver k))
 unfolding settled
-settles_on rules m s k e t = ap (λ (o : Option ℕ). comes rules s o (settled rules m)) e ∙ came_on s (applied soak_config rules s.cluster (step.Deliver k)) (settled rules m) t
+settles_on rules m s k e t = ap (λ (o : Option ℕ). comes_or_skips rules s o (settled rules m)) e ∙ came_on s (applied soak_config rules s.cluster (step.Deliver k)) (settled rules m) t
 
 -- a message was refused
 pub settles_out : (rules : Rules) (m : ℕ) (s : Soaked) (k : ℕ) → next_waiting s.cluster.sent ≡ Some k → is_taken (applied soak_config rules s.cluster (step.Deliver k)) ≡ false
     → settled rules (suc m) s ≡ took rules s (step.Deliver k)
 unfolding settled
-settles_out rules m s k e t = ap (λ (o : Option ℕ). comes rules s o (settled rules m)) e ∙ came_out s (applied soak_config rules s.cluster (step.Deliver k)) (settled rules m) t
+settles_out rules m s k e t = ap (λ (o : Option ℕ). comes_or_skips rules s o (settled rules m)) e ∙ came_out s (applied soak_config rules s.cluster (step.Deliver k)) (settled rules m) t
 
 -- none waits
 pub settles_none : (rules : Rules) (m : ℕ) (s : Soaked) → next_waiting s.cluster.sent ≡ None → settled rules m s ≡ s
 unfolding settled
 settles_none rules zero s e = refl
-settles_none rules (suc m) s e = ap (λ (o : Option ℕ). comes rules s o (settled rules m)) e
+settles_none rules (suc m) s e = ap (λ (o : Option ℕ). comes_or_skips rules s o (settled rules m)) e
 
 -- ---- in a loop
 

@@ -49,15 +49,15 @@ abbrev pub came : Soaked → Result Stepped StepFault → (Soaked → Soaked) �
 came s (Ok x) later = later (record { cluster = x.cluster; skipped = s.skipped })
 came s (Err f) later = skip s
 
-abbrev pub comes : Rules → Soaked → Option ℕ → (Soaked → Soaked) → Soaked
-comes rules s None later = s
-comes rules s (Some k) later = came s (applied soak_config rules s.cluster (step.Deliver k)) later
+abbrev pub comes_or_skips : Rules → Soaked → Option ℕ → (Soaked → Soaked) → Soaked
+comes_or_skips rules s None later = s
+comes_or_skips rules s (Some k) later = came s (applied soak_config rules s.cluster (step.Deliver k)) later
 
 -- So many deliveries of the least message that waits, one after the other; fewer where none waits. They are one step: where a
 -- delivery is refused it is skipped, and those before it stand.
 unfoldable pub settled : Rules → ℕ → Soaked → Soaked
 settled rules zero s = s
-settled rules (suc m) s = comes rules s (next_waiting s.cluster.sent) (λ t. settled rules m t)
+settled rules (suc m) s = comes_or_skips rules s (next_waiting s.cluster.sent) (λ t. settled rules m t)
 
 -- a command that is a step; one that prints does nothing
 abbrev pub commanded : Rules → Soaked → Option Step → Soaked

@@ -1,5 +1,5 @@
 //! The steps of a soak, one after the other, and what is counted of them.
-ghost use Rattle.std.specs.Prelude.{◌≡◌, ◌≤◌, ◌<◌, ◌+◌, ◌^◌, None, true, IfOk, OnOk};
+ghost use Rattle.std.specs.Prelude.{◌≡◌, ◌≤◌, ◌<◌, ◌+◌, ◌^◌, true, IfOk, OnOk};
 ghost use Rattle.ct_call.specs.Shown.{rules_of};
 ghost use Rattle.ct_cluster.specs.Faults.{is_allowed};
 ghost use Rattle.ct_cluster.specs.Steps.{applied};

@@ -1,19 +1,17 @@
 -- Addresses in their places: with some left out, with more, and those that a placement gives to a node.
-use Rattle.std.proofs.Common.{◌≡◌, ◌+◌, ◌==◌, ℕ, Bool, true, false, cond, not, ◌&&◌, ◌||◌, List, [], ◌∷◌, Option, None, Some, refl, sym, ◌∙◌, ap, subst, add-one, arith}
+use Rattle.std.proofs.Common.{◌≡◌, ◌+◌, ℕ, Bool, true, false, cond, not, ◌&&◌, ◌||◌, List, [], ◌∷◌, Option, None, Some, refl, sym, ◌∙◌, ap, subst, add-one}
 use Rattle.std.specs.Prelude.{if◌then◌else◌}
 use Rattle.std.specs.List.{AllByRecursion, filter, insert, list_any}
 use Rattle.std.specs.List.Sorted.{IsStrictlySortedBy}
-use Rattle.std.specs.Ordering.{is_lt, nat_cmp}
-use Rattle.std.specs.declared.cmp.Ordering.{Ordering}
-use Rattle.std.specs.declared.cmp.Ordering.TheVariants.{Less, Equal, Greater}
+use Rattle.std.specs.declared.cmp.Ordering.TheVariants.{Less}
 use Rattle.std.proofs.lemmas.Bool.{and_parts}
-use Rattle.std.proofs.lemmas.Bool.Decides.{nat_tests}
 use Rattle.std.proofs.lemmas.List.Kept.{IsStrictlySortedBy-filter}
 use Rattle.ct_bytes.specs.Words.{is_this_node}
 use Rattle.ct_bytes.specs.Address.{address_cmp, same_address, address_before}
 use Rattle.ct_bytes.specs.declared.address.Address.{Address}
 use Rattle.ct_bytes.specs.declared.address.Address.TheVariants.{V4, V6}
 use Rattle.ct_bytes.proofs.AddressOrder.{address_total, address_is, less_differs, same_flips}
+use Rattle.ct_bytes.proofs.Orders.{less_is, is_less, number_rises}
 use Rattle.ct_frame.specs.Fields.{ascends, ascends_after, assigned_before}
 use Rattle.ct_frame.specs.declared.frame.Assigned.{Assigned}
 use Rattle.ct_rules_node.specs.Node.{holder_in}
@@ -22,14 +20,6 @@ use Rattle.ct_rules_node.specs.Takeovers.{has_address, held_with, share}
 use Rattle.ct_takeover.specs.Held.{before, held_with_all, kept, left_out}
 
 -- ---- the order
-
-is_less : (o : Ordering) → o ≡ Less → is_lt o ≡ true
-is_less o e = ap is_lt e
-
-less : (o : Ordering) → is_lt o ≡ true → o ≡ Less
-less Less h = refl
-less Equal h = absurd (cc)
-less Greater h = absurd (cc)
 
 both : (a b : Bool) → a ≡ true → b ≡ true → (a && b) ≡ true
 both true b p q = q
@@ -46,7 +36,7 @@ above_higher a b (c ∷ cs) l all = (address_total.trans a b c l all.0, above_hi
 sorted_on : (a : Address) (bs : List Address) → ascends_after address_before a bs ≡ true → Above a bs × IsStrictlySortedBy address_cmp bs
 unfolding IsStrictlySortedBy
 sorted_on a [] e = (tt, tt)
-sorted_on a (b ∷ bs) e = (let p = and_parts _ _ e in let l = less (address_cmp a b) p.0 in let s = sorted_on b bs p.1 in ((l, above_higher a b bs l s.0), s))
+sorted_on a (b ∷ bs) e = (let p = and_parts _ _ e in let l = is_less (address_cmp a b) p.0 in let s = sorted_on b bs p.1 in ((l, above_higher a b bs l s.0), s))
 
 sorted_so : (bs : List Address) → ascends address_before bs ≡ true → IsStrictlySortedBy address_cmp bs
 unfolding IsStrictlySortedBy
@@ -56,15 +46,12 @@ sorted_so (b ∷ bs) e = sorted_on b bs e
 ascends_on : (a : Address) (bs : List Address) → Above a bs → IsStrictlySortedBy address_cmp bs → ascends_after address_before a bs ≡ true
 unfolding IsStrictlySortedBy
 ascends_on a [] l s = refl
-ascends_on a (b ∷ bs) l s = both _ _ (is_less (address_cmp a b) l.0) (ascends_on b bs s.0 s.1)
+ascends_on a (b ∷ bs) l s = both _ _ (less_is (address_cmp a b) l.0) (ascends_on b bs s.0 s.1)
 
 ascends_so : (bs : List Address) → IsStrictlySortedBy address_cmp bs → ascends address_before bs ≡ true
 unfolding IsStrictlySortedBy
 ascends_so [] s = refl
 ascends_so (b ∷ bs) s = ascends_on b bs s.0 s.1
-
-number_rises : (m n : ℕ) → is_lt (nat_cmp n m) ≡ false → (m == n) ≡ false → nat_cmp m n ≡ Less
-number_rises m n l e = grind (arith, nat_tests)
 
 -- an address that does not come after another and is not the same comes before it
 rises : (a b : Address) → address_before b a ≡ false → same_address a b ≡ false → address_cmp a b ≡ Less
@@ -113,7 +100,7 @@ sorted_with a [] new s = (tt, tt)
 sorted_with a (b ∷ bs) new s = (let p = neither (same_address a b) (list_any (same_address a) bs) new in by (address_before b a) refl p.0 (sorted_with a bs p.1 s.1))
   where
     by : (t : Bool) → address_before b a ≡ t → same_address a b ≡ false → IsStrictlySortedBy address_cmp (held_with a bs) → IsStrictlySortedBy address_cmp (if t then b ∷ held_with a bs else a ∷ b ∷ bs)
-    by true e n r = (all_with (λ c. address_cmp b c ≡ Less) a bs (less (address_cmp b a) e) s.0, r)
+    by true e n r = (all_with (λ c. address_cmp b c ≡ Less) a bs (is_less (address_cmp b a) e) s.0, r)
     by false e n r = (let l = rises a b e n in ((l, above_higher a b bs l s.0), s))
 
 has_not : (x a : Address) (bs : List Address) → same_address x a ≡ false → has_address bs x ≡ false → has_address (held_with a bs) x ≡ false
@@ -169,7 +156,7 @@ InOrder (x ∷ xs) = AllAbove x.address xs × InOrder xs
 
 order_on : (y : Assigned) (xs : List Assigned) → ascends_after assigned_before y xs ≡ true → AllAbove y.address xs × InOrder xs
 order_on y [] e = (tt, tt)
-order_on y (x ∷ xs) e = (let p = and_parts _ _ e in let l = less (address_cmp y.address x.address) p.0 in let s = order_on x xs p.1 in ((l, all_above y.address x.address xs l s.0), s))
+order_on y (x ∷ xs) e = (let p = and_parts _ _ e in let l = is_less (address_cmp y.address x.address) p.0 in let s = order_on x xs p.1 in ((l, all_above y.address x.address xs l s.0), s))
 
 in_order : (xs : List Assigned) → ascends assigned_before xs ≡ true → InOrder xs
 in_order [] e = tt

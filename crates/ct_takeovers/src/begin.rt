@@ -16,6 +16,7 @@ use ct_frame::event::Out;
 use ct_frame::frame::Assigned;
 use ct_frame::header::LIMIT;
 use ct_lcp2::placement::{Addresses, place};
+use ct_lead::runs::is_among;
 use ct_msg::config::Config;
 use ct_node_state::node::Node;
 use ct_node_state::phases::is_serving;
@@ -33,14 +34,6 @@ fn nothing(node: &Node) -> Planned
         change: Change::Nothing,
         outs: Items::empty(node.alloc),
     }
-}
-
-/// Is the node in the list?
-#[tactic(auto, unfolding(ct_rules_node::specs::Node::is_among))]
-fn is_among(node: u32, nodes: &[u32]) -> bool
-    ensures { result ≡ is_among node nodes.now }
-{
-    nodes.iter().any(|n| node == *n)
 }
 
 /// Those of these nodes that are members.

@@ -6,15 +6,14 @@ use Rattle.ct_call.specs.Rules.{Rules}
 use Rattle.ct_cue.specs.Cues.{IsScripted}
 use Rattle.ct_frame.specs.declared.plan.Plan.{Plan}
 use Rattle.ct_frame.specs.declared.plan.PlanItem.{PlanItem}
-use Rattle.ct_journal.specs.Runs.{RunsTo}
 use Rattle.ct_journal.specs.declared.journal.Journal.{Journal}
 use Rattle.ct_journal.specs.declared.journal.JournalEntry.{JournalEntry}
 use Rattle.ct_law_cues.specs.Following.{Follows}
 use Rattle.ct_law_cues.proofs.Following.{ends_scripted}
-use Rattle.ct_msg.specs.declared.config.Config.{Config}
-use Rattle.ct_node.specs.Journalled.{IsRunBy, Journalled, at_opening}
+use Rattle.ct_node.specs.Journalled.{Journalled, at_opening}
 use Rattle.ct_node_form.specs.Whole.{HasLimits}
 use Rattle.ct_node_form.proofs.Whole.{configs_have_limits}
+use Rattle.ct_node.proofs.Running.{run_of}
 use Rattle.ct_plan.specs.Sound.{IsSound, may_be_told, script_of}
 use Rattle.ct_serving.specs.Serving.{HasActed}
 use Rattle.ct_serving.specs.declared.fault.Served.{Served}
@@ -27,10 +26,6 @@ pub may_serve : (p : Plan) (n : ℕ) (x : Journalled) (script : List PlanItem) �
 may_serve p n x script sound at is =
     subst (λ (y : Journalled). list_all (may_be_told y.core.config y.core.pnn) script ≡ true) (sym at)
     (subst (λ (s : List PlanItem). list_all (may_be_told p.config n) s ≡ true) (sym is) (sound.told n))
-
-run_of : (rules : Rules) (c : Config) (x : Journalled) → x.core.config ≡ c → IsRunBy rules x → RunsTo c rules (record { node = x.core.pnn; entries = x.entries }) x.core.node
-unfolding IsRunBy
-run_of rules c x is run = subst (λ (d : Config). RunsTo d rules (record { node = x.core.pnn; entries = x.entries }) x.core.node) is run
 
 follows_all : (rules : Rules) (script : List PlanItem) (served : Served) (x : Journalled) → (h : HasActed rules script [] (Ok served) x) → Follows script [] x.entries h.cue
 follows_all rules script served x h = subst (λ (xs : List JournalEntry). Follows script [] xs h.cue) (sym h.acting.all) h.acting.follows

@@ -2,7 +2,7 @@
 use Rattle.std.proofs.Common.{◌≡◌, ◌∙◌, ℕ, zero, suc, ◌<◌, ◌≤◌, ◌^◌, ⊎_elim, inl, List, [], ◌∷◌, length, map, Option, None, Some, refl, sym, ap, subst, arith}
 use Rattle.std.proofs.lemmas.Bool.{cases_lt}
 use Rattle.std.proofs.lemmas.List.{length-map}
-use Rattle.std.proofs.lemmas.Option.{same_Some, slice_get_past}
+use Rattle.std.proofs.lemmas.Option.{same_Some}
 use Rattle.std.specs.Prelude.{IfOk, IfSome, Result, slice_get}
 use Rattle.ct_bytes.specs.declared.memory.NoMemory.{NoMemory}
 use Rattle.ct_call.specs.Rules.{Rules}
@@ -12,10 +12,12 @@ use Rattle.ct_frame.specs.declared.plan.PlanItem.{PlanItem}
 use Rattle.ct_journal.specs.Order.{AreInOrder, entries_of, or_no_entries}
 use Rattle.ct_journal.specs.declared.journal.Journal.{Journal}
 use Rattle.ct_journal.specs.declared.journal.JournalEntry.{JournalEntry}
+use Rattle.ct_journal.proofs.Ends.{no_entries_past}
 use Rattle.ct_law_scheduled.specs.Laws.{AreRuns}
-use Rattle.ct_plan.specs.Sound.{IsSound, or_no_items, script_of}
+use Rattle.ct_plan.specs.Sound.{IsSound, script_of}
 use Rattle.ct_threaded.specs.Threaded.{HasServed, served}
 use Rattle.ct_troupe.specs.Played.{ArePlayed}
+use Rattle.ct_plan.proofs.Soundness.{no_script_past}
 use Rattle.ct_law_scheduled.proofs.Scheduled.{has_entries}
 
 -- what each node leaves is the journal of a node that served, where it is one
@@ -36,14 +38,6 @@ count_served all js is = ap (λ (rs : List (Result (Option Journal) NoMemory)). 
 own_entries : (js : List Journal) (n : ℕ) (j : Journal) → slice_get js n ≡ Some j → entries_of js n ≡ j.entries
 unfolding entries_of or_no_entries
 own_entries js n j e = ap (λ (o : Option Journal). or_no_entries o) e
-
-no_entries_past : (js : List Journal) (n : ℕ) → length js ≤ n → entries_of js n ≡ []
-unfolding entries_of or_no_entries
-no_entries_past js n l = ap (λ (o : Option Journal). or_no_entries o) (slice_get_past js n l)
-
-no_script_past : (p : Plan) (n : ℕ) → length p.scripts ≤ n → script_of p n ≡ []
-unfolding script_of or_no_items
-no_script_past p n l = ap (λ (o : Option (List PlanItem)). or_no_items o) (slice_get_past p.scripts n l)
 
 no_script : IsScripted [] []
 unfolding items_in

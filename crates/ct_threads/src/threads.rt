@@ -32,14 +32,14 @@ pub struct Threads<R, G> {
 impl<R, G> Model for Threads<R, G> {
     ghost use Rattle.std.specs.Prelude.{List};
     ghost use Rattle.ct_journal.specs.declared.journal.Journal.{Journal as Told};
-    ghost use Rattle.ct_threads.specs.Threads.{told};
+    ghost use Rattle.ct_threads.specs.Threads.{told_journals};
     ghost use Rattle.ct_turns.specs.Stages.{AllHaveArrived};
 
     ghost Value = { List Told };
 
-    ghost view = { λ a. told a.again a.turns.journals a.own };
+    ghost view = { λ a. told_journals a.again a.turns.journals a.own };
 
-    ghost invariant = { λ a. AllHaveArrived (told a.again a.turns.journals a.own) };
+    ghost invariant = { λ a. AllHaveArrived (told_journals a.again a.turns.journals a.own) };
 }
 
 impl<R: Drop, G: Drop> Threads<R, G> {

@@ -11,7 +11,6 @@ use Rattle.ct_frame.specs.declared.frame.Frame.{Frame}
 use Rattle.ct_frame.specs.declared.plan.Plan.{Plan}
 use Rattle.ct_frame.specs.declared.plan.PlanItem.{PlanItem}
 use Rattle.ct_journal.specs.Order.{AreInOrder, all_entries, count_arrived, count_sent, entries_of, numbers_of_calls, or_no_entries}
-use Rattle.ct_journal.specs.Runs.{RunsTo}
 use Rattle.ct_journal.specs.declared.journal.Journal.{Journal}
 use Rattle.ct_journal.specs.declared.journal.JournalEntry.{JournalEntry}
 use Rattle.ct_law_cues.specs.Following.{Follows}
@@ -19,13 +18,14 @@ use Rattle.ct_law_cues.proofs.Following.{ends_scripted, follows_rising}
 use Rattle.ct_law_growing.specs.Growing.{or_no_frames, queue_at}
 use Rattle.ct_law_growing.proofs.Growth.{all_arrives, grows_in_order}
 use Rattle.ct_law_scheduled.specs.Laws.{AreRuns, IsRunOf}
-use Rattle.ct_msg.specs.declared.config.Config.{Config}
-use Rattle.ct_node.specs.Journalled.{IsRunBy, Journalled}
-use Rattle.ct_plan.specs.Sound.{IsSound, or_no_items, script_of}
+use Rattle.ct_journal.proofs.Ends.{no_entries_past}
+use Rattle.ct_node.proofs.Running.{run_of}
+use Rattle.ct_plan.specs.Sound.{IsSound, script_of}
 use Rattle.ct_troupe.specs.Played.{ArePlayed}
 use Rattle.ct_seat.specs.Seats.{IsSeatOf}
 use Rattle.ct_turns.specs.Stages.{AllHaveArrived, IsAtRest, IsPlaying, Rests, Staged, journal_of, journals_of}
 use Rattle.ct_seat.specs.declared.seat.Seat.{Seat}
+use Rattle.ct_plan.proofs.Soundness.{no_script_past}
 use Rattle.ct_turns.proofs.Staging.{got_some}
 
 -- ---- nodes and their journals
@@ -41,23 +41,11 @@ seat_entries [] n x e = absurd (cc)
 seat_entries (s ∷ ss) zero x e = ap (λ (y : Seat). y.node.entries) (same_Some s x e)
 seat_entries (s ∷ ss) (suc n) x e = seat_entries ss n x e
 
-no_entries_past : (js : List Journal) (n : ℕ) → length js ≤ n → entries_of js n ≡ []
-unfolding entries_of or_no_entries
-no_entries_past js n l = ap (λ (o : Option Journal). or_no_entries o) (slice_get_past js n l)
-
 no_queue_past : (qs : List (List Frame)) (n : ℕ) → length qs ≤ n → queue_at qs n ≡ []
 unfolding queue_at or_no_frames
 no_queue_past qs n l = ap (λ (o : Option (List Frame)). or_no_frames o) (slice_get_past qs n l)
 
-no_script_past : (p : Plan) (n : ℕ) → length p.scripts ≤ n → script_of p n ≡ []
-unfolding script_of or_no_items
-no_script_past p n l = ap (λ (o : Option (List PlanItem)). or_no_items o) (slice_get_past p.scripts n l)
-
 -- ---- runs
-
-run_of : (rules : Rules) (c : Config) (x : Journalled) → x.core.config ≡ c → IsRunBy rules x → RunsTo c rules (record { node = x.core.pnn; entries = x.entries }) x.core.node
-unfolding IsRunBy
-run_of rules c x is run = subst (λ (d : Config). RunsTo d rules (record { node = x.core.pnn; entries = x.entries }) x.core.node) is run
 
 seat_runs : (rules : Rules) (p : Plan) (n : ℕ) (x : Seat) → IsSeatOf rules p n x → IsRunOf p.config rules n (journal_of x)
 seat_runs rules p n x h = record { node = h.own; end = x.node.core.node; runs = run_of rules p.config x.node h.config h.acting.run }

@@ -29,7 +29,7 @@ use Rattle.ct_node_form.specs.Whole.{HasLimits}
 use Rattle.ct_node_form.proofs.Whole.{configs_have_limits}
 use Rattle.ct_plan.specs.Sound.{IsSound, script_of}
 use Rattle.ct_queue.specs.Queues.{TakesOff, is_for}
-use Rattle.ct_seat.specs.Seats.{IsItem, IsSeatOf, Takes, TakesItem}
+use Rattle.ct_seat.specs.Seats.{IsItem, IsSeatOf, TakesEvent, TakesItem}
 use Rattle.ct_turns.specs.Stages.{IsAtRest, IsNoted, IsPlaying, Passes, Rests, Staged, TakesOne, TakesSome, Turns, journal_of, journals_of}
 use Rattle.ct_seat.specs.declared.seat.Seat.{Seat}
 use Rattle.ct_queue.proofs.Waiting.{own_frames, waits_posted, waits_taken}
@@ -154,7 +154,7 @@ unfolding MayFollow ticket_after
 ticket_next n last (event.BeginRound t members) qs may = (let e = may.0 in omega arith)
 ticket_next n last _ qs may = omega arith
 
-module _ (rules : Rules) (p : Plan) (n : ℕ) (e : Event) (s : Staged) (old new : Seat) (playing : IsPlaying rules p s) (at : slice_get s.seats n ≡ Some old) (takes : Takes rules p n e old new) (may : MayFollow n s.ticket s.queues e) where
+module _ (rules : Rules) (p : Plan) (n : ℕ) (e : Event) (s : Staged) (old new : Seat) (playing : IsPlaying rules p s) (at : slice_get s.seats n ≡ Some old) (takes : TakesEvent rules p n e old new) (may : MayFollow n s.ticket s.queues e) where
   abbrev pub entry : JournalEntry
   entry = record { event = e; outs = takes.outs }
 
@@ -221,7 +221,7 @@ module _ (rules : Rules) (p : Plan) (n : ℕ) (e : Event) (s : Staged) (old new 
 pub first_for : (n : ℕ) (f : Frame) (old new : List (List Frame)) → TakesOff n (Some f) old new → list_all (is_for n) (queue_at old n) ≡ true → is_for n f ≡ true
 first_for n f old new off h = (and_parts (is_for n f) (list_all (is_for n) (drop 1 (queue_at old n))) (sym (ap (λ (q : List Frame). list_all (is_for n) q) off.0) ∙ h)).0
 
-pub one_message : (rules : Rules) (p : Plan) (n : ℕ) (f : Frame) (s t : Staged) (old new : Seat) → slice_get s.seats n ≡ Some old → Takes rules p n (event.Arrive f) old new → TakesOff n (Some f) s.queues t.queues →
+pub one_message : (rules : Rules) (p : Plan) (n : ℕ) (f : Frame) (s t : Staged) (old new : Seat) → slice_get s.seats n ≡ Some old → TakesEvent rules p n (event.Arrive f) old new → TakesOff n (Some f) s.queues t.queues →
     t.seats ≡ set s.seats n new → t.ticket ≡ s.ticket → t.count ≡ s.count → TakesOne rules p n s t
 unfolding MayFollow taken_off
 one_message rules p n f s t old new at takes off seats ticket count = record {

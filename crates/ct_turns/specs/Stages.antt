@@ -13,7 +13,7 @@ use Rattle.ct_law_growing.specs.Growing.{IsUnderWay, MayFollow, posted, queue_at
 use Rattle.ct_order.specs.Order.{left_over}
 use Rattle.ct_plan.specs.Sound.{script_of}
 use Rattle.ct_queue.specs.Queues.{is_for}
-use Rattle.ct_seat.specs.Seats.{IsSeatOf, Takes}
+use Rattle.ct_seat.specs.Seats.{IsSeatOf, TakesEvent}
 use Rattle.ct_seat.specs.declared.seat.Seat.{Seat}
 use Rattle.ct_turns.specs.declared.stage.Stage.{Stage}
 
@@ -63,7 +63,7 @@ pub record TakesOne (rules : Rules) (p : Plan) (n : ℕ) (old new : Staged) : Ty
   pub before : Seat
   pub after : Seat
   pub at : slice_get old.seats n ≡ Some before
-  pub takes : Takes rules p n event before after
+  pub takes : TakesEvent rules p n event before after
   pub follows : MayFollow n old.ticket old.queues event
   pub seats : new.seats ≡ slice_set old.seats n after
   pub queues : new.queues ≡ taken_off n event old.queues

@@ -36,14 +36,14 @@ eaten c raw (b ∷ bytes) =
     else after_field (field_read c (raw ++ b ∷ [])) bytes (λ next. eaten next [] bytes)
 
 -- a frame and its length, or why there is none
-abbrev pub told : End → Result (Frame × ℕ) WireFault
-told (Waits spot) = Err fault.Short
-told (Ends f n rest) = Ok (f, n)
-told (Breaks offset) = Err (fault.Malformed offset)
+abbrev pub frame_or_fault : End → Result (Frame × ℕ) WireFault
+frame_or_fault (Waits spot) = Err fault.Short
+frame_or_fault (Ends f n rest) = Ok (f, n)
+frame_or_fault (Breaks offset) = Err (fault.Malformed offset)
 
 -- the frame at the front of these bytes
 abbrev pub decoded : List ℕ → Result (Frame × ℕ) WireFault
-decoded bytes = told (eaten start [] bytes)
+decoded bytes = frame_or_fault (eaten start [] bytes)
 
 -- what a call answers, unless memory ran out
 abbrev pub Fails : WireFault → Result (Frame × ℕ) WireFault → Type 0

@@ -205,7 +205,8 @@ impl Encoder {
     }
 }
 
-/// The length that a frame's first four bytes name. None exactly where there are fewer.
+/// The length that a frame's first four bytes name. None exactly where there are fewer. It is for callers of the library: the
+/// decoder reads the length with the other fields.
 pub fn frame_length(bytes: &[u8]) -> Option<u32>
     ensures { result ≡ frame_length bytes.now }
 {

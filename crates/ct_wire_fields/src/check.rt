@@ -1,6 +1,5 @@
 //! Tests of single fields, and of an item against the one before it.
-ghost use Rattle.std.specs.Prelude.{◌≡◌, IfSome, SomeIff, nat_eq};
-ghost use Rattle.std.specs.List.{list_any};
+ghost use Rattle.std.specs.Prelude.{◌≡◌, IfSome, SomeIff};
 ghost use Rattle.ct_frame.specs.Fields.{is_below_limit, is_from_one, is_node, is_db};
 ghost use Rattle.ct_wire_fields.specs.Check.{is_count, last_of, key_of, value_of, follows_node, follows_db, follows_row, follows_pair, follows_ptable, follows_address, follows_assigned};
 
@@ -54,12 +53,6 @@ pub fn value_of(text: Vec<u8>) -> Option<Value>
     ensures { result ≡ value_of text.items }
 {
     Value::from_vec(text)
-}
-
-pub fn is_among(nodes: &[u32], node: u32) -> bool
-    ensures { result ≡ list_any (nat_eq node) nodes.now }
-{
-    nodes.iter().any(|member| node == *member)
 }
 
 pub fn follows_node(nodes: &[u32], node: u64) -> bool

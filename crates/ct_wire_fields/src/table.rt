@@ -4,13 +4,14 @@ ghost use Rattle.ct_wire_fields.specs.Check.{key_of, value_of};
 ghost use Rattle.ct_wire_fields.specs.Reading.{after_nodes, after_ptables, master_of, may_have_row, next_node, node_count_read, node_item_read, pair_key_found, pair_value_found, pairs_left, persistent_base_read, plain_master, ptable_db_read, ptable_seq_read, ptables_left, row_db_read, row_key_found, row_master_read, row_rsn_read, row_value_found, rows_left, step_of, volatile_base_read, with_row};
 
 use crate::check::{
-    follows_db, follows_node, follows_pair, follows_ptable, follows_row, is_among, is_below_limit,
-    is_count, is_db, is_node, key_of, value_of,
+    follows_db, follows_node, follows_pair, follows_ptable, follows_row, is_below_limit, is_count,
+    is_db, is_node, key_of, value_of,
 };
 use crate::draft::{Draft, Led, taken, to_number, to_text, whole};
 use crate::place::{NumberPlace, Operation, TextPlace};
 use ct_bytes::key::Key;
 use ct_bytes::memory::NoMemory;
+use ct_bytes::nodes::is_among;
 use ct_bytes::value::Value;
 use ct_frame::frame::{Msg, PTable, TableRow};
 use ct_frame::header::NONE;

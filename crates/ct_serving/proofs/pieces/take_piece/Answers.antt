@@ -8,7 +8,7 @@ use Rattle.ct_serving.proofs.Turning.{piece_foreign, piece_stopped, piece_unread
 use Rattle.std.specs.Prelude.{IfOk}
 use Rattle.std.specs.List.{list_all}
 use Rattle.ct_bytes.specs.declared.memory.NoMemory.{NoMemory}
-use Rattle.ct_receiving.specs.Reading.{Takes, is_sound, progress_of}
+use Rattle.ct_receiving.specs.Reading.{TakesPiece, is_sound, progress_of}
 use Rattle.ct_serving.proofs.pieces.take_piece.Goals as goal
 
 pub returns-in_default-clause-cause : goal.returns-in_default-clause-cause
@@ -29,7 +29,7 @@ returns-in-Err-clause-outside g c =
     let a : Arrived = c.in-Ok.field-0 in
     let is : c.take.result ≡ Ok a = c.in-Ok.is in
     let gives : Gives c.pnn.result c.args.sender c.args.bytes.now a c.args.readers.now c.take.new.self = record {
-      takes = subst (λ (r : Result Arrived NoMemory). Takes r c.pnn.result c.args.sender c.args.bytes.now (progress_of c.args.sender c.args.readers.now) (progress_of c.args.sender c.take.new.self)) is c.take.ensures.takes;
+      takes = subst (λ (r : Result Arrived NoMemory). TakesPiece r c.pnn.result c.args.sender c.args.bytes.now (progress_of c.args.sender c.args.readers.now) (progress_of c.args.sender c.take.new.self)) is c.take.ensures.takes;
       others = c.take.ensures.others;
       sound = subst (λ (r : Result Arrived NoMemory). IfOk r (λ (x : Arrived). list_all (is_sound c.pnn.result c.args.sender) x.frames.items ≡ true)) is c.take.ensures.sound;
     } in
@@ -42,7 +42,7 @@ returns-in-Some-clause-outside g c =
     let a : Arrived = c.in-Ok.field-0 in
     let is : c.take.result ≡ Ok a = c.in-Ok.is in
     let gives : Gives c.pnn.result c.args.sender c.args.bytes.now a c.args.readers.now c.take.new.self = record {
-      takes = subst (λ (r : Result Arrived NoMemory). Takes r c.pnn.result c.args.sender c.args.bytes.now (progress_of c.args.sender c.args.readers.now) (progress_of c.args.sender c.take.new.self)) is c.take.ensures.takes;
+      takes = subst (λ (r : Result Arrived NoMemory). TakesPiece r c.pnn.result c.args.sender c.args.bytes.now (progress_of c.args.sender c.args.readers.now) (progress_of c.args.sender c.take.new.self)) is c.take.ensures.takes;
       others = c.take.ensures.others;
       sound = subst (λ (r : Result Arrived NoMemory). IfOk r (λ (x : Arrived). list_all (is_sound c.pnn.result c.args.sender) x.frames.items ≡ true)) is c.take.ensures.sound;
     } in
@@ -55,7 +55,7 @@ returns-in-None-clause-outside g c =
     let a : Arrived = c.in-Ok.field-0 in
     let is : c.take.result ≡ Ok a = c.in-Ok.is in
     let gives : Gives c.pnn.result c.args.sender c.args.bytes.now a c.args.readers.now c.take.new.self = record {
-      takes = subst (λ (r : Result Arrived NoMemory). Takes r c.pnn.result c.args.sender c.args.bytes.now (progress_of c.args.sender c.args.readers.now) (progress_of c.args.sender c.take.new.self)) is c.take.ensures.takes;
+      takes = subst (λ (r : Result Arrived NoMemory). TakesPiece r c.pnn.result c.args.sender c.args.bytes.now (progress_of c.args.sender c.args.readers.now) (progress_of c.args.sender c.take.new.self)) is c.take.ensures.takes;
       others = c.take.ensures.others;
       sound = subst (λ (r : Result Arrived NoMemory). IfOk r (λ (x : Arrived). list_all (is_sound c.pnn.result c.args.sender) x.frames.items ≡ true)) is c.take.ensures.sound;
     } in
