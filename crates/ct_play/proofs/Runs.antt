@@ -23,7 +23,7 @@ use Rattle.ct_lines.specs.declared.line.ScenarioLine.TheVariants as item
 use Rattle.ct_world.specs.World.{World}
 use Rattle.ct_play.specs.Course.{Course, Deed, one_step, settled}
 use Rattle.ct_play.specs.Effect.{Effect, commanded, cut_after, effect_of, line_effect, shown, text_effect, texts_of}
-use Rattle.ct_play.specs.Named.{command_step, named_step, number_of_db}
+use Rattle.ct_play.specs.Named.{command_step, named_step, number_in_step}
 use Rattle.ct_play.specs.Opening.{world_at}
 use Rattle.ct_play.specs.Play.{IsRunOf, Run, continued, lines_after, played, run_from, run_lines}
 use Rattle.ct_play.specs.Session.{Played, is_config_line, item_played, line_played, longest, placed, put, quiet, start}
@@ -99,8 +99,8 @@ works : (rules : Rules) (w : World) (line : ScenarioLine) (e : Effect) → IsInR
 works rules w (item.Config said) e range m deeds r = unchanged rules w [] e (cc) deeds r
 works rules w (item.Change s) e range m deeds r = goes rules w (one_step w.config rules w.cluster s) e m (λ log x k. step_leads w.config rules w.cluster log s x (change_allowed s range) k) deeds r
 works rules w (item.ByName n db asked) e range m deeds r =
-    let s = named_step n (number_of_db w.config db) asked in
-    goes rules w (one_step w.config rules w.cluster s) e m (λ log x k. step_leads w.config rules w.cluster log s x (named_allowed n (number_of_db w.config db) asked range.2) k) deeds r
+    let s = named_step n (number_in_step w.config db) asked in
+    goes rules w (one_step w.config rules w.cluster s) e m (λ log x k. step_leads w.config rules w.cluster log s x (named_allowed n (number_in_step w.config db) asked range.2) k) deeds r
 works rules w (item.Settle count) e range m deeds r = goes rules w (settled w.config rules count w.cluster) e m (λ log x k. settled_leads w.config rules count w.cluster log x k) deeds r
 works rules w (item.Ctdb n command) e range m deeds r = commands rules w n command (command_step w.config w.cluster n command) e range.1 refl m deeds r
 

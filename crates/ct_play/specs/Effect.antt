@@ -18,7 +18,7 @@ use Rattle.ct_msg.specs.declared.config.Config.{Config}
 use Rattle.ct_tool.specs.Line.{line_text}
 use Rattle.ct_world.specs.World.{World}
 use Rattle.ct_play.specs.Course.{Course, Deed, one_step, printed, settled}
-use Rattle.ct_play.specs.Named.{command_step, named_step, number_of_db}
+use Rattle.ct_play.specs.Named.{command_step, named_step, number_in_step}
 use Rattle.ct_play.specs.declared.what.PlayFault.{PlayFault}
 use Rattle.ct_play.specs.declared.what.PlayFault.TheVariants.{Refused, NoMemory}
 use Rattle.ct_play.specs.declared.what.What.{What}
@@ -109,7 +109,7 @@ commanded rules w n command None = shown w n command (fault_of w.config w.cluste
 abbrev pub line_effect : Rules → World → ScenarioLine → Result Effect What
 line_effect rules w (item.Config said) = Ok (no_effect w)
 line_effect rules w (item.Change s) = stepped rules w s
-line_effect rules w (item.ByName n db asked) = stepped rules w (named_step n (number_of_db w.config db) asked)
+line_effect rules w (item.ByName n db asked) = stepped rules w (named_step n (number_in_step w.config db) asked)
 line_effect rules w (item.Settle m) = effect_of w.config (settled w.config rules m w.cluster)
 line_effect rules w (item.Ctdb n command) = commanded rules w n command (command_step w.config w.cluster n command)
 

@@ -10,7 +10,7 @@ ghost use Rattle.ct_play.specs.Course.{Adds, Goes, settled};
 ghost use Rattle.ct_play.specs.Effect.{Works, commanded, effect_of, line_effect, stepped};
 ghost use Rattle.ct_play.specs.Named.{command_step};
 
-use crate::named::{command_step, named_step, number_of_db};
+use crate::named::{command_step, named_step, number_in_step};
 use crate::shown::{refused_by, shown};
 use crate::what::PlayFault;
 use ct_bytes::items::Items;
@@ -160,7 +160,7 @@ pub fn line_effect(
         ScenarioLine::Config(_) => Ok(Vec::new(alloc)),
         ScenarioLine::Change(step) => stepped(alloc, world, table, &step),
         ScenarioLine::ByName { node, db, op } => {
-            let number = number_of_db(world.config(), &db);
+            let number = number_in_step(world.config(), &db);
             let step = named_step(node, number, op);
             stepped(alloc, world, table, &step)
         }

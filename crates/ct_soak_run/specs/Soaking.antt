@@ -14,7 +14,7 @@ use Rattle.ct_cluster.specs.declared.step.StepFault.{StepFault}
 use Rattle.ct_lines.specs.declared.line.ScenarioLine.{ScenarioLine}
 use Rattle.ct_lines.specs.declared.line.ScenarioLine.TheVariants as item
 use Rattle.ct_mail.specs.Mail.{next_waiting}
-use Rattle.ct_play.specs.Named.{command_step, named_step, number_of_db}
+use Rattle.ct_play.specs.Named.{command_step, named_step, number_in_step}
 use Rattle.ct_soak.specs.Soak.{soak_line}
 use Rattle.ct_soak.specs.declared.soak.SoakView.{SoakView}
 
@@ -68,7 +68,7 @@ commanded rules s (Some x) = took rules s x
 abbrev pub line_took : Rules → Soaked → ScenarioLine → Soaked
 line_took rules s (item.Config said) = s
 line_took rules s (item.Change x) = took rules s x
-line_took rules s (item.ByName n db asked) = took rules s (named_step n (number_of_db soak_config db) asked)
+line_took rules s (item.ByName n db asked) = took rules s (named_step n (number_in_step soak_config db) asked)
 line_took rules s (item.Settle m) = settled rules m s
 line_took rules s (item.Ctdb n command) = commanded rules s (command_step soak_config s.cluster n command)
 

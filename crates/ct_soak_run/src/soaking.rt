@@ -16,7 +16,7 @@ use ct_cluster::step::{Line, Step, StepFault};
 use ct_lines::line::{Command, ScenarioLine};
 use ct_msg::config::Config;
 use ct_msg::generated::generated_config;
-use ct_play::named::{command_step, named_step, number_of_db};
+use ct_play::named::{command_step, named_step, number_in_step};
 use ct_soak::soak::{SoakView, soak_line};
 use ct_tool::words::{push, push_number};
 use ct_world::world::World;
@@ -201,7 +201,7 @@ impl Soaking {
                 Ok(())
             }
             ScenarioLine::ByName { node, db, op } => {
-                let number = number_of_db(self.world.config(), &db);
+                let number = number_in_step(self.world.config(), &db);
                 let step = named_step(node, number, op);
                 self.take(table, &step)?;
                 Ok(())
