@@ -4,10 +4,10 @@ use Rattle.std.specs.Str.{bytes_eq}
 use Rattle.ct_cluster.specs.Cluster.{Cluster, everyone, is_up}
 use Rattle.ct_cluster.specs.declared.step.Step.{Step}
 use Rattle.ct_cluster.specs.declared.step.Step.TheVariants as step
-use Rattle.ct_lines.specs.declared.line.Command.{Command}
-use Rattle.ct_lines.specs.declared.line.Command.TheVariants as command
 use Rattle.ct_lines.specs.declared.line.NamedOp.{NamedOp}
 use Rattle.ct_lines.specs.declared.line.NamedOp.TheVariants as named
+use Rattle.ct_lines.specs.declared.line.StepCommand.{StepCommand}
+use Rattle.ct_lines.specs.declared.line.StepCommand.TheVariants as command
 use Rattle.ct_msg.specs.declared.client.ClientOp.TheVariants as op
 use Rattle.ct_msg.specs.declared.config.Config.{Config}
 use Rattle.ct_msg.specs.declared.config.DbDecl.{DbDecl}
@@ -47,19 +47,12 @@ named_step n db named.Vacuum = step.Vacuum n db
 abbrev pub running_nodes : Config → Cluster → List ℕ
 running_nodes c w = filter (λ n. is_up n w) (everyone c)
 
--- the step that a command is; the first seven print, and are none
-abbrev pub command_step : Config → Cluster → ℕ → Command → Option Step
-command_step c w n command.Pnn = None
-command_step c w n command.ListNodes = None
-command_step c w n command.Status = None
-command_step c w n command.Ip = None
-command_step c w n command.GetDbMap = None
-command_step c w n (command.CatTdb db) = None
-command_step c w n (command.GetDbSeqNum db) = None
-command_step c w n command.Disable = Some (step.Able n false)
-command_step c w n command.Enable = Some (step.Able n true)
-command_step c w n (command.ReadKey db key) = Some (step.Client n (op.Read (number_in_step c db) key))
-command_step c w n (command.WriteKey db key value) = Some (step.Client n (op.Write (number_in_step c db) key value))
-command_step c w n (command.DeleteKey db key) = Some (step.Client n (op.Write (number_in_step c db) key []))
-command_step c w n (command.PTrans db writes) = Some (step.Client n (op.Commit (number_in_step c db) writes))
-command_step c w n command.Recover = Some (step.Recover n (running_nodes c w))
+-- the step that a command is
+abbrev pub command_step : Config → Cluster → ℕ → StepCommand → Step
+command_step c w n command.Disable = step.Able n false
+command_step c w n command.Enable = step.Able n true
+command_step c w n (command.ReadKey db key) = step.Client n (op.Read (number_in_step c db) key)
+command_step c w n (command.WriteKey db key value) = step.Client n (op.Write (number_in_step c db) key value)
+command_step c w n (command.DeleteKey db key) = step.Client n (op.Write (number_in_step c db) key [])
+command_step c w n (command.PTrans db writes) = step.Client n (op.Commit (number_in_step c db) writes)
+command_step c w n command.Recover = step.Recover n (running_nodes c w)

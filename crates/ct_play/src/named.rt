@@ -9,7 +9,7 @@ use ct_bytes::memory::NoMemory;
 use ct_bytes::name::DbName;
 use ct_bytes::value::Value;
 use ct_cluster::step::Step;
-use ct_lines::line::{Command, NamedOp};
+use ct_lines::line::{NamedOp, StepCommand};
 use ct_msg::client::ClientOp;
 use ct_msg::config::{Config, DbDecl};
 use ct_world::world::World;
@@ -85,47 +85,40 @@ fn running_nodes(alloc: Global, world: &World) -> Result<Items<u32>, NoMemory>
     Ok(nodes)
 }
 
-/// The step that a command is. None are those that print.
+/// The step that a command is.
 pub fn command_step(
     alloc: Global,
     world: &World,
     node: u32,
-    command: &Command,
-) -> Result<Option<Step>, NoMemory>
+    command: &StepCommand,
+) -> Result<Step, NoMemory>
     ensures { IfOk result (λ step. step ≡ command_step world.now.config world.now.cluster node command.now) }
 {
     let op = match command {
-        Command::Pnn
-        | Command::ListNodes
-        | Command::Status
-        | Command::Ip
-        | Command::GetDbMap
-        | Command::CatTdb(_)
-        | Command::GetDbSeqNum(_) => return Ok(None),
-        Command::Disable => return Ok(Some(Step::Able { node, able: false })),
-        Command::Enable => return Ok(Some(Step::Able { node, able: true })),
-        Command::ReadKey { db, key } => ClientOp::Read {
+        StepCommand::Disable => return Ok(Step::Able { node, able: false }),
+        StepCommand::Enable => return Ok(Step::Able { node, able: true }),
+        StepCommand::ReadKey { db, key } => ClientOp::Read {
             db: number_in_step(world.config(), db),
             key: key.copy()?,
         },
-        Command::WriteKey { db, key, value } => ClientOp::Write {
+        StepCommand::WriteKey { db, key, value } => ClientOp::Write {
             db: number_in_step(world.config(), db),
             key: key.copy()?,
             value: value.copy()?,
         },
-        Command::DeleteKey { db, key } => ClientOp::Write {
+        StepCommand::DeleteKey { db, key } => ClientOp::Write {
             db: number_in_step(world.config(), db),
             key: key.copy()?,
             value: Value::empty(alloc),
         },
-        Command::PTrans { db, writes } => ClientOp::Commit {
+        StepCommand::PTrans { db, writes } => ClientOp::Commit {
             db: number_in_step(world.config(), db),
             writes: writes.duplicate()?,
         },
-        Command::Recover => {
+        StepCommand::Recover => {
             let members = running_nodes(alloc, world)?;
-            return Ok(Some(Step::Recover { node, members }));
+            return Ok(Step::Recover { node, members });
         }
     };
-    Ok(Some(Step::Client { node, op }))
+    Ok(Step::Client { node, op })
 }
