@@ -19,7 +19,6 @@ use ct_msg::config::{Config, DbDecl, DbKind};
 use std::alloc::Global;
 
 /// Two nodes and the database `t`, whose place is 1.
-#[tactic(auto, using(crate::proofs::Limits::has_limits))]
 fn config(alloc: Global) -> Result<Config>
     ensures { IfOk result HasLimits }
 {
