@@ -1,2 +1,2 @@
 pub mod Formed
-pub mod Coming
+pub mod Arriving

@@ -19,7 +19,7 @@ use ct_planned::change::Planned;
 use ct_turn::turn::CoreFault;
 
 /// A message arrives: it is dropped, or its rule is followed.
-#[tactic(auto, using(crate::proofs::Formed::has_dbs, crate::proofs::Formed::next_limit, crate::proofs::Formed::rsn_limits, crate::proofs::Coming::message_is, crate::proofs::Coming::take_ascends), unfolding(ct_rules_node::specs::Steps::arrives))]
+#[tactic(auto, using(crate::proofs::Formed::has_dbs, crate::proofs::Formed::next_limit, crate::proofs::Formed::rsn_limits, crate::proofs::Arriving::message_is, crate::proofs::Arriving::take_ascends), unfolding(ct_rules_node::specs::Steps::arrives))]
 pub fn arrives(
     config: &Config,
     table: &CallTable,

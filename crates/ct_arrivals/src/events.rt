@@ -21,7 +21,7 @@ use ct_turn::turn::CoreFault;
 use ct_vacuums::vacuums::vacuums;
 
 /// The rule of a node: what comes of each event.
-#[tactic(auto, using(crate::proofs::Formed::has_dbs, crate::proofs::Formed::few_dbs, crate::proofs::Formed::in_order, crate::proofs::Formed::next_limit, crate::proofs::Formed::rsn_limits, crate::proofs::Formed::somebody, crate::proofs::Formed::made_ascends, crate::proofs::Formed::made_few, crate::proofs::Coming::arrives_sound, crate::proofs::Coming::round_ascends, crate::proofs::Coming::round_own), unfolding(ct_rules_node::specs::Steps::happens))]
+#[tactic(auto, using(crate::proofs::Formed::has_dbs, crate::proofs::Formed::few_dbs, crate::proofs::Formed::in_order, crate::proofs::Formed::next_limit, crate::proofs::Formed::rsn_limits, crate::proofs::Formed::somebody, crate::proofs::Formed::made_ascends, crate::proofs::Formed::made_few, crate::proofs::Arriving::arrives_sound, crate::proofs::Arriving::round_ascends, crate::proofs::Arriving::round_own), unfolding(ct_rules_node::specs::Steps::happens))]
 pub fn happens(
     config: &Config,
     table: &CallTable,

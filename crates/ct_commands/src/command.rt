@@ -1,6 +1,6 @@
-//! The text of a command that prints.
-ghost use Rattle.std.specs.Prelude.{◌≡◌, Some, true, IfOk};
-ghost use Rattle.ct_commands.specs.Command.{Tells, cat_text, command_text, prints, seqnum_text};
+//! The text of a command that shows something.
+ghost use Rattle.std.specs.Prelude.{◌≡◌, Some, IfOk};
+ghost use Rattle.ct_commands.specs.Command.{Tells, cat_text, command_text, seqnum_text};
 ghost use Rattle.ct_commands.specs.Dumps.{dump_text, seq_text};
 ghost use Rattle.ct_commands.specs.Lists.{db_named, dbs_text, ip_text, nodes_text, pnn_text};
 ghost use Rattle.ct_commands.specs.Status.{status_text};
@@ -13,7 +13,7 @@ use crate::nodes::{push_ip, push_nodes, push_pnn, push_states, push_told};
 use ct_bytes::memory::NoMemory;
 use ct_bytes::name::DbName;
 use ct_core::machine::Core;
-use ct_lines::line::Command;
+use ct_lines::line::ShowCommand;
 use ct_world::view::View;
 use std::alloc::Global;
 use thiserror::Error;
@@ -149,29 +149,21 @@ fn seqnum_text(alloc: Global, core: &Core, name: &DbName) -> Result<Vec<u8>, Tex
     }
 }
 
-/// The text of a command that prints, at the node of a view. `NoSuchDb` comes exactly where it names a database that is not
+/// The text of a command that shows something, at the node of a view. `NoSuchDb` comes exactly where it names a database that is not
 /// declared, `WrongKind` exactly where it asks for the sequence number of one that is not persistent, and memory is wanting
 /// only where the command has a text.
-pub fn command_text(alloc: Global, view: &View, command: &Command) -> Result<Vec<u8>, TextFault>
-    requires limits { HasLimits view.now.core.now.config }
-    requires prints { prints command.now ≡ true }
+pub fn command_text(alloc: Global, view: &View, command: &ShowCommand) -> Result<Vec<u8>, TextFault>
+    requires { HasLimits view.now.core.now.config }
     ensures { Tells (λ v. v.items) result (command_text view.now.core.now.config view.now.core.now.pnn view.now.core.now.node view.now.running.now view.now.able.now command.now) }
 {
     let core = view.core;
     match command {
-        Command::Pnn => Ok(pnn_text(alloc, core)?),
-        Command::ListNodes => Ok(nodes_text(alloc, core)?),
-        Command::Status => Ok(status_text(alloc, core, view.running, view.able)?),
-        Command::Ip => Ok(ip_text(alloc, core)?),
-        Command::GetDbMap => Ok(dbs_text(alloc, core)?),
-        Command::CatTdb(name) => cat_text(alloc, core, name),
-        Command::GetDbSeqNum(name) => seqnum_text(alloc, core, name),
-        Command::Disable
-        | Command::Enable
-        | Command::ReadKey { .. }
-        | Command::WriteKey { .. }
-        | Command::DeleteKey { .. }
-        | Command::PTrans { .. }
-        | Command::Recover => unreachable!(),
+        ShowCommand::Pnn => Ok(pnn_text(alloc, core)?),
+        ShowCommand::ListNodes => Ok(nodes_text(alloc, core)?),
+        ShowCommand::Status => Ok(status_text(alloc, core, view.running, view.able)?),
+        ShowCommand::Ip => Ok(ip_text(alloc, core)?),
+        ShowCommand::GetDbMap => Ok(dbs_text(alloc, core)?),
+        ShowCommand::CatTdb(name) => cat_text(alloc, core, name),
+        ShowCommand::GetDbSeqNum(name) => seqnum_text(alloc, core, name),
     }
 }

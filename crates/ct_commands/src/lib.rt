@@ -1,4 +1,4 @@
-//! The texts of the commands that print what one node has and knows.
+//! The texts of the commands that show what one node has and knows.
 #![tactic(auto)]
 
 pub mod command;

@@ -18,6 +18,8 @@ use Rattle.ct_lines.specs.declared.line.NamedOp.{NamedOp}
 use Rattle.ct_lines.specs.declared.line.NamedOp.TheVariants as op
 use Rattle.ct_lines.specs.declared.line.Command.{Command}
 use Rattle.ct_lines.specs.declared.line.Command.TheVariants as command
+use Rattle.ct_lines.specs.declared.line.ShowCommand.TheVariants as shows
+use Rattle.ct_lines.specs.declared.line.StepCommand.TheVariants as steps
 use Rattle.ct_lines.specs.Words.{number_word, message_word, name_word, key_word, value_word, kind_word, pairs_of}
 use Rattle.ct_lines.specs.Grammar.{db_line, call_line, recover_line, key_op, value_op, apply_op, db_command, key_command, value_command, writes_command, command_of, ctdb_line, form, words_of}
 use Rattle.ct_lines.specs.Spelled.{kind_text, pair_text, members_text, config_words, step_words, op_text, op_words, command_words, spelled_words, spelled_line, IsSmall, IsMessage, IsName, IsConfig, IsChange, IsOp, IsCommand, IsInRange}
@@ -75,26 +77,26 @@ by_name_back node db (op.Commit pairs) n d h =
 by_name_back node db op.Vacuum n d h = call_back _ _ _ node db op.Vacuum (small_back node n) (name_word_back db d) refl
 
 command_back : (asked : Command) → IsCommand asked → command_of (command_words asked) ≡ Some asked
-command_back command.Pnn h = refl
-command_back command.ListNodes h = refl
-command_back command.Status h = refl
-command_back command.Ip h = refl
-command_back command.GetDbMap h = refl
-command_back (command.CatTdb db) h = ap (db_command (codes "cattdb")) (name_word_back db h)
-command_back (command.GetDbSeqNum db) h = ap (db_command (codes "getdbseqnum")) (name_word_back db h)
-command_back command.Disable h = refl
-command_back command.Enable h = refl
-command_back (command.ReadKey db key) h =
+command_back (command.Shows shows.Pnn) h = refl
+command_back (command.Shows shows.ListNodes) h = refl
+command_back (command.Shows shows.Status) h = refl
+command_back (command.Shows shows.Ip) h = refl
+command_back (command.Shows shows.GetDbMap) h = refl
+command_back (command.Shows (shows.CatTdb db)) h = ap (db_command (codes "cattdb")) (name_word_back db h)
+command_back (command.Shows (shows.GetDbSeqNum db)) h = ap (db_command (codes "getdbseqnum")) (name_word_back db h)
+command_back (command.Steps steps.Disable) h = refl
+command_back (command.Steps steps.Enable) h = refl
+command_back (command.Steps (steps.ReadKey db key)) h =
     ap (λ o. key_command (codes "readkey") o (key_word (spelling key))) (name_word_back db h.0) ∙ ap (key_command (codes "readkey") (Some db)) (key_word_back key h.1)
-command_back (command.WriteKey db key value) h =
+command_back (command.Steps (steps.WriteKey db key value)) h =
     ap (λ o. value_command (codes "writekey") o (key_word (spelling key)) (value_word (spelling value))) (name_word_back db h.0)
     ∙ ap (λ o. value_command (codes "writekey") (Some db) o (value_word (spelling value))) (key_word_back key h.1)
     ∙ ap (value_command (codes "writekey") (Some db) (Some key)) (value_word_back value h.2)
-command_back (command.DeleteKey db key) h =
+command_back (command.Steps (steps.DeleteKey db key)) h =
     ap (λ o. key_command (codes "deletekey") o (key_word (spelling key))) (name_word_back db h.0) ∙ ap (key_command (codes "deletekey") (Some db)) (key_word_back key h.1)
-command_back (command.PTrans db writes) h =
+command_back (command.Steps (steps.PTrans db writes)) h =
     ap (λ o. writes_command o (pairs_of (map pair_text writes))) (name_word_back db h.0) ∙ ap (writes_command (Some db)) (pairs_back writes h.1)
-command_back command.Recover h = refl
+command_back (command.Steps steps.Recover) h = refl
 
 ctdb_back : (node : ℕ) (asked : Command) (o : Option ℕ) (r : Option Command) → o ≡ Some node → r ≡ Some asked → ctdb_line o r ≡ Some (Ctdb node asked)
 ctdb_back node asked o r e f = ap (λ x. ctdb_line x r) e ∙ ap (ctdb_line (Some node)) f
@@ -135,21 +137,21 @@ op_words_free (op.Commit pairs) h = pairs_free pairs h
 op_words_free op.Vacuum h = tt
 
 command_free : (asked : Command) → IsCommand asked → AreFree 32 (command_words asked)
-command_free command.Pnn h = (written_free (codes "pnn") refl, tt)
-command_free command.ListNodes h = (written_free (codes "listnodes") refl, tt)
-command_free command.Status h = (written_free (codes "status") refl, tt)
-command_free command.Ip h = (written_free (codes "ip") refl, tt)
-command_free command.GetDbMap h = (written_free (codes "getdbmap") refl, tt)
-command_free (command.CatTdb db) h = (written_free (codes "cattdb") refl, (name_free 0 db h.2, tt))
-command_free (command.GetDbSeqNum db) h = (written_free (codes "getdbseqnum") refl, (name_free 0 db h.2, tt))
-command_free command.Disable h = (written_free (codes "disable") refl, tt)
-command_free command.Enable h = (written_free (codes "enable") refl, tt)
-command_free (command.ReadKey db key) h = (written_free (codes "readkey") refl, (name_free 0 db h.0.2, (spelling_free key h.1.2, tt)))
-command_free (command.WriteKey db key value) h =
+command_free (command.Shows shows.Pnn) h = (written_free (codes "pnn") refl, tt)
+command_free (command.Shows shows.ListNodes) h = (written_free (codes "listnodes") refl, tt)
+command_free (command.Shows shows.Status) h = (written_free (codes "status") refl, tt)
+command_free (command.Shows shows.Ip) h = (written_free (codes "ip") refl, tt)
+command_free (command.Shows shows.GetDbMap) h = (written_free (codes "getdbmap") refl, tt)
+command_free (command.Shows (shows.CatTdb db)) h = (written_free (codes "cattdb") refl, (name_free 0 db h.2, tt))
+command_free (command.Shows (shows.GetDbSeqNum db)) h = (written_free (codes "getdbseqnum") refl, (name_free 0 db h.2, tt))
+command_free (command.Steps steps.Disable) h = (written_free (codes "disable") refl, tt)
+command_free (command.Steps steps.Enable) h = (written_free (codes "enable") refl, tt)
+command_free (command.Steps (steps.ReadKey db key)) h = (written_free (codes "readkey") refl, (name_free 0 db h.0.2, (spelling_free key h.1.2, tt)))
+command_free (command.Steps (steps.WriteKey db key value)) h =
     (written_free (codes "writekey") refl, (name_free 0 db h.0.2, (spelling_free key h.1.2, (spelling_free value h.2.1, tt))))
-command_free (command.DeleteKey db key) h = (written_free (codes "deletekey") refl, (name_free 0 db h.0.2, (spelling_free key h.1.2, tt)))
-command_free (command.PTrans db writes) h = (written_free (codes "ptrans") refl, (name_free 0 db h.0.2, pairs_free writes h.1))
-command_free command.Recover h = (written_free (codes "recover") refl, tt)
+command_free (command.Steps (steps.DeleteKey db key)) h = (written_free (codes "deletekey") refl, (name_free 0 db h.0.2, (spelling_free key h.1.2, tt)))
+command_free (command.Steps (steps.PTrans db writes)) h = (written_free (codes "ptrans") refl, (name_free 0 db h.0.2, pairs_free writes h.1))
+command_free (command.Steps steps.Recover) h = (written_free (codes "recover") refl, tt)
 
 message_split : (v : List ℕ) (k : ℕ) → IsFree 32 v → IsMessage k → words_of (join_with_byte 32 (v ∷ decimal k ∷ [])) ≡ v ∷ decimal k ∷ []
 message_split v k h m = split_join 32 v (decimal k ∷ []) h (decimal_free 32 k (omega arith) m.1, tt)

@@ -15,6 +15,8 @@ use Rattle.ct_lines.specs.declared.line.NamedOp.{NamedOp}
 use Rattle.ct_lines.specs.declared.line.NamedOp.TheVariants as op
 use Rattle.ct_lines.specs.declared.line.Command.{Command}
 use Rattle.ct_lines.specs.declared.line.Command.TheVariants as command
+use Rattle.ct_lines.specs.declared.line.ShowCommand.TheVariants as shows
+use Rattle.ct_lines.specs.declared.line.StepCommand.TheVariants as steps
 use Rattle.ct_lines.specs.Words.{within, number_word, message_word, address_word, key_word, value_word, name_word, kind_word, pairs_of, members_word}
 use Rattle.ct_lines.specs.Grammar.{number_step, one_form, db_line, call_line, recover_line, two_form, key_op, value_op, apply_op, plain_form, commit_form, bare_command, db_command, key_command, value_command, writes_command, ptrans_form, plain_command, command_of, ctdb_line, form}
 use Rattle.ct_lines.specs.Spelled.{kind_text, pair_text, members_text, step_words, op_text, op_words, command_words, spelled_words, IsSmall, IsMessage, IsName, IsKey, IsValue, ArePairs, AreMembers, IsChange, IsOp, IsCommand, IsInRange}
@@ -199,23 +201,23 @@ bare_said m v c asked range shape e h = some_said (SaysCommand (c ∷ [])) m ask
 
 bare_only : (c : List ℕ) (asked : Command) → bare_command c ≡ Some asked → SaysCommand (c ∷ []) asked
 bare_only c asked h =
-    choice (SaysCommand (c ∷ []) asked) c (codes "pnn") _ _ asked h (bare_said command.Pnn (codes "pnn") c asked tt refl)
-    (λ h1. choice (SaysCommand (c ∷ []) asked) c (codes "listnodes") _ _ asked h1 (bare_said command.ListNodes (codes "listnodes") c asked tt refl)
-    (λ h2. choice (SaysCommand (c ∷ []) asked) c (codes "status") _ _ asked h2 (bare_said command.Status (codes "status") c asked tt refl)
-    (λ h3. choice (SaysCommand (c ∷ []) asked) c (codes "ip") _ _ asked h3 (bare_said command.Ip (codes "ip") c asked tt refl)
-    (λ h4. choice (SaysCommand (c ∷ []) asked) c (codes "getdbmap") _ _ asked h4 (bare_said command.GetDbMap (codes "getdbmap") c asked tt refl)
-    (λ h5. choice (SaysCommand (c ∷ []) asked) c (codes "disable") _ _ asked h5 (bare_said command.Disable (codes "disable") c asked tt refl)
-    (λ h6. choice (SaysCommand (c ∷ []) asked) c (codes "enable") _ _ asked h6 (bare_said command.Enable (codes "enable") c asked tt refl)
-    (λ h7. choice (SaysCommand (c ∷ []) asked) c (codes "recover") _ _ asked h7 (bare_said command.Recover (codes "recover") c asked tt refl)
+    choice (SaysCommand (c ∷ []) asked) c (codes "pnn") _ _ asked h (bare_said (command.Shows shows.Pnn) (codes "pnn") c asked tt refl)
+    (λ h1. choice (SaysCommand (c ∷ []) asked) c (codes "listnodes") _ _ asked h1 (bare_said (command.Shows shows.ListNodes) (codes "listnodes") c asked tt refl)
+    (λ h2. choice (SaysCommand (c ∷ []) asked) c (codes "status") _ _ asked h2 (bare_said (command.Shows shows.Status) (codes "status") c asked tt refl)
+    (λ h3. choice (SaysCommand (c ∷ []) asked) c (codes "ip") _ _ asked h3 (bare_said (command.Shows shows.Ip) (codes "ip") c asked tt refl)
+    (λ h4. choice (SaysCommand (c ∷ []) asked) c (codes "getdbmap") _ _ asked h4 (bare_said (command.Shows shows.GetDbMap) (codes "getdbmap") c asked tt refl)
+    (λ h5. choice (SaysCommand (c ∷ []) asked) c (codes "disable") _ _ asked h5 (bare_said (command.Steps steps.Disable) (codes "disable") c asked tt refl)
+    (λ h6. choice (SaysCommand (c ∷ []) asked) c (codes "enable") _ _ asked h6 (bare_said (command.Steps steps.Enable) (codes "enable") c asked tt refl)
+    (λ h7. choice (SaysCommand (c ∷ []) asked) c (codes "recover") _ _ asked h7 (bare_said (command.Steps steps.Recover) (codes "recover") c asked tt refl)
     (λ h8. cc))))))))
 
 db_command_only : (c d : List ℕ) (o : Option (List ℕ)) (asked : Command) → db_command c o ≡ Some asked → ((db : List ℕ) → o ≡ Some db → IsName db × (d ≡ db)) → SaysCommand (c ∷ d ∷ []) asked
 db_command_only c d None asked h one = cc
 db_command_only c d (Some db) asked h one =
     let p = one db refl in
-    choice (SaysCommand (c ∷ d ∷ []) asked) c (codes "cattdb") _ _ asked h (λ e g. some_said (SaysCommand (c ∷ d ∷ [])) (command.CatTdb db) asked (p.0, both e (both p.1 refl)) g)
+    choice (SaysCommand (c ∷ d ∷ []) asked) c (codes "cattdb") _ _ asked h (λ e g. some_said (SaysCommand (c ∷ d ∷ [])) (command.Shows (shows.CatTdb db)) asked (p.0, both e (both p.1 refl)) g)
     (λ h1. choice (SaysCommand (c ∷ d ∷ []) asked) c (codes "getdbseqnum") _ _ asked h1
-    (λ e g. some_said (SaysCommand (c ∷ d ∷ [])) (command.GetDbSeqNum db) asked (p.0, both e (both p.1 refl)) g) (λ h2. cc))
+    (λ e g. some_said (SaysCommand (c ∷ d ∷ [])) (command.Shows (shows.GetDbSeqNum db)) asked (p.0, both e (both p.1 refl)) g) (λ h2. cc))
 
 key_command_only : (c d k : List ℕ) (o r : Option (List ℕ)) (asked : Command) → key_command c o r ≡ Some asked
     → ((db : List ℕ) → o ≡ Some db → IsName db × (d ≡ db))
@@ -227,9 +229,9 @@ key_command_only c d k (Some db) (Some key) asked h one two =
     let p = one db refl in
     let q = two key refl in
     choice (SaysCommand (c ∷ d ∷ k ∷ []) asked) c (codes "readkey") _ _ asked h
-    (λ e g. some_said (SaysCommand (c ∷ d ∷ k ∷ [])) (command.ReadKey db key) asked ((p.0, q.0), both e (both p.1 (both q.1 refl))) g)
+    (λ e g. some_said (SaysCommand (c ∷ d ∷ k ∷ [])) (command.Steps (steps.ReadKey db key)) asked ((p.0, q.0), both e (both p.1 (both q.1 refl))) g)
     (λ h1. choice (SaysCommand (c ∷ d ∷ k ∷ []) asked) c (codes "deletekey") _ _ asked h1
-    (λ e g. some_said (SaysCommand (c ∷ d ∷ k ∷ [])) (command.DeleteKey db key) asked ((p.0, q.0), both e (both p.1 (both q.1 refl))) g) (λ h2. cc))
+    (λ e g. some_said (SaysCommand (c ∷ d ∷ k ∷ [])) (command.Steps (steps.DeleteKey db key)) asked ((p.0, q.0), both e (both p.1 (both q.1 refl))) g) (λ h2. cc))
 
 value_command_only : (c d k v : List ℕ) (o r t : Option (List ℕ)) (asked : Command) → value_command c o r t ≡ Some asked
     → ((db : List ℕ) → o ≡ Some db → IsName db × (d ≡ db))
@@ -244,7 +246,7 @@ value_command_only c d k v (Some db) (Some key) (Some value) asked h one two thr
     let q = two key refl in
     let s = three value refl in
     choice (SaysCommand (c ∷ d ∷ k ∷ v ∷ []) asked) c (codes "writekey") _ _ asked h
-    (λ e g. some_said (SaysCommand (c ∷ d ∷ k ∷ v ∷ [])) (command.WriteKey db key value) asked ((p.0, q.0, s.0), both e (both p.1 (both q.1 (both s.1 refl)))) g) (λ h1. cc)
+    (λ e g. some_said (SaysCommand (c ∷ d ∷ k ∷ v ∷ [])) (command.Steps (steps.WriteKey db key value)) asked ((p.0, q.0, s.0), both e (both p.1 (both q.1 (both s.1 refl)))) g) (λ h1. cc)
 
 writes_only : (d : List ℕ) (ws : List (List ℕ)) (o : Option (List ℕ)) (r : Option (List Pair)) (asked : Command) → writes_command o r ≡ Some asked
     → ((db : List ℕ) → o ≡ Some db → IsName db × (d ≡ db))
@@ -255,7 +257,7 @@ writes_only d ws (Some db) None asked h one two = cc
 writes_only d ws (Some db) (Some pairs) asked h one two =
     let p = one db refl in
     let q = two pairs refl in
-    some_said (SaysCommand (codes "ptrans" ∷ d ∷ ws)) (command.PTrans db pairs) asked ((p.0, q.0), both refl (both p.1 q.1)) h
+    some_said (SaysCommand (codes "ptrans" ∷ d ∷ ws)) (command.Steps (steps.PTrans db pairs)) asked ((p.0, q.0), both refl (both p.1 q.1)) h
 
 ptrans_only : (ws : List (List ℕ)) (asked : Command) → ptrans_form ws ≡ Some asked → SaysCommand (codes "ptrans" ∷ ws) asked
 ptrans_only [] asked h = cc

@@ -14,6 +14,8 @@ use Rattle.ct_lines.specs.declared.line.NamedOp.{NamedOp}
 use Rattle.ct_lines.specs.declared.line.NamedOp.TheVariants as op
 use Rattle.ct_lines.specs.declared.line.Command.{Command}
 use Rattle.ct_lines.specs.declared.line.Command.TheVariants as command
+use Rattle.ct_lines.specs.declared.line.ShowCommand.TheVariants as shows
+use Rattle.ct_lines.specs.declared.line.StepCommand.TheVariants as steps
 use Rattle.ct_lines.specs.Words.{within, number_word, message_word, address_word, key_word, value_word, name_word, kind_word, pairs_of, members_word}
 
 -- the words of a line, cut at each space
@@ -131,30 +133,30 @@ commit_form n (d ∷ pairs) = call_line (number_word n) (name_word d) (option_ma
 abbrev pub bare_command : List ℕ → Option Command
 bare_command c =
     if bytes_eq c (codes "pnn")
-    then Some command.Pnn
+    then Some (command.Shows shows.Pnn)
     else if bytes_eq c (codes "listnodes")
-    then Some command.ListNodes
+    then Some (command.Shows shows.ListNodes)
     else if bytes_eq c (codes "status")
-    then Some command.Status
+    then Some (command.Shows shows.Status)
     else if bytes_eq c (codes "ip")
-    then Some command.Ip
+    then Some (command.Shows shows.Ip)
     else if bytes_eq c (codes "getdbmap")
-    then Some command.GetDbMap
+    then Some (command.Shows shows.GetDbMap)
     else if bytes_eq c (codes "disable")
-    then Some command.Disable
+    then Some (command.Steps steps.Disable)
     else if bytes_eq c (codes "enable")
-    then Some command.Enable
+    then Some (command.Steps steps.Enable)
     else if bytes_eq c (codes "recover")
-    then Some command.Recover
+    then Some (command.Steps steps.Recover)
     else None
 
 abbrev pub db_command : List ℕ → Option (List ℕ) → Option Command
 db_command c None = None
 db_command c (Some db) =
     if bytes_eq c (codes "cattdb")
-    then Some (command.CatTdb db)
+    then Some (command.Shows (shows.CatTdb db))
     else if bytes_eq c (codes "getdbseqnum")
-    then Some (command.GetDbSeqNum db)
+    then Some (command.Shows (shows.GetDbSeqNum db))
     else None
 
 abbrev pub key_command : List ℕ → Option (List ℕ) → Option (List ℕ) → Option Command
@@ -162,21 +164,21 @@ key_command c None key = None
 key_command c (Some db) None = None
 key_command c (Some db) (Some key) =
     if bytes_eq c (codes "readkey")
-    then Some (command.ReadKey db key)
+    then Some (command.Steps (steps.ReadKey db key))
     else if bytes_eq c (codes "deletekey")
-    then Some (command.DeleteKey db key)
+    then Some (command.Steps (steps.DeleteKey db key))
     else None
 
 abbrev pub value_command : List ℕ → Option (List ℕ) → Option (List ℕ) → Option (List ℕ) → Option Command
 value_command c None key value = None
 value_command c (Some db) None value = None
 value_command c (Some db) (Some key) None = None
-value_command c (Some db) (Some key) (Some value) = if bytes_eq c (codes "writekey") then Some (command.WriteKey db key value) else None
+value_command c (Some db) (Some key) (Some value) = if bytes_eq c (codes "writekey") then Some (command.Steps (steps.WriteKey db key value)) else None
 
 abbrev pub writes_command : Option (List ℕ) → Option (List Pair) → Option Command
 writes_command None writes = None
 writes_command (Some db) None = None
-writes_command (Some db) (Some writes) = Some (command.PTrans db writes)
+writes_command (Some db) (Some writes) = Some (command.Steps (steps.PTrans db writes))
 
 -- `ptrans DB KEY=VALUE` and further pairs
 abbrev pub ptrans_form : List (List ℕ) → Option Command

@@ -19,6 +19,10 @@ use Rattle.ct_lines.specs.declared.line.NamedOp.{NamedOp}
 use Rattle.ct_lines.specs.declared.line.NamedOp.TheVariants as op
 use Rattle.ct_lines.specs.declared.line.Command.{Command}
 use Rattle.ct_lines.specs.declared.line.Command.TheVariants as command
+use Rattle.ct_lines.specs.declared.line.ShowCommand.{ShowCommand}
+use Rattle.ct_lines.specs.declared.line.ShowCommand.TheVariants as shows
+use Rattle.ct_lines.specs.declared.line.StepCommand.{StepCommand}
+use Rattle.ct_lines.specs.declared.line.StepCommand.TheVariants as steps
 
 -- ---- texts
 
@@ -74,21 +78,27 @@ op_words (op.Apply key function arg) = spelling key ∷ decimal function ∷ spe
 op_words (op.Commit pairs) = map pair_text pairs
 op_words op.Vacuum = []
 
+abbrev pub show_command_words : ShowCommand → List (List ℕ)
+show_command_words shows.Pnn = codes "pnn" ∷ []
+show_command_words shows.ListNodes = codes "listnodes" ∷ []
+show_command_words shows.Status = codes "status" ∷ []
+show_command_words shows.Ip = codes "ip" ∷ []
+show_command_words shows.GetDbMap = codes "getdbmap" ∷ []
+show_command_words (shows.CatTdb db) = codes "cattdb" ∷ db ∷ []
+show_command_words (shows.GetDbSeqNum db) = codes "getdbseqnum" ∷ db ∷ []
+
+abbrev pub step_command_words : StepCommand → List (List ℕ)
+step_command_words steps.Disable = codes "disable" ∷ []
+step_command_words steps.Enable = codes "enable" ∷ []
+step_command_words (steps.ReadKey db key) = codes "readkey" ∷ db ∷ spelling key ∷ []
+step_command_words (steps.WriteKey db key value) = codes "writekey" ∷ db ∷ spelling key ∷ spelling value ∷ []
+step_command_words (steps.DeleteKey db key) = codes "deletekey" ∷ db ∷ spelling key ∷ []
+step_command_words (steps.PTrans db writes) = codes "ptrans" ∷ db ∷ map pair_text writes
+step_command_words steps.Recover = codes "recover" ∷ []
+
 abbrev pub command_words : Command → List (List ℕ)
-command_words command.Pnn = codes "pnn" ∷ []
-command_words command.ListNodes = codes "listnodes" ∷ []
-command_words command.Status = codes "status" ∷ []
-command_words command.Ip = codes "ip" ∷ []
-command_words command.GetDbMap = codes "getdbmap" ∷ []
-command_words (command.CatTdb db) = codes "cattdb" ∷ db ∷ []
-command_words (command.GetDbSeqNum db) = codes "getdbseqnum" ∷ db ∷ []
-command_words command.Disable = codes "disable" ∷ []
-command_words command.Enable = codes "enable" ∷ []
-command_words (command.ReadKey db key) = codes "readkey" ∷ db ∷ spelling key ∷ []
-command_words (command.WriteKey db key value) = codes "writekey" ∷ db ∷ spelling key ∷ spelling value ∷ []
-command_words (command.DeleteKey db key) = codes "deletekey" ∷ db ∷ spelling key ∷ []
-command_words (command.PTrans db writes) = codes "ptrans" ∷ db ∷ map pair_text writes
-command_words command.Recover = codes "recover" ∷ []
+command_words (command.Shows asked) = show_command_words asked
+command_words (command.Steps asked) = step_command_words asked
 
 abbrev pub spelled_words : ScenarioLine → List (List ℕ)
 spelled_words (Config what) = config_words what
@@ -157,21 +167,27 @@ IsOp (op.Apply key function arg) = IsKey key × IsSmall function × IsValue arg
 IsOp (op.Commit pairs) = ArePairs pairs
 IsOp op.Vacuum = Unit {0}
 
+abbrev pub IsShowCommand : ShowCommand → Type 0
+IsShowCommand shows.Pnn = Unit {0}
+IsShowCommand shows.ListNodes = Unit {0}
+IsShowCommand shows.Status = Unit {0}
+IsShowCommand shows.Ip = Unit {0}
+IsShowCommand shows.GetDbMap = Unit {0}
+IsShowCommand (shows.CatTdb db) = IsName db
+IsShowCommand (shows.GetDbSeqNum db) = IsName db
+
+abbrev pub IsStepCommand : StepCommand → Type 0
+IsStepCommand steps.Disable = Unit {0}
+IsStepCommand steps.Enable = Unit {0}
+IsStepCommand (steps.ReadKey db key) = IsName db × IsKey key
+IsStepCommand (steps.WriteKey db key value) = IsName db × IsKey key × IsValue value
+IsStepCommand (steps.DeleteKey db key) = IsName db × IsKey key
+IsStepCommand (steps.PTrans db writes) = IsName db × ArePairs writes
+IsStepCommand steps.Recover = Unit {0}
+
 abbrev pub IsCommand : Command → Type 0
-IsCommand command.Pnn = Unit {0}
-IsCommand command.ListNodes = Unit {0}
-IsCommand command.Status = Unit {0}
-IsCommand command.Ip = Unit {0}
-IsCommand command.GetDbMap = Unit {0}
-IsCommand (command.CatTdb db) = IsName db
-IsCommand (command.GetDbSeqNum db) = IsName db
-IsCommand command.Disable = Unit {0}
-IsCommand command.Enable = Unit {0}
-IsCommand (command.ReadKey db key) = IsName db × IsKey key
-IsCommand (command.WriteKey db key value) = IsName db × IsKey key × IsValue value
-IsCommand (command.DeleteKey db key) = IsName db × IsKey key
-IsCommand (command.PTrans db writes) = IsName db × ArePairs writes
-IsCommand command.Recover = Unit {0}
+IsCommand (command.Shows asked) = IsShowCommand asked
+IsCommand (command.Steps asked) = IsStepCommand asked
 
 -- each number, name, key, value, address and list of a line in its range
 abbrev pub IsInRange : ScenarioLine → Type 0

@@ -51,9 +51,16 @@ pub enum NamedOp {
     Vacuum,
 }
 
-/// A command of the command line. The first seven print.
+/// A command of the command line.
 #[derive(Debug, Drop, PartialEq)]
 pub enum Command {
+    Shows(ShowCommand),
+    Steps(StepCommand),
+}
+
+/// A command that shows what a node has and knows. It changes nothing.
+#[derive(Debug, Drop, PartialEq)]
+pub enum ShowCommand {
     Pnn,
     ListNodes,
     Status,
@@ -61,6 +68,11 @@ pub enum Command {
     GetDbMap,
     CatTdb(DbName),
     GetDbSeqNum(DbName),
+}
+
+/// A command that is a step at a node.
+#[derive(Debug, Drop, PartialEq)]
+pub enum StepCommand {
     Disable,
     Enable,
     ReadKey { db: DbName, key: Key },

@@ -5,7 +5,10 @@ ghost use Rattle.ct_lines.specs.Reading.{Reads, ReadsLine};
 ghost use Rattle.ct_lines.specs.Spelled.{IsInRange, spelled_line};
 ghost use Rattle.ct_lines.specs.Words.{key_word, name_word, number_word, value_word};
 
-use crate::line::{Command, ConfigLine, LineKind, LineKindFault, NamedOp, ScenarioLine, WordFault};
+use crate::line::{
+    Command, ConfigLine, LineKind, LineKindFault, NamedOp, ScenarioLine, ShowCommand, StepCommand,
+    WordFault,
+};
 use crate::words::{
     address_word, cut, is_word, key_word, kind_word, members_word, message_word, name_word,
     number_word, pairs_of, small_within, value_word,
@@ -212,21 +215,21 @@ fn bare_command(word: &[u8]) -> Result<Command, WordFault>
     ensures { Reads result (bare_command word.now) }
 {
     if is_word(word, b"pnn") {
-        Ok(Command::Pnn)
+        Ok(Command::Shows(ShowCommand::Pnn))
     } else if is_word(word, b"listnodes") {
-        Ok(Command::ListNodes)
+        Ok(Command::Shows(ShowCommand::ListNodes))
     } else if is_word(word, b"status") {
-        Ok(Command::Status)
+        Ok(Command::Shows(ShowCommand::Status))
     } else if is_word(word, b"ip") {
-        Ok(Command::Ip)
+        Ok(Command::Shows(ShowCommand::Ip))
     } else if is_word(word, b"getdbmap") {
-        Ok(Command::GetDbMap)
+        Ok(Command::Shows(ShowCommand::GetDbMap))
     } else if is_word(word, b"disable") {
-        Ok(Command::Disable)
+        Ok(Command::Steps(StepCommand::Disable))
     } else if is_word(word, b"enable") {
-        Ok(Command::Enable)
+        Ok(Command::Steps(StepCommand::Enable))
     } else if is_word(word, b"recover") {
-        Ok(Command::Recover)
+        Ok(Command::Steps(StepCommand::Recover))
     } else {
         Err(WordFault::NoForm)
     }
@@ -237,9 +240,9 @@ fn db_command(alloc: Global, word: &[u8], db: &[u8]) -> Result<Command, WordFaul
 {
     let db = name_word(alloc, db)?;
     if is_word(word, b"cattdb") {
-        Ok(Command::CatTdb(db))
+        Ok(Command::Shows(ShowCommand::CatTdb(db)))
     } else if is_word(word, b"getdbseqnum") {
-        Ok(Command::GetDbSeqNum(db))
+        Ok(Command::Shows(ShowCommand::GetDbSeqNum(db)))
     } else {
         Err(WordFault::NoForm)
     }
@@ -251,9 +254,9 @@ fn key_command(alloc: Global, word: &[u8], db: &[u8], key: &[u8]) -> Result<Comm
     let db = name_word(alloc, db)?;
     let key = key_word(alloc, key)?;
     if is_word(word, b"readkey") {
-        Ok(Command::ReadKey { db, key })
+        Ok(Command::Steps(StepCommand::ReadKey { db, key }))
     } else if is_word(word, b"deletekey") {
-        Ok(Command::DeleteKey { db, key })
+        Ok(Command::Steps(StepCommand::DeleteKey { db, key }))
     } else {
         Err(WordFault::NoForm)
     }
@@ -272,7 +275,7 @@ fn value_command(
     let key = key_word(alloc, key)?;
     let value = value_word(alloc, value)?;
     if is_word(word, b"writekey") {
-        Ok(Command::WriteKey { db, key, value })
+        Ok(Command::Steps(StepCommand::WriteKey { db, key, value }))
     } else {
         Err(WordFault::NoForm)
     }
@@ -287,7 +290,7 @@ fn ptrans_command(alloc: Global, args: &[&[u8]]) -> Result<Command, WordFault>
     };
     let db = name_word(alloc, db)?;
     let writes = pairs_of(alloc, pairs)?;
-    Ok(Command::PTrans { db, writes })
+    Ok(Command::Steps(StepCommand::PTrans { db, writes }))
 }
 
 /// The command of a word and those after it, by their number.

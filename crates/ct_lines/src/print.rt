@@ -3,9 +3,9 @@ ghost use Rattle.std.specs.Prelude.{◌≡◌, ◌++◌, ◌∷◌, [], IfOk, On
 ghost use Rattle.std.specs.Fmt.{decimal};
 ghost use Rattle.std.specs.List.{join_with_byte};
 ghost use Rattle.ct_bytes.specs.Spelling.{spelling};
-ghost use Rattle.ct_lines.specs.Spelled.{command_words, config_words, kind_text, members_text, op_text, op_words, pair_text, spelled_line, step_words};
+ghost use Rattle.ct_lines.specs.Spelled.{command_words, config_words, kind_text, members_text, op_text, op_words, pair_text, show_command_words, spelled_line, step_command_words, step_words};
 
-use crate::line::{Command, ConfigLine, NamedOp, ScenarioLine};
+use crate::line::{Command, ConfigLine, NamedOp, ScenarioLine, ShowCommand, StepCommand};
 use ct_bytes::address::push_address;
 use ct_bytes::memory::NoMemory;
 use ct_bytes::number::push_decimal;
@@ -166,47 +166,64 @@ fn push_op(text: &mut Vec<u8>, op: &NamedOp) -> Result<(), NoMemory>
 }
 
 #[tactic(auto, using(crate::proofs::Joined::two_more))]
-fn push_command(text: &mut Vec<u8>, command: &Command) -> Result<(), NoMemory>
-    ensures { OnOk result (text.new.items ≡ text.old.items ++ join_with_byte 32 ([] ∷ command_words command.now)) }
+fn push_show(text: &mut Vec<u8>, command: &ShowCommand) -> Result<(), NoMemory>
+    ensures { OnOk result (text.new.items ≡ text.old.items ++ join_with_byte 32 ([] ∷ show_command_words command.now)) }
 {
     match command {
-        Command::Pnn => push_word(text, b"pnn"),
-        Command::ListNodes => push_word(text, b"listnodes"),
-        Command::Status => push_word(text, b"status"),
-        Command::Ip => push_word(text, b"ip"),
-        Command::GetDbMap => push_word(text, b"getdbmap"),
-        Command::CatTdb(db) => {
+        ShowCommand::Pnn => push_word(text, b"pnn"),
+        ShowCommand::ListNodes => push_word(text, b"listnodes"),
+        ShowCommand::Status => push_word(text, b"status"),
+        ShowCommand::Ip => push_word(text, b"ip"),
+        ShowCommand::GetDbMap => push_word(text, b"getdbmap"),
+        ShowCommand::CatTdb(db) => {
             push_word(text, b"cattdb")?;
             push_word(text, db.bytes())
         }
-        Command::GetDbSeqNum(db) => {
+        ShowCommand::GetDbSeqNum(db) => {
             push_word(text, b"getdbseqnum")?;
             push_word(text, db.bytes())
         }
-        Command::Disable => push_word(text, b"disable"),
-        Command::Enable => push_word(text, b"enable"),
-        Command::ReadKey { db, key } => {
+    }
+}
+
+#[tactic(auto, using(crate::proofs::Joined::two_more))]
+fn push_step_command(text: &mut Vec<u8>, command: &StepCommand) -> Result<(), NoMemory>
+    ensures { OnOk result (text.new.items ≡ text.old.items ++ join_with_byte 32 ([] ∷ step_command_words command.now)) }
+{
+    match command {
+        StepCommand::Disable => push_word(text, b"disable"),
+        StepCommand::Enable => push_word(text, b"enable"),
+        StepCommand::ReadKey { db, key } => {
             push_word(text, b"readkey")?;
             push_word(text, db.bytes())?;
             push_bytes(text, key.bytes())
         }
-        Command::WriteKey { db, key, value } => {
+        StepCommand::WriteKey { db, key, value } => {
             push_word(text, b"writekey")?;
             push_word(text, db.bytes())?;
             push_bytes(text, key.bytes())?;
             push_bytes(text, value.bytes())
         }
-        Command::DeleteKey { db, key } => {
+        StepCommand::DeleteKey { db, key } => {
             push_word(text, b"deletekey")?;
             push_word(text, db.bytes())?;
             push_bytes(text, key.bytes())
         }
-        Command::PTrans { db, writes } => {
+        StepCommand::PTrans { db, writes } => {
             push_word(text, b"ptrans")?;
             push_word(text, db.bytes())?;
             push_pairs(text, writes.as_slice())
         }
-        Command::Recover => push_word(text, b"recover"),
+        StepCommand::Recover => push_word(text, b"recover"),
+    }
+}
+
+fn push_command(text: &mut Vec<u8>, command: &Command) -> Result<(), NoMemory>
+    ensures { OnOk result (text.new.items ≡ text.old.items ++ join_with_byte 32 ([] ∷ command_words command.now)) }
+{
+    match command {
+        Command::Shows(command) => push_show(text, command),
+        Command::Steps(command) => push_step_command(text, command),
     }
 }
 

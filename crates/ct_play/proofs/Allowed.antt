@@ -6,13 +6,12 @@ use Rattle.ct_cluster.specs.Cluster.{Cluster, everyone, is_up, numbers}
 use Rattle.ct_cluster.specs.Faults.{is_allowed}
 use Rattle.ct_cluster.specs.declared.step.Step.{Step}
 use Rattle.ct_cluster.specs.declared.step.Step.TheVariants as step
-use Rattle.ct_commands.specs.Command.{prints}
 use Rattle.ct_frame.specs.Fields.{ascends, ascends_after, is_one_to_sixteen}
-use Rattle.ct_lines.specs.Spelled.{ArePairs, IsChange, IsCommand, IsOp}
-use Rattle.ct_lines.specs.declared.line.Command.{Command}
-use Rattle.ct_lines.specs.declared.line.Command.TheVariants as command
+use Rattle.ct_lines.specs.Spelled.{ArePairs, IsChange, IsOp, IsStepCommand}
 use Rattle.ct_lines.specs.declared.line.NamedOp.{NamedOp}
 use Rattle.ct_lines.specs.declared.line.NamedOp.TheVariants as named
+use Rattle.ct_lines.specs.declared.line.StepCommand.{StepCommand}
+use Rattle.ct_lines.specs.declared.line.StepCommand.TheVariants as command
 use Rattle.ct_msg.specs.declared.client.Pair.{Pair}
 use Rattle.ct_msg.specs.declared.config.Config.{Config}
 use Rattle.ct_rules_node.specs.Coming.{is_allowed_op}
@@ -75,40 +74,16 @@ running_ascend c w = rise (λ n. is_up n w) 0 c.nodes
 
 -- ---- commands
 
-allowed_step : (s t : Step) → is_allowed s ≡ true → Some s ≡ Some t → is_allowed t ≡ true
-allowed_step s t h e = (let same : s ≡ t = cc in subst (λ x. is_allowed x ≡ true) same h)
+allowed_step : (s t : Step) → is_allowed s ≡ true → s ≡ t → is_allowed t ≡ true
+allowed_step s t h e = subst (λ x. is_allowed x ≡ true) e h
 
 -- the step that a command is
-pub command_allowed : (c : Config) (w : Cluster) (n : ℕ) (asked : Command) (s : Step) → IsCommand asked → command_step c w n asked ≡ Some s → is_allowed s ≡ true
+pub command_allowed : (c : Config) (w : Cluster) (n : ℕ) (asked : StepCommand) (s : Step) → IsStepCommand asked → command_step c w n asked ≡ s → is_allowed s ≡ true
 unfolding is_allowed is_allowed_op
-command_allowed c w n command.Pnn s h e = absurd (cc)
-command_allowed c w n command.ListNodes s h e = absurd (cc)
-command_allowed c w n command.Status s h e = absurd (cc)
-command_allowed c w n command.Ip s h e = absurd (cc)
-command_allowed c w n command.GetDbMap s h e = absurd (cc)
-command_allowed c w n (command.CatTdb db) s h e = absurd (cc)
-command_allowed c w n (command.GetDbSeqNum db) s h e = absurd (cc)
-command_allowed c w n command.Disable s h e = allowed_step (step.Able n false) s refl e
-command_allowed c w n command.Enable s h e = allowed_step (step.Able n true) s refl e
+command_allowed c w n command.Disable s h e = allowed_step _ s refl e
+command_allowed c w n command.Enable s h e = allowed_step _ s refl e
 command_allowed c w n (command.ReadKey db key) s h e = allowed_step _ s refl e
 command_allowed c w n (command.WriteKey db key value) s h e = allowed_step _ s refl e
 command_allowed c w n (command.DeleteKey db key) s h e = allowed_step _ s refl e
 command_allowed c w n (command.PTrans db writes) s h e = allowed_step _ s (few_pairs writes h.1) e
 command_allowed c w n command.Recover s h e = allowed_step _ s (running_ascend c w) e
-
--- a command that is no step prints
-pub printing : (c : Config) (w : Cluster) (n : ℕ) (asked : Command) → command_step c w n asked ≡ None → prints asked ≡ true
-printing c w n command.Pnn e = refl
-printing c w n command.ListNodes e = refl
-printing c w n command.Status e = refl
-printing c w n command.Ip e = refl
-printing c w n command.GetDbMap e = refl
-printing c w n (command.CatTdb db) e = refl
-printing c w n (command.GetDbSeqNum db) e = refl
-printing c w n command.Disable e = absurd (cc)
-printing c w n command.Enable e = absurd (cc)
-printing c w n (command.ReadKey db key) e = absurd (cc)
-printing c w n (command.WriteKey db key value) e = absurd (cc)
-printing c w n (command.DeleteKey db key) e = absurd (cc)
-printing c w n (command.PTrans db writes) e = absurd (cc)
-printing c w n command.Recover e = absurd (cc)

@@ -5,7 +5,6 @@ use Rattle.ct_call.specs.Rules.{Rules}
 use Rattle.ct_cluster.specs.Cluster.{opening}
 use Rattle.ct_cluster.specs.Faults.{fault_of}
 use Rattle.ct_cluster.specs.Traces.{OpenCall, idle, ran}
-use Rattle.ct_cluster.specs.declared.step.Step.{Step}
 use Rattle.ct_cluster.specs.declared.step.Step.TheVariants as step
 use Rattle.ct_cluster.specs.declared.step.StepFault.{StepFault}
 use Rattle.ct_commands.specs.declared.command.TextFault.{TextFault}
@@ -15,15 +14,17 @@ use Rattle.ct_lines.specs.Grammar.{line_of}
 use Rattle.ct_lines.specs.Places.{Accepted, IsAccepted, refusal, with_line}
 use Rattle.ct_lines.specs.Spelled.{IsCommand, IsInRange}
 use Rattle.ct_lines.specs.declared.line.Command.{Command}
+use Rattle.ct_lines.specs.declared.line.Command.TheVariants.{Shows, Steps}
 use Rattle.ct_lines.specs.declared.line.ConfigLine.TheVariants as config
 use Rattle.ct_lines.specs.declared.line.LineKind.{LineKind}
 use Rattle.ct_lines.specs.declared.line.LineKind.TheVariants.{Long}
 use Rattle.ct_lines.specs.declared.line.ScenarioLine.{ScenarioLine}
 use Rattle.ct_lines.specs.declared.line.ScenarioLine.TheVariants as item
+use Rattle.ct_lines.specs.declared.line.ShowCommand.{ShowCommand}
 use Rattle.ct_world.specs.World.{World}
 use Rattle.ct_play.specs.Course.{Course, Deed, one_step, settled}
 use Rattle.ct_play.specs.Effect.{Effect, commanded, cut_after, effect_of, line_effect, shown, text_effect, texts_of}
-use Rattle.ct_play.specs.Named.{command_step, named_step, number_of_db}
+use Rattle.ct_play.specs.Named.{command_step, named_step, number_in_step}
 use Rattle.ct_play.specs.Opening.{world_at}
 use Rattle.ct_play.specs.Play.{IsRunOf, Run, continued, lines_after, played, run_from, run_lines}
 use Rattle.ct_play.specs.Session.{Played, is_config_line, item_played, line_played, longest, placed, put, quiet, start}
@@ -86,23 +87,24 @@ tells : (rules : Rules) (w : World) (r : Result (List ℕ) TextFault) (e : Effec
 tells rules w (Ok text) e m deeds r = unchanged rules w (cut_after [] text) e (cc) deeds r
 tells rules w (Err f) e m deeds r = absurd (cc)
 
-shows : (rules : Rules) (w : World) (n : ℕ) (command : Command) (o : Option StepFault) (e : Effect) → shown w n command o ≡ Ok e → (deeds : List Deed) → IsRunOf rules (Some w) deeds → IsRunOf rules (Some e.world) (deeds ++ e.deeds)
+shows : (rules : Rules) (w : World) (n : ℕ) (command : ShowCommand) (o : Option StepFault) (e : Effect) → shown w n command o ≡ Ok e → (deeds : List Deed) → IsRunOf rules (Some w) deeds → IsRunOf rules (Some e.world) (deeds ++ e.deeds)
 shows rules w n command (Some f) e m deeds r = absurd (cc)
 shows rules w n command None e m deeds r = tells rules w _ e m deeds r
 
-commands : (rules : Rules) (w : World) (n : ℕ) (command : Command) (o : Option Step) (e : Effect) → IsCommand command → command_step w.config w.cluster n command ≡ o → commanded rules w n command o ≡ Ok e → (deeds : List Deed) → IsRunOf rules (Some w) deeds → IsRunOf rules (Some e.world) (deeds ++ e.deeds)
-commands rules w n command (Some s) e range is m deeds r =
-    goes rules w (one_step w.config rules w.cluster s) e m (λ log x k. step_leads w.config rules w.cluster log s x (command_allowed w.config w.cluster n command s range is) k) deeds r
-commands rules w n command None e range is m deeds r = shows rules w n command (fault_of w.config w.cluster (step.Retry n)) e m deeds r
+commands : (rules : Rules) (w : World) (n : ℕ) (command : Command) (e : Effect) → IsCommand command → commanded rules w n command ≡ Ok e → (deeds : List Deed) → IsRunOf rules (Some w) deeds → IsRunOf rules (Some e.world) (deeds ++ e.deeds)
+commands rules w n (Shows command) e range m deeds r = shows rules w n command (fault_of w.config w.cluster (step.Retry n)) e m deeds r
+commands rules w n (Steps command) e range m deeds r =
+    let s = command_step w.config w.cluster n command in
+    goes rules w (one_step w.config rules w.cluster s) e m (λ log x k. step_leads w.config rules w.cluster log s x (command_allowed w.config w.cluster n command s range refl) k) deeds r
 
 works : (rules : Rules) (w : World) (line : ScenarioLine) (e : Effect) → IsInRange line → line_effect rules w line ≡ Ok e → (deeds : List Deed) → IsRunOf rules (Some w) deeds → IsRunOf rules (Some e.world) (deeds ++ e.deeds)
 works rules w (item.Config said) e range m deeds r = unchanged rules w [] e (cc) deeds r
 works rules w (item.Change s) e range m deeds r = goes rules w (one_step w.config rules w.cluster s) e m (λ log x k. step_leads w.config rules w.cluster log s x (change_allowed s range) k) deeds r
 works rules w (item.ByName n db asked) e range m deeds r =
-    let s = named_step n (number_of_db w.config db) asked in
-    goes rules w (one_step w.config rules w.cluster s) e m (λ log x k. step_leads w.config rules w.cluster log s x (named_allowed n (number_of_db w.config db) asked range.2) k) deeds r
+    let s = named_step n (number_in_step w.config db) asked in
+    goes rules w (one_step w.config rules w.cluster s) e m (λ log x k. step_leads w.config rules w.cluster log s x (named_allowed n (number_in_step w.config db) asked range.2) k) deeds r
 works rules w (item.Settle count) e range m deeds r = goes rules w (settled w.config rules count w.cluster) e m (λ log x k. settled_leads w.config rules count w.cluster log x k) deeds r
-works rules w (item.Ctdb n command) e range m deeds r = commands rules w n command (command_step w.config w.cluster n command) e range.1 refl m deeds r
+works rules w (item.Ctdb n command) e range m deeds r = commands rules w n command e range.1 m deeds r
 
 -- ---- what a line does to the session
 

@@ -12,13 +12,15 @@ use Rattle.ct_commands.specs.Command.{command_text}
 use Rattle.ct_commands.specs.declared.command.TextFault.{TextFault}
 use Rattle.ct_commands.specs.declared.command.TextFault.TheVariants as untold
 use Rattle.ct_lines.specs.declared.line.Command.{Command}
+use Rattle.ct_lines.specs.declared.line.Command.TheVariants.{Shows, Steps}
 use Rattle.ct_lines.specs.declared.line.ScenarioLine.{ScenarioLine}
 use Rattle.ct_lines.specs.declared.line.ScenarioLine.TheVariants as item
+use Rattle.ct_lines.specs.declared.line.ShowCommand.{ShowCommand}
 use Rattle.ct_msg.specs.declared.config.Config.{Config}
 use Rattle.ct_tool.specs.Line.{line_text}
 use Rattle.ct_world.specs.World.{World}
 use Rattle.ct_play.specs.Course.{Course, Deed, one_step, printed, settled}
-use Rattle.ct_play.specs.Named.{command_step, named_step, number_of_db}
+use Rattle.ct_play.specs.Named.{command_step, named_step, number_in_step}
 use Rattle.ct_play.specs.declared.what.PlayFault.{PlayFault}
 use Rattle.ct_play.specs.declared.what.PlayFault.TheVariants.{Refused, NoMemory}
 use Rattle.ct_play.specs.declared.what.What.{What}
@@ -88,20 +90,20 @@ untold_of untold.NoSuchDb = what.NoSuchDb
 untold_of untold.WrongKind = what.WrongKind
 untold_of untold.NoMemory = what.Exhausted
 
--- a command that prints changes nothing
+-- a command that shows something changes nothing
 abbrev pub text_effect : World → Result (List ℕ) TextFault → Result Effect What
 text_effect w (Ok text) = Ok (record { world = w; texts = cut_after [] text; deeds = [] })
 text_effect w (Err f) = Err (untold_of f)
 
 -- it is refused as a step at a node that is not there, or is down
-abbrev pub shown : World → ℕ → Command → Option StepFault → Result Effect What
+abbrev pub shown : World → ℕ → ShowCommand → Option StepFault → Result Effect What
 shown w n command (Some f) = Err (what_of f)
 shown w n command None = text_effect w (command_text w.config n (node_at n w.cluster) w.cluster.running w.cluster.able command)
 
--- a command that is a step, or prints
-abbrev pub commanded : Rules → World → ℕ → Command → Option Step → Result Effect What
-commanded rules w n command (Some s) = stepped rules w s
-commanded rules w n command None = shown w n command (fault_of w.config w.cluster (step.Retry n))
+-- a command that shows something, or is a step
+abbrev pub commanded : Rules → World → ℕ → Command → Result Effect What
+commanded rules w n (Shows command) = shown w n command (fault_of w.config w.cluster (step.Retry n))
+commanded rules w n (Steps command) = stepped rules w (command_step w.config w.cluster n command)
 
 -- ---- lines
 
@@ -109,9 +111,9 @@ commanded rules w n command None = shown w n command (fault_of w.config w.cluste
 abbrev pub line_effect : Rules → World → ScenarioLine → Result Effect What
 line_effect rules w (item.Config said) = Ok (no_effect w)
 line_effect rules w (item.Change s) = stepped rules w s
-line_effect rules w (item.ByName n db asked) = stepped rules w (named_step n (number_of_db w.config db) asked)
+line_effect rules w (item.ByName n db asked) = stepped rules w (named_step n (number_in_step w.config db) asked)
 line_effect rules w (item.Settle m) = effect_of w.config (settled w.config rules m w.cluster)
-line_effect rules w (item.Ctdb n command) = commanded rules w n command (command_step w.config w.cluster n command)
+line_effect rules w (item.Ctdb n command) = commanded rules w n command
 
 -- the new cluster and the texts are those of the effect
 abbrev pub IsEffect : Result Effect What → World → List (List ℕ) → Type 0

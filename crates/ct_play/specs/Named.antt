@@ -1,25 +1,37 @@
 -- Which step a line or a command is, where it names a database.
-use Rattle.std.specs.Prelude.{ℕ, ◌+◌, min, true, false, if◌then◌else◌, List, [], ◌∷◌, filter, Option, None, Some}
+use Rattle.std.specs.Prelude.{ℕ, ◌+◌, true, false, nat_lt, if◌then◌else◌, List, [], ◌∷◌, filter, Option, None, Some, unwrap_or}
 use Rattle.std.specs.Str.{bytes_eq}
 use Rattle.ct_cluster.specs.Cluster.{Cluster, everyone, is_up}
 use Rattle.ct_cluster.specs.declared.step.Step.{Step}
 use Rattle.ct_cluster.specs.declared.step.Step.TheVariants as step
-use Rattle.ct_lines.specs.declared.line.Command.{Command}
-use Rattle.ct_lines.specs.declared.line.Command.TheVariants as command
 use Rattle.ct_lines.specs.declared.line.NamedOp.{NamedOp}
 use Rattle.ct_lines.specs.declared.line.NamedOp.TheVariants as named
+use Rattle.ct_lines.specs.declared.line.StepCommand.{StepCommand}
+use Rattle.ct_lines.specs.declared.line.StepCommand.TheVariants as command
 use Rattle.ct_msg.specs.declared.client.ClientOp.TheVariants as op
 use Rattle.ct_msg.specs.declared.config.Config.{Config}
 use Rattle.ct_msg.specs.declared.config.DbDecl.{DbDecl}
 
--- the number of a named database, where the first of these has number i; a name that none has gives 2^32 - 1
-abbrev pub number_from : ℕ → List ℕ → List DbDecl → ℕ
-number_from i name [] = 4294967295
-number_from i name (d ∷ ds) = if bytes_eq d.name name then min i 4294967295 else number_from (i + 1) name ds
+-- the number of the database at place i; a number is below 2^32
+abbrev pub number_at : ℕ → Option ℕ
+number_at i = if nat_lt i 4294967296 then Some i else None
 
--- the number of the database that the configuration has by this name
-abbrev pub number_of_db : Config → List ℕ → ℕ
+-- the number of the database of this name, where one has it and the first of these stands at place i
+abbrev pub number_from : ℕ → List ℕ → List DbDecl → Option ℕ
+number_from i name [] = None
+number_from i name (d ∷ ds) = if bytes_eq d.name name then number_at i else number_from (i + 1) name ds
+
+-- the number of the database that the configuration has by this name, where it has one
+abbrev pub number_of_db : Config → List ℕ → Option ℕ
 number_of_db c name = number_from 0 name c.dbs
+
+-- the number that stands for no database; no configuration has a database of this number
+abbrev pub no_database : ℕ
+no_database = 4294967295
+
+-- the number by which a step tells of the database of this name; that of no database where the name is not declared
+abbrev pub number_in_step : Config → List ℕ → ℕ
+number_in_step c name = unwrap_or (number_of_db c name) no_database
 
 -- what is asked at a node on the database of this number
 abbrev pub named_step : ℕ → ℕ → NamedOp → Step
@@ -35,19 +47,12 @@ named_step n db named.Vacuum = step.Vacuum n db
 abbrev pub running_nodes : Config → Cluster → List ℕ
 running_nodes c w = filter (λ n. is_up n w) (everyone c)
 
--- the step that a command is; the first seven print, and are none
-abbrev pub command_step : Config → Cluster → ℕ → Command → Option Step
-command_step c w n command.Pnn = None
-command_step c w n command.ListNodes = None
-command_step c w n command.Status = None
-command_step c w n command.Ip = None
-command_step c w n command.GetDbMap = None
-command_step c w n (command.CatTdb db) = None
-command_step c w n (command.GetDbSeqNum db) = None
-command_step c w n command.Disable = Some (step.Able n false)
-command_step c w n command.Enable = Some (step.Able n true)
-command_step c w n (command.ReadKey db key) = Some (step.Client n (op.Read (number_of_db c db) key))
-command_step c w n (command.WriteKey db key value) = Some (step.Client n (op.Write (number_of_db c db) key value))
-command_step c w n (command.DeleteKey db key) = Some (step.Client n (op.Write (number_of_db c db) key []))
-command_step c w n (command.PTrans db writes) = Some (step.Client n (op.Commit (number_of_db c db) writes))
-command_step c w n command.Recover = Some (step.Recover n (running_nodes c w))
+-- the step that a command is
+abbrev pub command_step : Config → Cluster → ℕ → StepCommand → Step
+command_step c w n command.Disable = step.Able n false
+command_step c w n command.Enable = step.Able n true
+command_step c w n (command.ReadKey db key) = step.Client n (op.Read (number_in_step c db) key)
+command_step c w n (command.WriteKey db key value) = step.Client n (op.Write (number_in_step c db) key value)
+command_step c w n (command.DeleteKey db key) = step.Client n (op.Write (number_in_step c db) key [])
+command_step c w n (command.PTrans db writes) = step.Client n (op.Commit (number_in_step c db) writes)
+command_step c w n command.Recover = step.Recover n (running_nodes c w)

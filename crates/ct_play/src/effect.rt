@@ -8,9 +8,8 @@ ghost use Rattle.ct_lines.specs.Spelled.{IsCommand, IsInRange};
 ghost use Rattle.ct_tool.specs.Line.{line_text};
 ghost use Rattle.ct_play.specs.Course.{Adds, Goes, settled};
 ghost use Rattle.ct_play.specs.Effect.{Works, commanded, effect_of, line_effect, stepped};
-ghost use Rattle.ct_play.specs.Named.{command_step};
 
-use crate::named::{command_step, named_step, number_of_db};
+use crate::named::{command_step, named_step, number_in_step};
 use crate::shown::{refused_by, shown};
 use crate::what::PlayFault;
 use ct_bytes::items::Items;
@@ -126,8 +125,8 @@ fn settled(
     }
 }
 
-/// A command: it is a step, or it prints.
-#[tactic(auto, using(crate::proofs::Allowed::command_allowed, crate::proofs::Allowed::printing))]
+/// A command: it shows something, or is a step.
+#[tactic(auto, using(crate::proofs::Allowed::command_allowed))]
 fn commanded(
     alloc: Global,
     world: &mut World,
@@ -136,12 +135,14 @@ fn commanded(
     command: &Command,
 ) -> Result<Vec<Items<u8>>, PlayFault>
     requires { IsCommand command.now }
-    ensures { Works result (commanded (rules_of table.now) world.old node command.now (command_step world.old.config world.old.cluster node command.now)) world.new }
+    ensures { Works result (commanded (rules_of table.now) world.old node command.now) world.new }
 {
-    match command_step(alloc, world, node, command) {
-        Ok(Some(step)) => stepped(alloc, world, table, &step),
-        Ok(None) => shown(alloc, world, node, command),
-        Err(NoMemory) => Err(PlayFault::NoMemory),
+    match command {
+        Command::Shows(command) => shown(alloc, world, node, command),
+        Command::Steps(command) => match command_step(alloc, world, node, command) {
+            Ok(step) => stepped(alloc, world, table, &step),
+            Err(NoMemory) => Err(PlayFault::NoMemory),
+        },
     }
 }
 
@@ -160,7 +161,7 @@ pub fn line_effect(
         ScenarioLine::Config(_) => Ok(Vec::new(alloc)),
         ScenarioLine::Change(step) => stepped(alloc, world, table, &step),
         ScenarioLine::ByName { node, db, op } => {
-            let number = number_of_db(world.config(), &db);
+            let number = number_in_step(world.config(), &db);
             let step = named_step(node, number, op);
             stepped(alloc, world, table, &step)
         }

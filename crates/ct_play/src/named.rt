@@ -1,7 +1,7 @@
 //! Which step a line or a command is, where it names a database.
 ghost use Rattle.std.specs.Prelude.{◌≡◌, ◌∷◌, nat_eq, IfOk};
 ghost use Rattle.std.specs.Str.{bytes_eq};
-ghost use Rattle.ct_play.specs.Named.{command_step, named_step, number_from, number_of_db, running_nodes};
+ghost use Rattle.ct_play.specs.Named.{command_step, named_step, number_at, number_from, number_in_step, number_of_db, running_nodes};
 
 use ct_bytes::copies::Duplicate;
 use ct_bytes::items::Items;
@@ -9,29 +9,46 @@ use ct_bytes::memory::NoMemory;
 use ct_bytes::name::DbName;
 use ct_bytes::value::Value;
 use ct_cluster::step::Step;
-use ct_lines::line::{Command, NamedOp};
+use ct_lines::line::{NamedOp, StepCommand};
 use ct_msg::client::ClientOp;
 use ct_msg::config::{Config, DbDecl};
 use ct_world::world::World;
 use std::alloc::Global;
 
-/// The number of the database of this name among these, or 2^32 - 1.
-fn number_among(dbs: &[DbDecl], name: &DbName) -> u32
+/// The number that stands for no database. No configuration has a database of this number.
+const NO_DATABASE: u32 = u32::MAX;
+
+/// The number of the database at this place. A number is below 2^32.
+fn number_at(place: usize) -> Option<u32>
+    ensures { result ≡ number_at place }
+{
+    u32::try_from(place).ok()
+}
+
+/// The number of the database of this name among these, where one has it.
+fn number_among(dbs: &[DbDecl], name: &DbName) -> Option<u32>
     ensures { result ≡ number_from 0 name.now dbs.now }
 {
     for (i, decl) in dbs.iter().enumerate() {
         if decl.name == *name {
-            return i.min(4294967295) as u32;
+            return number_at(i);
         }
     }
-    4294967295
+    None
 }
 
-/// The number of the database that the configuration has by this name, or 2^32 - 1.
-pub fn number_of_db(config: &Config, name: &DbName) -> u32
+/// The number of the database that the configuration has by this name, where it has one.
+fn number_of_db(config: &Config, name: &DbName) -> Option<u32>
     ensures { result ≡ number_of_db config.now name.now }
 {
     number_among(config.dbs.as_slice(), name)
+}
+
+/// The number by which a step tells of the database of this name. It is that of no database where the name is not declared.
+pub fn number_in_step(config: &Config, name: &DbName) -> u32
+    ensures { result ≡ number_in_step config.now name.now }
+{
+    number_of_db(config, name).unwrap_or(NO_DATABASE)
 }
 
 /// What is asked at a node on the database of this number.
@@ -68,47 +85,40 @@ fn running_nodes(alloc: Global, world: &World) -> Result<Items<u32>, NoMemory>
     Ok(nodes)
 }
 
-/// The step that a command is. None are those that print.
+/// The step that a command is.
 pub fn command_step(
     alloc: Global,
     world: &World,
     node: u32,
-    command: &Command,
-) -> Result<Option<Step>, NoMemory>
+    command: &StepCommand,
+) -> Result<Step, NoMemory>
     ensures { IfOk result (λ step. step ≡ command_step world.now.config world.now.cluster node command.now) }
 {
     let op = match command {
-        Command::Pnn
-        | Command::ListNodes
-        | Command::Status
-        | Command::Ip
-        | Command::GetDbMap
-        | Command::CatTdb(_)
-        | Command::GetDbSeqNum(_) => return Ok(None),
-        Command::Disable => return Ok(Some(Step::Able { node, able: false })),
-        Command::Enable => return Ok(Some(Step::Able { node, able: true })),
-        Command::ReadKey { db, key } => ClientOp::Read {
-            db: number_of_db(world.config(), db),
+        StepCommand::Disable => return Ok(Step::Able { node, able: false }),
+        StepCommand::Enable => return Ok(Step::Able { node, able: true }),
+        StepCommand::ReadKey { db, key } => ClientOp::Read {
+            db: number_in_step(world.config(), db),
             key: key.copy()?,
         },
-        Command::WriteKey { db, key, value } => ClientOp::Write {
-            db: number_of_db(world.config(), db),
+        StepCommand::WriteKey { db, key, value } => ClientOp::Write {
+            db: number_in_step(world.config(), db),
             key: key.copy()?,
             value: value.copy()?,
         },
-        Command::DeleteKey { db, key } => ClientOp::Write {
-            db: number_of_db(world.config(), db),
+        StepCommand::DeleteKey { db, key } => ClientOp::Write {
+            db: number_in_step(world.config(), db),
             key: key.copy()?,
             value: Value::empty(alloc),
         },
-        Command::PTrans { db, writes } => ClientOp::Commit {
-            db: number_of_db(world.config(), db),
+        StepCommand::PTrans { db, writes } => ClientOp::Commit {
+            db: number_in_step(world.config(), db),
             writes: writes.duplicate()?,
         },
-        Command::Recover => {
+        StepCommand::Recover => {
             let members = running_nodes(alloc, world)?;
-            return Ok(Some(Step::Recover { node, members }));
+            return Ok(Step::Recover { node, members });
         }
     };
-    Ok(Some(Step::Client { node, op }))
+    Ok(Step::Client { node, op })
 }

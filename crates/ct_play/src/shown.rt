@@ -1,8 +1,7 @@
-//! What a command prints, and why one is refused.
-ghost use Rattle.std.specs.Prelude.{◌≡◌, [], true, IfOk};
+//! What a command shows, and why one is refused.
+ghost use Rattle.std.specs.Prelude.{◌≡◌, [], IfOk};
 ghost use Rattle.ct_cluster.specs.Faults.{fault_of};
 ghost use Rattle.ct_cluster.specs.declared.step.Step.TheVariants as step;
-ghost use Rattle.ct_commands.specs.Command.{prints};
 ghost use Rattle.ct_play.specs.Effect.{Works, cut_after, refused_by, shown};
 
 use crate::what::{PlayFault, What};
@@ -10,7 +9,7 @@ use ct_bytes::items::Items;
 use ct_bytes::memory::NoMemory;
 use ct_cluster::step::{Step, StepFault};
 use ct_commands::command::{TextFault, command_text};
-use ct_lines::line::Command;
+use ct_lines::line::ShowCommand;
 use ct_world::world::World;
 use std::alloc::Global;
 
@@ -55,14 +54,13 @@ fn cut(alloc: Global, text: &[u8]) -> Result<Vec<Items<u8>>, NoMemory>
     Ok(lines)
 }
 
-/// What a command prints at a node, each line by itself. It is refused as a step at a node that is not there, or is down.
+/// What a command shows at a node, each line by itself. It is refused as a step at a node that is not there, or is down.
 pub fn shown(
     alloc: Global,
     world: &World,
     node: u32,
-    command: &Command,
+    command: &ShowCommand,
 ) -> Result<Vec<Items<u8>>, PlayFault>
-    requires { prints command.now ≡ true }
     ensures { Works result (shown world.now node command.now (fault_of world.now.config world.now.cluster (step.Retry node))) world.now }
 {
     let step = Step::Retry(node);

@@ -12,8 +12,6 @@ mod placing;
 #[cfg(test)]
 mod play;
 #[cfg(test)]
-mod run;
-#[cfg(test)]
 mod schedule_run;
 #[cfg(test)]
 mod soak;

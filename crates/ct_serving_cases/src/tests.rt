@@ -56,7 +56,7 @@ fn script(alloc: Global) -> Result<Vec<PlanItem>, Fail>
 }
 
 /// A round of the node alone.
-#[tactic(auto, using(crate::proofs::Telling::round_told))]
+#[tactic(auto, using(crate::proofs::RoundsTold::round_told))]
 fn round(alloc: Global) -> Result<PlanItem, Fail>
     ensures { IfOk result (λ item. MayBeToldAlone (item ∷ [])) }
 {
@@ -64,7 +64,7 @@ fn round(alloc: Global) -> Result<PlanItem, Fail>
 }
 
 /// The node leads so many rounds.
-#[tactic(auto, using(crate::proofs::Telling::none_told, crate::proofs::Telling::one_more_told))]
+#[tactic(auto, using(crate::proofs::RoundsTold::none_told, crate::proofs::RoundsTold::one_more_told))]
 fn rounds(alloc: Global, count: usize) -> Result<Vec<PlanItem>, Fail>
     ensures told { IfOk result (λ v. MayBeToldAlone v.items) }
 {

@@ -3,7 +3,8 @@ use Rattle.std.specs.Prelude.{ℕ, ◌+◌, ◌/◌, ◌%◌, ◌^◌, ◌<◌, 
 use Rattle.std.specs.Fmt.{decimal}
 use Rattle.std.specs.List.{filter}
 use Rattle.ct_cluster.specs.declared.step.Step.TheVariants as step
-use Rattle.ct_lines.specs.declared.line.Command.TheVariants as command
+use Rattle.ct_lines.specs.declared.line.Command.TheVariants.{Steps}
+use Rattle.ct_lines.specs.declared.line.StepCommand.TheVariants as command
 use Rattle.ct_lines.specs.declared.line.NamedOp.{NamedOp}
 use Rattle.ct_lines.specs.declared.line.NamedOp.TheVariants as op
 use Rattle.ct_lines.specs.declared.line.ScenarioLine.{ScenarioLine}
@@ -81,7 +82,7 @@ record_line w kind =
     else if nat_lt kind 15
     then call w (op.Read (key_in w))
     else if nat_eq kind 15
-    then Ctdb (node_in w) (command.WriteKey (name_in w) (key_in w) (value_in w))
+    then Ctdb (node_in w) (Steps (command.WriteKey (name_in w) (key_in w) (value_in w)))
     else call w (op.Apply (key_in w) 1 (value_in w))
 
 -- a step of a message, by its kind from 25 and below 28

@@ -2,7 +2,8 @@
 ghost use Rattle.std.specs.Prelude.{◌≡◌, ◌≤◌, ◌<◌, ◌^◌, ◌||◌, nat_eq, codes, length, None, IfOk};
 ghost use Rattle.std.specs.List.{filter};
 ghost use Rattle.ct_bytes.specs.Name.{bad_byte};
-ghost use Rattle.ct_lines.specs.declared.line.Command.TheVariants as command;
+ghost use Rattle.ct_lines.specs.declared.line.Command.TheVariants.{Steps};
+ghost use Rattle.ct_lines.specs.declared.line.StepCommand.TheVariants as command;
 ghost use Rattle.ct_lines.specs.Spelled.{IsInRange};
 ghost use Rattle.ct_soak.specs.Soak.{IsView, call, commit_line, is_first, key_in, kind_in, letter_in, line_of_kind, members_with, message_in, message_line, name_in, node_in, number_in, pair_in, record_line, round_line, runs, soak_line, turn_line, value_in};
 
@@ -13,7 +14,7 @@ use ct_bytes::name::DbName;
 use ct_bytes::number::push_decimal;
 use ct_bytes::value::Value;
 use ct_cluster::step::Step;
-use ct_lines::line::{Command, NamedOp, ScenarioLine};
+use ct_lines::line::{Command, NamedOp, ScenarioLine, StepCommand};
 use ct_msg::client::Pair;
 use std::alloc::Global;
 
@@ -176,12 +177,12 @@ fn call(alloc: Global, word: u32, op: NamedOp) -> Result<ScenarioLine, NoMemory>
 }
 
 fn write_key(alloc: Global, word: u32) -> Result<Command, NoMemory>
-    ensures { IfOk result (λ c. c ≡ command.WriteKey (name_in word) (key_in word) (value_in word)) }
+    ensures { IfOk result (λ c. c ≡ Steps (command.WriteKey (name_in word) (key_in word) (value_in word))) }
 {
     let db = name_in(alloc, word)?;
     let key = key_in(alloc, word)?;
     let value = value_in(alloc, word)?;
-    Ok(Command::WriteKey { db, key, value })
+    Ok(Command::Steps(StepCommand::WriteKey { db, key, value }))
 }
 
 /// A call on a record, by its kind below 17.

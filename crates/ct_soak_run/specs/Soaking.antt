@@ -11,10 +11,12 @@ use Rattle.ct_cluster.specs.Steps.{Stepped, applied}
 use Rattle.ct_cluster.specs.declared.step.Step.{Step}
 use Rattle.ct_cluster.specs.declared.step.Step.TheVariants as step
 use Rattle.ct_cluster.specs.declared.step.StepFault.{StepFault}
+use Rattle.ct_lines.specs.declared.line.Command.{Command}
+use Rattle.ct_lines.specs.declared.line.Command.TheVariants.{Shows, Steps}
 use Rattle.ct_lines.specs.declared.line.ScenarioLine.{ScenarioLine}
 use Rattle.ct_lines.specs.declared.line.ScenarioLine.TheVariants as item
 use Rattle.ct_mail.specs.Mail.{next_waiting}
-use Rattle.ct_play.specs.Named.{command_step, named_step, number_of_db}
+use Rattle.ct_play.specs.Named.{command_step, named_step, number_in_step}
 use Rattle.ct_soak.specs.Soak.{soak_line}
 use Rattle.ct_soak.specs.declared.soak.SoakView.{SoakView}
 
@@ -59,18 +61,18 @@ unfoldable pub settled : Rules → ℕ → Soaked → Soaked
 settled rules zero s = s
 settled rules (suc m) s = comes_or_skips rules s (next_waiting s.cluster.sent) (λ t. settled rules m t)
 
--- a command that is a step; one that prints does nothing
-abbrev pub commanded : Rules → Soaked → Option Step → Soaked
-commanded rules s None = s
-commanded rules s (Some x) = took rules s x
+-- a command that is a step; one that shows something does nothing
+abbrev pub commanded : Rules → Soaked → ℕ → Command → Soaked
+commanded rules s n (Shows command) = s
+commanded rules s n (Steps command) = took rules s (command_step soak_config s.cluster n command)
 
 -- what a line does; one of the configuration does nothing
 abbrev pub line_took : Rules → Soaked → ScenarioLine → Soaked
 line_took rules s (item.Config said) = s
 line_took rules s (item.Change x) = took rules s x
-line_took rules s (item.ByName n db asked) = took rules s (named_step n (number_of_db soak_config db) asked)
+line_took rules s (item.ByName n db asked) = took rules s (named_step n (number_in_step soak_config db) asked)
 line_took rules s (item.Settle m) = settled rules m s
-line_took rules s (item.Ctdb n command) = commanded rules s (command_step soak_config s.cluster n command)
+line_took rules s (item.Ctdb n command) = commanded rules s n command
 
 -- what a word's line takes from the cluster
 abbrev pub view_of : Cluster → SoakView

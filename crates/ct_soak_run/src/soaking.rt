@@ -4,7 +4,6 @@ ghost use Rattle.ct_call.specs.Shown.{rules_of};
 ghost use Rattle.ct_cluster.specs.Faults.{is_allowed};
 ghost use Rattle.ct_cluster.specs.Steps.{applied};
 ghost use Rattle.ct_lines.specs.Spelled.{IsCommand, IsInRange};
-ghost use Rattle.ct_play.specs.Named.{command_step};
 ghost use Rattle.ct_soak.specs.Soak.{IsView};
 ghost use Rattle.ct_soak_run.specs.Counts.{IsCounted, calls_after, is_taken, last_sent, last_ticket, sent_by, ticket_by};
 ghost use Rattle.ct_soak_run.specs.Soaking.{Soaked, commanded, counts_text, first, line_took, settled, soak_config, soak_text, took, view_of, word_took};
@@ -16,7 +15,7 @@ use ct_cluster::step::{Line, Step, StepFault};
 use ct_lines::line::{Command, ScenarioLine};
 use ct_msg::config::Config;
 use ct_msg::generated::generated_config;
-use ct_play::named::{command_step, named_step, number_of_db};
+use ct_play::named::{command_step, named_step, number_in_step};
 use ct_soak::soak::{SoakView, soak_line};
 use ct_tool::words::{push, push_number};
 use ct_world::world::World;
@@ -163,7 +162,7 @@ impl Soaking {
         Ok(())
     }
 
-    /// A command that is a step; one that prints does nothing.
+    /// A command that is a step; one that shows something does nothing.
     #[tactic(auto, using(ct_play::proofs::Allowed::command_allowed))]
     fn command(
         &mut self,
@@ -174,15 +173,16 @@ impl Soaking {
     ) -> Result<(), NoMemory>
         requires range { IsCommand command.now }
         requires room { self.old.skipped + 1 < 2 ^ 64 }
-        ensures took { OnOk result (self.new ≡ commanded (rules_of table.now) self.old (command_step soak_config self.old.cluster node command.now)) }
+        ensures took { OnOk result (self.new ≡ commanded (rules_of table.now) self.old node command.now) }
         ensures room { OnOk result (self.new.skipped ≤ self.old.skipped + 1) }
     {
-        match command_step(alloc, &self.world, node, command)? {
-            Some(step) => {
+        match command {
+            Command::Shows(_) => Ok(()),
+            Command::Steps(command) => {
+                let step = command_step(alloc, &self.world, node, command)?;
                 self.take(table, &step)?;
                 Ok(())
             }
-            None => Ok(()),
         }
     }
 
@@ -201,7 +201,7 @@ impl Soaking {
                 Ok(())
             }
             ScenarioLine::ByName { node, db, op } => {
-                let number = number_of_db(self.world.config(), &db);
+                let number = number_in_step(self.world.config(), &db);
                 let step = named_step(node, number, op);
                 self.take(table, &step)?;
                 Ok(())

@@ -7,6 +7,9 @@ ghost use Rattle.ct_call.specs.Rules.{Arg, Join, Old};
 ghost use Rattle.ct_call.specs.Seen.{seen};
 ghost use Rattle.ct_call.specs.Shown.{rules_of};
 
+#[cfg(test)]
+mod tests;
+
 use ct_both::both::Both;
 use ct_call::rule::Rule;
 use ct_call::table::CallTable;

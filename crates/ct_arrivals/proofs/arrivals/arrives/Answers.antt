@@ -1,4 +1,4 @@
-use Rattle.ct_arrivals.proofs.Coming.{push_is}
+use Rattle.ct_arrivals.proofs.Arriving.{push_is}
 use Rattle.ct_arrivals.proofs.arrivals.arrives.Goals as goal
 
 pub push-requires-clause-well_formed : goal.push-requires-clause-well_formed

@@ -1,4 +1,4 @@
-use Rattle.ct_serving_cases.proofs.Telling.{told_at_opening}
+use Rattle.ct_serving_cases.proofs.RoundsTold.{told_at_opening}
 use Rattle.ct_serving_cases.proofs.tests.serves_so.Goals as goal
 
 pub node-requires-clause-limits : goal.node-requires-clause-limits
