@@ -2,7 +2,7 @@
 use Rattle.std.specs.Prelude.{◌≡◌, ◌≤◌, ℕ, List, length, Result, Ok}
 use Rattle.std.specs.Borrow.{Bor}
 use Rattle.std.specs.Global.{Vec}
-use Rattle.ct_bytes.specs.declared.memory.NoMemory.{NoMemory}
+use Rattle.ct_values.specs.declared.memory.NoMemory.{NoMemory}
 use Rattle.ct_call.specs.Rules.{Rule, value_of}
 
 -- it may be called at any two values

@@ -12,8 +12,8 @@ use crate::fault::{AddFault, CallFault};
 use crate::own::{Call, Own};
 use crate::rule::Rule;
 use crate::table::CallTable;
-use ct_bytes::memory::NoMemory;
-use ct_bytes::value::Value;
+use ct_values::memory::NoMemory;
+use ct_values::value::Value;
 use std::alloc::Global;
 
 /// The caller's function answers.

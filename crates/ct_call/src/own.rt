@@ -3,8 +3,8 @@ ghost use Rattle.ct_call.specs.Answers.{AnswersBy, IsCallable};
 ghost use Rattle.ct_call.specs.Seen.{seen};
 
 use crate::rule::Rule;
-use ct_bytes::memory::NoMemory;
-use ct_bytes::value::Value;
+use ct_values::memory::NoMemory;
+use ct_values::value::Value;
 
 /// A function of a record's old value and a call's argument.
 pub type Call = Box<dyn Fn(&Value, &Value) -> Result<Vec<u8>, NoMemory> + Send + Sync>;

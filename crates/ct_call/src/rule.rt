@@ -3,8 +3,8 @@ ghost use Rattle.std.specs.Prelude.{◌≡◌, IfOk};
 ghost use Rattle.ct_call.specs.Rules.{value_of};
 ghost use Rattle.ct_call.specs.Seen.{seen};
 
-use ct_bytes::memory::NoMemory;
-use ct_bytes::value::Value;
+use ct_values::memory::NoMemory;
+use ct_values::value::Value;
 use std::alloc::Global;
 
 /// What the answer is, from the old value of the record and the call's argument.

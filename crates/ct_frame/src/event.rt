@@ -2,12 +2,12 @@
 ghost use Rattle.std.specs.Prelude.{◌≡◌, IfOk};
 
 use crate::frame::Frame;
-use ct_bytes::address::Address;
-use ct_bytes::copies::Duplicate;
-use ct_bytes::items::Items;
-use ct_bytes::key::Key;
-use ct_bytes::memory::NoMemory;
-use ct_msg::client::{Answer, ClientOp};
+use ct_values::address::Address;
+use ct_values::client::{Answer, ClientOp};
+use ct_values::copies::Duplicate;
+use ct_values::items::Items;
+use ct_values::key::Key;
+use ct_values::memory::NoMemory;
 
 /// What comes to a node.
 #[derive(Debug, Drop, PartialEq, Eq)]

@@ -14,9 +14,9 @@ ghost use Rattle.std.specs.List.{list_all};
 use crate::frame::{Assigned, Frame, Msg, PTable, TableRow};
 use crate::header::LIMIT;
 use crate::order::ascends;
-use ct_bytes::address::Address;
-use ct_bytes::nodes::is_among;
-use ct_msg::client::Pair;
+use ct_values::address::Address;
+use ct_values::client::Pair;
+use ct_values::nodes::is_among;
 
 fn is_below_limit(number: u64) -> bool
     ensures { result ≡ is_below_limit number }

@@ -1,13 +1,13 @@
 //! Messages between nodes.
 ghost use Rattle.std.specs.Prelude.{◌≡◌, IfOk};
 
-use ct_bytes::address::Address;
-use ct_bytes::copies::Duplicate;
-use ct_bytes::items::Items;
-use ct_bytes::key::Key;
-use ct_bytes::memory::NoMemory;
-use ct_bytes::value::Value;
-use ct_msg::client::Pair;
+use ct_values::address::Address;
+use ct_values::client::Pair;
+use ct_values::copies::Duplicate;
+use ct_values::items::Items;
+use ct_values::key::Key;
+use ct_values::memory::NoMemory;
+use ct_values::value::Value;
 
 /// What a request for a record is for.
 #[derive(Clone, Copy, Debug, PartialEq, Eq)]

@@ -2,9 +2,9 @@
 ghost use Rattle.std.specs.Prelude.{◌≡◌, ◌+◌, IfOk, nat_lt};
 ghost use Rattle.ct_frame.specs.Header.{nobody, delegated, for_reading, being_revoked};
 
-use ct_bytes::copies::Duplicate;
-use ct_bytes::memory::NoMemory;
-use ct_bytes::value::Value;
+use ct_values::copies::Duplicate;
+use ct_values::memory::NoMemory;
+use ct_values::value::Value;
 
 /// Every RSN, sequence number, ticket, and number of a request, a frame, a run or a client call is below this.
 pub const LIMIT: u64 = 4611686018427387904;

@@ -1,11 +1,11 @@
 //! Lists in ascending order: which of two items comes before the other.
 ghost use Rattle.std.specs.Prelude.{◌≡◌, Bool, nat_lt};
-ghost use Rattle.ct_bytes.specs.Address.{address_before};
+ghost use Rattle.ct_values.specs.Address.{address_before};
 ghost use Rattle.ct_frame.specs.Fields.{ascends, row_before, pair_before, ptable_before, assigned_before};
 
 use crate::frame::{Assigned, PTable, TableRow};
-use ct_bytes::address::Address;
-use ct_msg::client::Pair;
+use ct_values::address::Address;
+use ct_values::client::Pair;
 
 /// Items that stand in lists in ascending order.
 pub trait Ranked {

@@ -1,11 +1,11 @@
 //! What the nodes of a cluster are to do, each by itself.
 ghost use Rattle.std.specs.Prelude.{◌≡◌, IfOk};
 
-use ct_bytes::copies::Duplicate;
-use ct_bytes::items::Items;
-use ct_bytes::memory::NoMemory;
-use ct_msg::client::ClientOp;
-use ct_msg::config::Config;
+use ct_values::client::ClientOp;
+use ct_values::config::Config;
+use ct_values::copies::Duplicate;
+use ct_values::items::Items;
+use ct_values::memory::NoMemory;
 
 /// What a node does next.
 #[derive(Debug, Drop, PartialEq, Eq)]

@@ -2,10 +2,10 @@
 ghost use Rattle.std.specs.Prelude.{◌≡◌, IfOk};
 
 use crate::frame::{Assigned, PTable, TableRow};
-use ct_bytes::address::Address;
-use ct_bytes::copies::Duplicate;
-use ct_bytes::items::Items;
-use ct_bytes::memory::NoMemory;
+use ct_values::address::Address;
+use ct_values::copies::Duplicate;
+use ct_values::items::Items;
+use ct_values::memory::NoMemory;
 
 /// Where a node stands, and in which generation.
 #[derive(Clone, Copy, Debug, PartialEq, Eq)]

@@ -1,3 +1,9 @@
+pub mod Back
+pub mod Bodies
+pub mod Items
+pub mod Stream
+pub mod SpelledTables
+pub mod Whole
 pub mod Fields
 pub mod Headers
 pub mod InPieces

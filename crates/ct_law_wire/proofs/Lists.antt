@@ -4,7 +4,7 @@ use Rattle.std.specs.Prelude.{slice_get}
 use Rattle.std.specs.List.{flat_map, AllByRecursion}
 use Rattle.std.proofs.lemmas.Bool.{and_from, and_parts, lt-ltb, ltb-true}
 use Rattle.std.proofs.lemmas.List.{append-nil, length-append}
-use Rattle.ct_msg.specs.declared.client.Pair.{Pair}
+use Rattle.ct_values.specs.declared.client.Pair.{Pair}
 use Rattle.ct_frame.specs.declared.frame.Frame.{Frame}
 use Rattle.ct_frame.specs.Fields.{ascends, ascends_after, is_below_limit, is_db, is_node}
 use Rattle.ct_wire_fields.specs.declared.place.NumberPlace.{NumberPlace}

@@ -1,10 +1,10 @@
 -- The frames that a version of the layout can say, and the bytes that spell them.
 use Rattle.std.specs.Prelude.{ℕ, ◌++◌, Ok, ◌<◌, ◌≤◌, ◌≡◌, List, length, Option, None, Some, IsTrue, IsFalse}
 use Rattle.std.specs.List.{AllByRecursion}
-use Rattle.ct_bytes.specs.Address.{IsAddress}
-use Rattle.ct_bytes.specs.declared.address.Address.{Address}
-use Rattle.ct_bytes.specs.declared.address.Address.TheVariants.{V4, V6}
-use Rattle.ct_msg.specs.declared.client.Pair.{Pair}
+use Rattle.ct_values.specs.Address.{IsAddress}
+use Rattle.ct_values.specs.declared.address.Address.{Address}
+use Rattle.ct_values.specs.declared.address.Address.TheVariants.{V4, V6}
+use Rattle.ct_values.specs.declared.client.Pair.{Pair}
 use Rattle.ct_frame.specs.declared.frame.Assigned.{Assigned}
 use Rattle.ct_frame.specs.declared.frame.Frame.{Frame}
 use Rattle.ct_frame.specs.declared.frame.Msg.{Msg}

@@ -1,2 +1,3 @@
+pub mod Alone
 pub mod Grammar
 pub mod InPieces

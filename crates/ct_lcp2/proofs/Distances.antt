@@ -5,8 +5,8 @@ use Rattle.std.specs.Int.Bits.{bit_xor, xor_self, xor_zero_r}
 use Rattle.std.specs.Int.Count.{count_leading_zeros}
 use lib.Bits.{xor_assoc, xor_shr}
 use Rattle.std.proofs.Math.Nat as nat
-use Rattle.ct_bytes.specs.declared.address.Address.{Address}
-use Rattle.ct_bytes.specs.declared.address.Address.TheVariants.{V4, V6}
+use Rattle.ct_values.specs.declared.address.Address.{Address}
+use Rattle.ct_values.specs.declared.address.Address.TheVariants.{V4, V6}
 use Rattle.ct_lcp2.specs.Distance.{agreed, distance, AgreeIn, IsAgreed, squared, sum_to, imbalance}
 
 -- numbers whose digits differ nowhere are one

@@ -4,10 +4,10 @@ use Rattle.std.specs.Prelude.{if◌then◌else◌, not, ◌||◌, ◌==◌, is_s
 use Rattle.std.specs.List.Sorted.{IsStrictlySortedBy}
 use Rattle.std.proofs.lemmas.List.{take-append-drop}
 use Rattle.std.proofs.lemmas.Bool.{and_right, and_left, and_from, le-ltb, lt-ltb}
-use Rattle.ct_bytes.specs.Address.{address_cmp, same_address}
-use Rattle.ct_bytes.specs.declared.address.Address.{Address}
-use Rattle.ct_bytes.specs.Words.{is_this_node}
-use Rattle.ct_bytes.proofs.Words.{this_node_is}
+use Rattle.ct_values.specs.Address.{address_cmp, same_address}
+use Rattle.ct_values.specs.declared.address.Address.{Address}
+use Rattle.ct_values.specs.Words.{is_this_node}
+use Rattle.ct_values.proofs.Words.{this_node_is}
 use Rattle.ct_frame.specs.declared.frame.Assigned.{Assigned}
 use Rattle.ct_lcp2.specs.Distance.{squared, sum_to, imbalance}
 use Rattle.ct_lcp2.specs.Best.{better, best_from, best}

@@ -6,9 +6,9 @@ use Rattle.std.specs.List.{AllByRecursion}
 use Rattle.std.specs.Ordering.{nat_cmp, is_lt}
 use Rattle.std.proofs.lemmas.Bool.Decides.{nat_tests}
 use Rattle.std.proofs.lemmas.List.Elements.{Contains-append_left, Contains-append_right, Contains-push}
-use Rattle.ct_bytes.specs.Address.{address_before, same_address}
-use Rattle.ct_bytes.specs.declared.address.Address.{Address}
-use Rattle.ct_bytes.specs.declared.address.Address.TheVariants.{V4, V6}
+use Rattle.ct_values.specs.Address.{address_before, same_address}
+use Rattle.ct_values.specs.declared.address.Address.{Address}
+use Rattle.ct_values.specs.declared.address.Address.TheVariants.{V4, V6}
 use Rattle.ct_lcp2.specs.Best.{best_from, best}
 use Rattle.ct_lcp2.specs.Placing.{choice_before, source_before}
 use Rattle.ct_lcp2.proofs.Choices.{all_weaken, holds_of}

@@ -4,17 +4,17 @@ use Rattle.std.specs.Prelude.{if◌then◌else◌, is_some, map, not, ◌&&◌, 
 use Rattle.std.specs.List.{AllByRecursion}
 use Rattle.std.specs.List.Sorted.{IsStrictlySortedBy}
 use Rattle.std.specs.Ordering.{nat_cmp, is_lt}
-use Rattle.ct_bytes.proofs.Words.{this_node_is}
-use Rattle.ct_bytes.proofs.AddressOrder.{same_itself, less_differs, same_flips}
-use Rattle.ct_bytes.specs.Words.{is_this_node}
+use Rattle.ct_values.proofs.Words.{this_node_is}
+use Rattle.ct_values.proofs.AddressOrder.{same_itself, less_differs, same_flips}
+use Rattle.ct_values.specs.Words.{is_this_node}
 use Rattle.ct_frame.specs.Fields.{ascends, ascends_after, assigned_before}
 use Rattle.std.specs.declared.cmp.Ordering.TheVariants.{Less}
 use Rattle.std.proofs.lemmas.Bool.Decides.{nat_tests}
 use Rattle.std.proofs.lemmas.Bool.{and_parts}
-use Rattle.ct_bytes.specs.Address.{address_cmp, same_address}
-use Rattle.ct_bytes.specs.declared.address.Address.{Address}
-use Rattle.ct_bytes.specs.declared.address.Address.TheVariants.{V4, V6}
-use Rattle.ct_bytes.proofs.Orders.{is_less}
+use Rattle.ct_values.specs.Address.{address_cmp, same_address}
+use Rattle.ct_values.specs.declared.address.Address.{Address}
+use Rattle.ct_values.specs.declared.address.Address.TheVariants.{V4, V6}
+use Rattle.ct_values.proofs.Orders.{is_less}
 use Rattle.ct_frame.specs.declared.frame.Assigned.{Assigned}
 use Rattle.ct_lcp2.specs.Distance.{squared, sum_to, imbalance}
 use Rattle.ct_lcp2.specs.Placing.{addresses, Ascend, freed, must_leave, held, others, sent, beside, total, homeless}

@@ -4,9 +4,9 @@ use native.Mathlib.Nat.{le_refl}
 use Rattle.std.specs.Prelude.{if◌then◌else◌, is_some, option_map, map, not, nat_eq, ◌||◌}
 use Rattle.std.specs.List.{AllByRecursion}
 use Rattle.std.specs.List.Sorted.{IsStrictlySortedBy}
-use Rattle.ct_bytes.specs.Words.{is_nil}
-use Rattle.ct_bytes.specs.Address.{address_cmp, same_address}
-use Rattle.ct_bytes.specs.declared.address.Address.{Address}
+use Rattle.ct_values.specs.Words.{is_nil}
+use Rattle.ct_values.specs.Address.{address_cmp, same_address}
+use Rattle.ct_values.specs.declared.address.Address.{Address}
 use Rattle.ct_frame.specs.declared.frame.Assigned.{Assigned}
 use Rattle.ct_lcp2.specs.Distance.{sum_to, imbalance}
 use Rattle.ct_lcp2.specs.Best.{best, best_from}

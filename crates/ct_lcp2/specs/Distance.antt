@@ -1,7 +1,7 @@
 -- How near addresses are to each other.
 use Rattle.std.specs.Prelude.{◌≡◌, ℕ, zero, suc, ◌+◌, ◌-◌, ◌*◌, ◌/◌, ◌^◌, ◌≤◌, nat_eq, List, [], ◌∷◌, if◌then◌else◌}
-use Rattle.ct_bytes.specs.declared.address.Address.{Address}
-use Rattle.ct_bytes.specs.declared.address.Address.TheVariants.{V4, V6}
+use Rattle.ct_values.specs.declared.address.Address.{Address}
+use Rattle.ct_values.specs.declared.address.Address.TheVariants.{V4, V6}
 
 -- how many of their first bits two numbers of so many bits have in common
 unfoldable pub agreed : ℕ → ℕ → ℕ → ℕ

@@ -3,7 +3,7 @@ ghost use Rattle.std.specs.Prelude.{◌≡◌};
 ghost use Rattle.ct_lcp2.specs.Best.{better};
 ghost use Rattle.ct_lcp2.specs.Placing.{choice_before, source_before};
 
-use ct_bytes::address::Address;
+use ct_values::address::Address;
 
 /// To put an address at a node, which has this sum.
 #[derive(Clone, Copy, Debug, PartialEq, Eq)]

@@ -1,9 +1,9 @@
 //! How near addresses are to each other.
 ghost use Rattle.std.specs.Prelude.{◌≡◌, ◌≤◌, ◌<◌, ◌^◌, ℕ, length, zero};
-ghost use Rattle.ct_bytes.specs.declared.address.Address.TheVariants.{V4, V6};
+ghost use Rattle.ct_values.specs.declared.address.Address.TheVariants.{V4, V6};
 ghost use Rattle.ct_lcp2.specs.Distance.{agreed, distance, imbalance, sum_to, IsAgreed};
 
-use ct_bytes::address::Address;
+use ct_values::address::Address;
 
 /// How many of their first 32 bits two numbers have in common.
 fn agreed_of_32(a: u32, b: u32) -> u32

@@ -8,8 +8,8 @@ use crate::choice::{Choice, Source};
 use crate::placement::Placement;
 use crate::start::is_this_node;
 use crate::tally::{Tally, all_after, squared, tallies};
-use ct_bytes::memory::NoMemory;
 use ct_frame::frame::Assigned;
+use ct_values::memory::NoMemory;
 use std::alloc::Global;
 
 /// The best so far, and the moves from a node to a target.

@@ -1,7 +1,7 @@
 //! What follows from the rules.
 ghost use Rattle.std.specs.Prelude.{ℕ, ◌≡◌, ◌<◌, ◌^◌, false, true, List, [], Some, Contains};
 ghost use Rattle.std.specs.List.{AllByRecursion};
-ghost use Rattle.ct_bytes.specs.declared.address.Address.TheVariants.{V4, V6};
+ghost use Rattle.ct_values.specs.declared.address.Address.TheVariants.{V4, V6};
 ghost use Rattle.ct_frame.specs.Fields.{ascends, assigned_before};
 ghost use Rattle.ct_frame.specs.declared.frame.Assigned.{Assigned};
 ghost use Rattle.ct_lcp2.specs.Distance.{distance, IsAgreed};

@@ -5,11 +5,11 @@ ghost use Rattle.ct_lcp2.specs.Placing.{moved, placement, sent, seated, Ascend};
 use crate::failback::fail_back;
 use crate::start::{targets_of, vacate};
 use crate::vacant::fill;
-use ct_bytes::address::Address;
-use ct_bytes::items::Items;
-use ct_bytes::memory::NoMemory;
 use ct_frame::frame::Assigned;
 use ct_frame::order::ascends;
+use ct_values::address::Address;
+use ct_values::items::Items;
+use ct_values::memory::NoMemory;
 use std::alloc::Global;
 
 /// The nodes, those of them that are able to hold addresses, and where the addresses stand, by ascending address.

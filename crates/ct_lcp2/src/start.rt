@@ -1,16 +1,16 @@
 //! Before addresses are placed: who is able, who leaves, and who may be a target.
 ghost use Rattle.std.specs.Prelude.{◌≡◌, IfOk};
-ghost use Rattle.ct_bytes.specs.Words.{is_this_node};
+ghost use Rattle.ct_values.specs.Words.{is_this_node};
 ghost use Rattle.ct_lcp2.specs.Placing.{vacated, freed, held, is_able, must_leave, targets_of};
 
 use crate::placement::{Move, Placement};
-use ct_bytes::address::Address;
-use ct_bytes::items::Items;
-use ct_bytes::memory::NoMemory;
 use ct_frame::frame::Assigned;
+use ct_values::address::Address;
+use ct_values::items::Items;
+use ct_values::memory::NoMemory;
 use std::alloc::Global;
 
-#[tactic(auto, unfolding(ct_bytes::specs::Words::is_this_node))]
+#[tactic(auto, unfolding(ct_values::specs::Words::is_this_node))]
 pub fn is_this_node(node: u32, at: Option<u32>) -> bool
     ensures { result ≡ is_this_node node at }
 {

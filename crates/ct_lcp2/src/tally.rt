@@ -1,16 +1,16 @@
 //! Running sums: what is kept of each node, so that a move changes only what it must.
 ghost use Rattle.std.specs.Prelude.{◌≡◌, ◌≤◌, ◌∷◌, IfOk, false, length, map};
-ghost use Rattle.ct_bytes.specs.Words.{is_this_node};
+ghost use Rattle.ct_values.specs.Words.{is_this_node};
 ghost use Rattle.ct_lcp2.specs.Distance.{squared, sum_to};
 ghost use Rattle.ct_lcp2.specs.Placing.{Ascend, held, sent};
 ghost use Rattle.ct_lcp2.specs.Tallies.{Stands, sums_less, sums_to, tallied, tally};
 
 use crate::distance::{distance, imbalance, sum_to};
 use crate::start::{held, is_this_node};
-use ct_bytes::address::Address;
-use ct_bytes::items::Items;
-use ct_bytes::memory::NoMemory;
 use ct_frame::frame::Assigned;
+use ct_values::address::Address;
+use ct_values::items::Items;
+use ct_values::memory::NoMemory;
 use std::alloc::Global;
 
 /// A node, its imbalance, and the sum of squared distances of each address of the placement to those at the node.

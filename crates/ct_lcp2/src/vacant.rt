@@ -7,8 +7,8 @@ ghost use Rattle.ct_lcp2.specs.Tallies.{nodes, tallied, tally};
 use crate::choice::Choice;
 use crate::placement::Placement;
 use crate::tally::{Tally, all_after, tallies};
-use ct_bytes::memory::NoMemory;
 use ct_frame::frame::Assigned;
+use ct_values::memory::NoMemory;
 use std::alloc::Global;
 
 /// The best so far, and the ways to place an address at this node.

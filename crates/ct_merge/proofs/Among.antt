@@ -8,7 +8,7 @@ use Rattle.std.specs.Cmp.{IsTotalOrder, tied_back, tied_itself}
 use Rattle.std.specs.List.{All, AllByRecursion, filter, find}
 use Rattle.std.specs.List.Sorted.{IsStrictlySortedBy}
 use Rattle.std.proofs.lemmas.List.Elements.{All-from_recursion}
-use Rattle.ct_bytes.proofs.Orders.{is_less}
+use Rattle.ct_values.proofs.Orders.{is_less}
 use Rattle.ct_frame.specs.declared.round.Pull.{Pull}
 use Rattle.ct_merge.specs.Placing.{better, best_from, best}
 use Rattle.ct_merge.specs.Rule.{told}

@@ -6,8 +6,8 @@ use Rattle.std.specs.Ordering.{is_eq, is_lt, nat_cmp}
 use Rattle.std.specs.Cmp.{IsTotalOrder, nat_cmp_total, on_total, tied_then}
 use Rattle.std.specs.List.{find}
 use Rattle.std.specs.List.Sorted.{IsStrictlySortedBy}
-use Rattle.ct_bytes.specs.Key.{key_cmp}
-use Rattle.ct_bytes.specs.Address.{address_cmp}
+use Rattle.ct_values.specs.Key.{key_cmp}
+use Rattle.ct_values.specs.Address.{address_cmp}
 use Rattle.ct_frame.specs.declared.frame.Assigned.{Assigned}
 use Rattle.ct_frame.specs.declared.frame.PTable.{PTable}
 use Rattle.ct_frame.specs.declared.frame.TableRow.{TableRow}
@@ -16,7 +16,7 @@ use Rattle.ct_frame.specs.Fields.{ascends, row_before, ptable_before, assigned_b
 use Rattle.ct_merge.specs.declared.merged.Merged.{Merged}
 use Rattle.ct_merge.specs.declared.merged.MergedAll.{MergedAll}
 use Rattle.ct_merge.specs.declared.merged.PMerged.{PMerged}
-use Rattle.ct_bytes.proofs.AddressOrder.{address_total}
+use Rattle.ct_values.proofs.AddressOrder.{address_total}
 use Rattle.ct_merge.specs.Rule.{row_at, IsVolatileMerge, IsPersistentMerge, IsAddressMerge, IsMerge}
 use Rattle.ct_merge.proofs.Ordered.{in_order, is_lt_then, is_lt_nat}
 use Rattle.ct_merge.proofs.Rules.{place_cmp, place_total}

@@ -8,8 +8,8 @@ use Rattle.std.specs.Cmp.{IsTotalOrder}
 use Rattle.std.specs.List.{AllByRecursion}
 use Rattle.std.specs.List.Sorted.{IsStrictlySortedBy}
 use Rattle.std.proofs.lemmas.Bool.{and_from, and_parts}
-use Rattle.ct_bytes.specs.Key.{key_cmp}
-use Rattle.ct_bytes.specs.Address.{address_before}
+use Rattle.ct_values.specs.Key.{key_cmp}
+use Rattle.ct_values.specs.Address.{address_before}
 use Rattle.ct_frame.specs.declared.frame.TableRow.{TableRow}
 use Rattle.ct_frame.specs.declared.round.Pull.{Pull}
 use Rattle.ct_frame.specs.Fields.{ascends, ascends_after, row_before, ptable_before, assigned_before, are_addresses}

@@ -9,12 +9,12 @@ use Rattle.std.specs.Cmp.{IsTotalOrder, alike_right, nat_cmp_total, on_total, th
 use Rattle.std.specs.Cmp.Lexicographic.{nat_list_cmp_total}
 use Rattle.std.specs.List.{filter, find, flat_map}
 use Rattle.std.proofs.lemmas.List.{drop_all}
-use Rattle.ct_bytes.proofs.AddressOrder.{address_total}
-use Rattle.ct_bytes.specs.Key.{key_cmp}
-use Rattle.ct_bytes.specs.Address.{address_cmp}
-use Rattle.ct_bytes.specs.declared.address.Address.{Address}
+use Rattle.ct_values.proofs.AddressOrder.{address_total}
+use Rattle.ct_values.specs.Key.{key_cmp}
+use Rattle.ct_values.specs.Address.{address_cmp}
+use Rattle.ct_values.specs.declared.address.Address.{Address}
 use Rattle.ct_frame.specs.declared.frame.Assigned.{Assigned}
-use Rattle.ct_bytes.specs.declared.memory.NoMemory.{NoMemory}
+use Rattle.ct_values.specs.declared.memory.NoMemory.{NoMemory}
 use Rattle.ct_frame.specs.declared.frame.PTable.{PTable}
 use Rattle.ct_frame.specs.declared.frame.TableRow.{TableRow}
 use Rattle.ct_frame.specs.declared.round.Pull.{Pull}

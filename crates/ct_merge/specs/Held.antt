@@ -3,10 +3,10 @@ use Rattle.std.specs.Prelude.{ℕ, Bool, ◌&&◌, ◌==◌, List, [], map, if�
 use Rattle.std.specs.declared.cmp.Ordering.{Ordering}
 use Rattle.std.specs.Ordering.{nat_cmp, bool_cmp, ordering_then}
 use Rattle.std.specs.BTreeMap.{is_at}
-use Rattle.ct_bytes.specs.Key.{key_cmp}
-use Rattle.ct_bytes.specs.Words.{is_this_node}
-use Rattle.ct_bytes.specs.Address.{address_cmp}
-use Rattle.ct_bytes.specs.declared.address.Address.{Address}
+use Rattle.ct_values.specs.Key.{key_cmp}
+use Rattle.ct_values.specs.Words.{is_this_node}
+use Rattle.ct_values.specs.Address.{address_cmp}
+use Rattle.ct_values.specs.declared.address.Address.{Address}
 use Rattle.ct_frame.specs.declared.frame.PTable.{PTable}
 use Rattle.ct_frame.specs.declared.frame.TableRow.{TableRow}
 use Rattle.ct_frame.specs.declared.round.Pull.{Pull}

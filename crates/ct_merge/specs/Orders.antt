@@ -1,7 +1,7 @@
 -- The orders of what members hold are total.
 use Rattle.std.specs.Cmp.{IsTotalOrder, nat_cmp_total, bool_cmp_total, on_total, back_total, then_total}
 use Rattle.std.specs.Cmp.Lexicographic.{nat_list_cmp_total}
-use Rattle.ct_bytes.proofs.AddressOrder.{address_total}
+use Rattle.ct_values.proofs.AddressOrder.{address_total}
 use Rattle.ct_merge.specs.Held.{is_own, row_order, row_rank, ptable_order, ptable_rank, address_order, address_rank}
 
 pub row_order_total : IsTotalOrder row_order

@@ -4,8 +4,8 @@ use Rattle.std.specs.List.{filter, find, flat_map, list_all, list_any}
 use Rattle.std.specs.Option.{option_map}
 use Rattle.std.specs.Ordering.{nat_cmp}
 use Rattle.std.specs.BTreeMap.{is_at}
-use Rattle.ct_bytes.specs.Address.{address_cmp}
-use Rattle.ct_bytes.specs.declared.address.Address.{Address}
+use Rattle.ct_values.specs.Address.{address_cmp}
+use Rattle.ct_values.specs.declared.address.Address.{Address}
 use Rattle.ct_frame.specs.Fields.{ascends, row_before, ptable_before, assigned_before}
 use Rattle.ct_frame.specs.declared.frame.Assigned.{Assigned}
 use Rattle.ct_frame.specs.declared.frame.PTable.{PTable}

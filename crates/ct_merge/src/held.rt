@@ -6,11 +6,11 @@ ghost use Rattle.ct_merge.specs.Held.{is_own, row_order, row_rank, ptable_order,
 ghost use Rattle.ct_merge.specs.Orders.{row_order_total, ptable_order_total, address_order_total};
 
 use crate::placing::Candidate;
-use ct_bytes::address::Address;
-use ct_bytes::copies::Duplicate;
-use ct_bytes::items::Items;
-use ct_bytes::memory::NoMemory;
 use ct_frame::frame::{PTable, TableRow};
+use ct_values::address::Address;
+use ct_values::copies::Duplicate;
+use ct_values::items::Items;
+use ct_values::memory::NoMemory;
 use std::alloc::Global;
 use std::cmp::Ordering;
 
@@ -61,7 +61,7 @@ impl Duplicate for HeldAddress {
 
 impl HeldRow {
     /// Does the row name its own node as data master?
-    #[tactic(auto, unfolding(ct_bytes::specs::Words::is_this_node))]
+    #[tactic(auto, unfolding(ct_values::specs::Words::is_this_node))]
     fn is_own(&self) -> bool
         ensures { result ≡ is_own self.now }
     {

@@ -1,6 +1,6 @@
 //! What the merges answer.
-use ct_bytes::items::Items;
 use ct_frame::frame::{Assigned, PTable, TableRow};
+use ct_values::items::Items;
 
 /// The records of a round: the generation from which they come, or 0, and one copy of each, by database and key.
 #[derive(Debug, Drop, PartialEq, Eq)]

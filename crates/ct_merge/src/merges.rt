@@ -7,10 +7,10 @@ use crate::held::{based_rows, held_addresses, held_ptables};
 use crate::merged::{Merged, PMerged};
 use crate::merging::{assigned_of, greater, ptables_of, table_of};
 use crate::placing::{join, room_for};
-use ct_bytes::items::Items;
-use ct_bytes::memory::NoMemory;
 use ct_frame::frame::Assigned;
 use ct_frame::round::Pull;
+use ct_values::items::Items;
+use ct_values::memory::NoMemory;
 use std::alloc::Global;
 
 /// The records of a round. The parent is the greatest base of the volatile databases. Each database and key that a

@@ -6,11 +6,11 @@ ghost use Rattle.ct_merge.specs.Held.{is_in_order};
 use crate::held::{HeldAddress, HeldPTable, HeldRow, based_rows, held_addresses, held_ptables};
 use crate::merged::{Merged, MergedAll, PMerged};
 use crate::placing::{join, room_for};
-use ct_bytes::copies::Duplicate;
-use ct_bytes::items::Items;
-use ct_bytes::memory::NoMemory;
 use ct_frame::frame::{Assigned, PTable, TableRow};
 use ct_frame::round::Pull;
+use ct_values::copies::Duplicate;
+use ct_values::items::Items;
+use ct_values::memory::NoMemory;
 use std::alloc::Global;
 use std::marker::Model;
 

@@ -8,7 +8,7 @@ ghost use Rattle.std.specs.List.Sorted.{IsStrictlySortedBy};
 ghost use Rattle.ct_merge.specs.Placing.{better, all_inserted, turn};
 ghost use Rattle.ct_merge.specs.Gathered.{joined};
 
-use ct_bytes::memory::NoMemory;
+use ct_values::memory::NoMemory;
 use std::alloc::Global;
 use std::cmp::Ordering;
 use std::collections::VecDeque;

@@ -5,7 +5,7 @@ use Rattle.std.specs.Option.{option_copied}
 use Rattle.std.specs.Borrow.{Bor}
 use Rattle.std.specs.Cmp.Lexicographic.{pointwise, texts_ties}
 use Rattle.std.proofs.lemmas.List.{take_more}
-use Rattle.ct_msg.specs.declared.client.Pair.{Pair}
+use Rattle.ct_values.specs.declared.client.Pair.{Pair}
 use Rattle.ct_store.specs.Map.{Pairs, Ascends, look, write}
 use Rattle.ct_store.proofs.Maps.{erase_length, write_length}
 use Rattle.ct_persist.specs.Persisted.{stored, written}

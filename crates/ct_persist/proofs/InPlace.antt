@@ -1,8 +1,8 @@
 -- An update in its place: the three passes make what the writes make in order, and the last undoes the first.
 use Rattle.std.proofs.Common.{◌≡◌, ℕ, ◌+◌, ◌<◌, length, get_or, Bool, true, false, cond, List, [], ◌∷◌, ◌++◌, take, drop, Option, Some, None, refl, sym, ◌∙◌, ap}
 use Rattle.std.proofs.lemmas.List.{take-append-drop, take_more}
-use Rattle.ct_bytes.specs.Words.{or_empty}
-use Rattle.ct_msg.specs.declared.client.Pair.{Pair}
+use Rattle.ct_values.specs.Words.{or_empty}
+use Rattle.ct_values.specs.declared.client.Pair.{Pair}
 use Rattle.ct_store.specs.Map.{Pairs, Ascends, look}
 use Rattle.ct_store.proofs.Maps.{same_map}
 use Rattle.ct_persist.specs.Persisted.{IsKept, stored, written, keyed}

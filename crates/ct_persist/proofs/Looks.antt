@@ -9,8 +9,8 @@ use Rattle.std.specs.Cmp.{eq_by_cmp_equiv}
 use Rattle.std.specs.List.{AllByRecursion}
 use Rattle.std.specs.Map.{values_of}
 use Rattle.std.specs.BTreeMap.{is_at}
-use Rattle.ct_bytes.specs.Key.{key_cmp}
-use Rattle.ct_msg.specs.declared.client.Pair.{Pair}
+use Rattle.ct_values.specs.Key.{key_cmp}
+use Rattle.ct_values.specs.declared.client.Pair.{Pair}
 use Rattle.ct_store.specs.Map.{Pairs, Ascends, look, write, erase}
 use Rattle.ct_store.proofs.Maps.{written as written_here, not_written, erased, not_erased, key_total, one_key, equal, look-write, look-erase, write_ascends, erase_ascends}
 use Rattle.ct_persist.specs.Persisted.{IsKept, stored, written}

@@ -7,9 +7,9 @@ use Rattle.std.specs.List.{AllByRecursion, list_all}
 use Rattle.std.specs.List.Sorted.{IsStrictlySortedBy}
 use Rattle.std.specs.Map.{keys_of}
 use Rattle.std.proofs.lemmas.Bool.{and_parts, and_from}
-use Rattle.ct_bytes.specs.Key.{key_cmp}
-use Rattle.ct_bytes.proofs.Orders.{less_is, is_less}
-use Rattle.ct_msg.specs.declared.client.Pair.{Pair}
+use Rattle.ct_values.specs.Key.{key_cmp}
+use Rattle.ct_values.proofs.Orders.{less_is, is_less}
+use Rattle.ct_values.specs.declared.client.Pair.{Pair}
 use Rattle.ct_frame.specs.Fields.{ascends, ascends_after, pair_before, is_kept}
 use Rattle.ct_store.specs.Map.{Pairs, Ascends, write}
 use Rattle.ct_store.proofs.Maps.{key_total}

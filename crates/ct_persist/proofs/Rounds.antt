@@ -3,7 +3,7 @@ use Rattle.std.proofs.Common.{◌≡◌, ◌+◌, ℕ, suc, Bool, true, false, �
 use Rattle.std.specs.Prelude.{if◌then◌else◌}
 use Rattle.std.specs.Bool.{IsTrue}
 use Rattle.std.proofs.lemmas.Bool.{and_parts}
-use Rattle.ct_msg.specs.declared.client.Pair.{Pair}
+use Rattle.ct_values.specs.declared.client.Pair.{Pair}
 use Rattle.ct_store.specs.Map.{Pairs}
 use Rattle.ct_persist.specs.declared.store.Updated.{Updated}
 use Rattle.ct_persist.specs.declared.store.Updated.TheVariants.{Done, Had, Gap}

@@ -1,7 +1,7 @@
 -- A commit that waits for the other members.
 use Rattle.std.specs.Prelude.{ℕ, nat_eq, Bool, ◌&&◌, if◌then◌else◌, List}
-use Rattle.ct_bytes.specs.Words.{others}
-use Rattle.ct_deleg.specs.Awaited.{is_last}
+use Rattle.ct_values.specs.Words.{others}
+use Rattle.ct_tracking.specs.Awaited.{is_last}
 
 -- the number of the commit, and the members that have not acknowledged it
 pub record Pending : Type 0 where

@@ -2,7 +2,7 @@
 use Rattle.std.specs.Prelude.{◌≢◌, ℕ, ◌+◌, nat_eq, nat_lt, Bool, ◌&&◌, if◌then◌else◌, List, [], ◌∷◌, length}
 use Rattle.std.specs.List.{AllByRecursion}
 use Rattle.std.specs.Map.{values_of}
-use Rattle.ct_msg.specs.declared.client.Pair.{Pair}
+use Rattle.ct_values.specs.declared.client.Pair.{Pair}
 use Rattle.ct_frame.specs.declared.frame.PTable.{PTable}
 use Rattle.ct_store.specs.Map.{Pairs, Ascends, write, erase}
 use Rattle.ct_persist.specs.declared.store.Updated.{Updated}

@@ -1,6 +1,6 @@
 -- Updates one after the other, and the contents after a list of commits.
 use Rattle.std.specs.Prelude.{ℕ, ◌+◌, nat_eq, Bool, true, ◌&&◌, List, [], ◌∷◌}
-use Rattle.ct_msg.specs.declared.client.Pair.{Pair}
+use Rattle.ct_values.specs.declared.client.Pair.{Pair}
 use Rattle.ct_store.specs.Map.{Pairs}
 use Rattle.ct_persist.specs.Persisted.{Persisted, written, fits, answer, updated}
 use Rattle.ct_persist.specs.declared.store.Updated.{Updated}

@@ -3,9 +3,9 @@ ghost use Rattle.std.specs.Prelude.{◌≡◌, ◌≢◌, [], IfOk};
 ghost use Rattle.std.specs.List.Sorted.{IsStrictlyIncreasing};
 ghost use Rattle.ct_persist.specs.Commits.{applied_by, commit_begun, completes};
 
-use ct_bytes::copies::Duplicate;
-use ct_bytes::memory::NoMemory;
-use ct_deleg::awaited::Awaited;
+use ct_tracking::awaited::Awaited;
+use ct_values::copies::Duplicate;
+use ct_values::memory::NoMemory;
 use std::alloc::Global;
 use std::marker::Model;
 

@@ -1,6 +1,6 @@
 //! What follows of the rules of updates.
 ghost use Rattle.std.specs.Prelude.{ℕ, ◌≡◌, ◌≢◌, ◌+◌, List, [], length, None, Some, IsTrue};
-ghost use Rattle.ct_msg.specs.declared.client.Pair.{Pair};
+ghost use Rattle.ct_values.specs.declared.client.Pair.{Pair};
 ghost use Rattle.ct_store.specs.Map.{Pairs, look};
 ghost use Rattle.ct_persist.specs.Persisted.{Persisted, IsKept, stored, listed, replaced};
 ghost use Rattle.ct_persist.specs.Updates.{Update, contents, updated_all, commits, each_next, writes_of};

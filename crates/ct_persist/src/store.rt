@@ -6,13 +6,13 @@ ghost use Rattle.ct_store.specs.Map.{look};
 ghost use Rattle.ct_persist.specs.Persisted.{IsKept, unwritten, fits, answer, updated, listed, replaced};
 
 use crate::writes::{apply, built, is_there, resized};
-use ct_bytes::copies::Duplicate;
-use ct_bytes::key::Key;
-use ct_bytes::memory::NoMemory;
-use ct_bytes::value::Value;
 use ct_frame::frame::PTable;
-use ct_msg::client::Pair;
 use ct_store::plain::PlainStore;
+use ct_values::client::Pair;
+use ct_values::copies::Duplicate;
+use ct_values::key::Key;
+use ct_values::memory::NoMemory;
+use ct_values::value::Value;
 use std::alloc::Global;
 use std::marker::Model;
 

@@ -4,11 +4,11 @@ ghost use Rattle.ct_store.specs.Map.{Ascends, look};
 ghost use Rattle.ct_persist.specs.Persisted.{IsKept, written, keyed};
 ghost use Rattle.ct_persist.specs.Steps.{added, all_added, assigned, all_assigned, dropped, all_dropped, at_key, one_if};
 
-use ct_bytes::key::Key;
-use ct_bytes::memory::NoMemory;
-use ct_bytes::value::Value;
-use ct_msg::client::Pair;
 use ct_store::plain::PlainStore;
+use ct_values::client::Pair;
+use ct_values::key::Key;
+use ct_values::memory::NoMemory;
+use ct_values::value::Value;
 use std::alloc::Global;
 
 /// Is the key there after these writes? It looks at the writes and at one place of the map.

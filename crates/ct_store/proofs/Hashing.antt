@@ -11,7 +11,7 @@ use Rattle.std.specs.List.{AllByRecursion, IsDistinct}
 use Rattle.std.specs.Map.{keys_of, lookup}
 use Rattle.std.specs.Map.Iter.{deref_pair}
 use Rattle.std.specs.BTreeMap.{is_at, insert_entry}
-use Rattle.ct_bytes.specs.Key.{key_cmp}
+use Rattle.ct_values.specs.Key.{key_cmp}
 use Rattle.ct_store.specs.Map.{Pairs, Ascends, look, write, erase}
 use Rattle.ct_store.specs.Hashed.{ordered}
 use Rattle.ct_store.proofs.Maps.{key_total, one_key, equal, same_map, look-write, look-erase, write_ascends, write_length, erase_ascends, empty_ascends}

@@ -16,7 +16,7 @@ use Rattle.std.specs.FinMap.{find, put, is_sorted, slice_cmp-IsAntisymmetric, na
 use Rattle.std.specs.FinMap.Entries.{by_order, below_all, same_entries, find-put, is_sorted-put, length-put}
 use Rattle.std.proofs.lemmas.Map.{lookup-remove_entry}
 use Rattle.std.proofs.lemmas.Map.Keys.{IsDistinct-from_sorted}
-use Rattle.ct_bytes.specs.Key.{key_cmp}
+use Rattle.ct_values.specs.Key.{key_cmp}
 use Rattle.ct_store.specs.Map.{Pairs, Ascends, look, write, erase}
 
 pub key_total : IsTotalOrder key_cmp

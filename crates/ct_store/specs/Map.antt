@@ -6,7 +6,7 @@ use Rattle.std.specs.Cmp.Lexicographic.{slice_cmp}
 use Rattle.std.specs.Map.{keys_of, lookup, remove_entry}
 use Rattle.std.specs.BTreeMap.{is_at, insert_entry}
 use Rattle.std.specs.List.Sorted.{IsStrictlySortedBy}
-use Rattle.ct_bytes.specs.Key.{key_cmp}
+use Rattle.ct_values.specs.Key.{key_cmp}
 
 -- each pair is the bytes of a key and its item
 abbrev pub Pairs : Type 0 → Type 0

@@ -4,9 +4,9 @@ ghost use Rattle.std.specs.Map.{values_of};
 ghost use Rattle.ct_store.specs.Calls.{reply_to, after, replies, after_all};
 
 use crate::keyed::Keyed;
-use ct_bytes::items::Items;
-use ct_bytes::key::Key;
-use ct_bytes::memory::NoMemory;
+use ct_values::items::Items;
+use ct_values::key::Key;
+use ct_values::memory::NoMemory;
 use std::alloc::Global;
 
 /// A call of a map.

@@ -3,8 +3,8 @@ ghost use Rattle.std.specs.Prelude.{◌≡◌, length, IfOk, OnOk, OnErr, None, 
 ghost use Rattle.std.specs.Map.Iter.{deref_pair};
 ghost use Rattle.ct_store.specs.Map.{Pairs, Ascends, look, write, erase, has_room};
 
-use ct_bytes::key::Key;
-use ct_bytes::memory::NoMemory;
+use ct_values::key::Key;
+use ct_values::memory::NoMemory;
 
 /// Items by key.
 pub trait Keyed<T: Drop> {

@@ -5,8 +5,8 @@ ghost use Rattle.std.specs.Map.Iter.{deref_pair};
 ghost use Rattle.ct_store.specs.Map.{Ascends, look, write, erase, has_room};
 
 use crate::keyed::Keyed;
-use ct_bytes::key::Key;
-use ct_bytes::memory::NoMemory;
+use ct_values::key::Key;
+use ct_values::memory::NoMemory;
 use std::alloc::Global;
 use std::collections::BTreeMap;
 use std::marker::Model;

@@ -2,8 +2,8 @@
 -- length breaks its rule at its offset, and so does the end of a body that comes before the frame's length.
 use Rattle.std.specs.Prelude.{ℕ, ◌+◌, ◌*◌, ◌%◌, ◌^◌, ◌<◌, ◌≤◌, Bool, true, false, ◌&&◌, ◌==◌, not, nat_lt, nat_le, List, [], ◌∷◌, length, take, drop, Option, None, Some, if◌then◌else◌}
 use Rattle.std.specs.Int.{w16, w32, w64, from_be_bytes}
-use Rattle.ct_bytes.specs.declared.address.Address.{Address}
-use Rattle.ct_bytes.specs.declared.address.Address.TheVariants.{V4, V6}
+use Rattle.ct_values.specs.declared.address.Address.{Address}
+use Rattle.ct_values.specs.declared.address.Address.TheVariants.{V4, V6}
 use Rattle.ct_frame.specs.declared.frame.Assigned.{Assigned}
 use Rattle.ct_wire_fields.specs.declared.place.NumberPlace.{NumberPlace}
 use Rattle.ct_wire_fields.specs.declared.place.NumberPlace.TheVariants as number

@@ -2,7 +2,7 @@
 use Rattle.std.specs.Int.{w32, from_be_bytes}
 use Rattle.std.specs.Prelude.{ℕ, ◌<◌, ◌≤◌, ◌≡◌, nat_lt, if◌then◌else◌, List, [], length, take, drop, Option, None, Some, Result, Ok, Err}
 use Rattle.std.specs.Global.{Vec}
-use Rattle.ct_bytes.specs.declared.memory.NoMemory.{NoMemory}
+use Rattle.ct_values.specs.declared.memory.NoMemory.{NoMemory}
 use Rattle.ct_frame.specs.declared.frame.Frame.{Frame}
 use Rattle.ct_wire.specs.declared.encode.EncodeFault.{EncodeFault}
 use Rattle.ct_wire.specs.declared.encode.EncodeFault.TheVariants as fault

@@ -7,12 +7,12 @@ use crate::put::{
     put_addresses, put_assigned_list, put_key, put_kind, put_nodes, put_pairs, put_ptables,
     put_rows, put_u32, put_u64, put_value,
 };
-use ct_bytes::address::Address;
-use ct_bytes::key::Key;
-use ct_bytes::memory::NoMemory;
-use ct_bytes::value::Value;
 use ct_frame::frame::{Assigned, CallKind, Msg, PTable, TableRow};
-use ct_msg::client::Pair;
+use ct_values::address::Address;
+use ct_values::client::Pair;
+use ct_values::key::Key;
+use ct_values::memory::NoMemory;
+use ct_values::value::Value;
 
 /// The number of the message's operation.
 pub fn operation(msg: &Msg) -> u32

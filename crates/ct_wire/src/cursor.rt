@@ -3,9 +3,9 @@ ghost use Rattle.std.specs.Prelude.{◌≡◌, ◌+◌, ◌<◌, ◌≤◌, ◌^
 ghost use Rattle.ct_wire.specs.Cursor.{address_field, address_stage, address_start, after_family, arrive, family_read, field_read, has_room, is_text_length, last_is_v6, number_field, number_of, number_width, outcome_of, settled, start, start_width, text_field, text_length_read, text_stage, text_width, wide_number_of, width, IsSound, IsSoundStage, IsSoundTaken};
 ghost use Rattle.ct_wire_fields.specs.Reading.{step_of};
 
-use ct_bytes::address::Address;
-use ct_bytes::memory::NoMemory;
 use ct_frame::frame::Frame;
+use ct_values::address::Address;
+use ct_values::memory::NoMemory;
 use ct_wire_fields::draft::{Draft, Led, Reading};
 use ct_wire_fields::place::{AddressPlace, NumberPlace, Place, TextPlace};
 use std::alloc::Global;

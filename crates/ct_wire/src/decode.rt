@@ -6,9 +6,9 @@ ghost use Rattle.ct_wire.specs.declared.decode.Progress.TheVariants.{Amid};
 
 use crate::cursor::{Cursor, Taken};
 use crate::whole::{head_of, whole_body};
-use ct_bytes::items::Items;
-use ct_bytes::memory::NoMemory;
 use ct_frame::frame::Frame;
+use ct_values::items::Items;
+use ct_values::memory::NoMemory;
 use std::alloc::{AllocError, AllocFailed, Global};
 use std::marker::Model;
 use std::mem;

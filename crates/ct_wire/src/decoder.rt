@@ -6,9 +6,9 @@ ghost use Rattle.ct_wire.specs.declared.decode.Progress.TheVariants.{Amid};
 
 use crate::cursor::Cursor;
 use crate::decode::{Event, Progress, Spot, WireFault, lone_frame, read_frame, resume};
-use ct_bytes::items::Items;
-use ct_bytes::memory::NoMemory;
 use ct_frame::frame::Frame;
+use ct_values::items::Items;
+use ct_values::memory::NoMemory;
 use std::alloc::Global;
 use std::marker::Model;
 use std::mem;

@@ -7,8 +7,8 @@ ghost use Rattle.ct_wire.specs.Writing.{Encodes, GivesPiece, frame_length, piece
 
 use crate::body::{operation, put_body, request};
 use crate::put::{put_u32, put_u64};
-use ct_bytes::memory::NoMemory;
 use ct_frame::frame::{Frame, Msg, TableRow};
+use ct_values::memory::NoMemory;
 use ct_wire_fields::version::Version;
 use std::alloc::{AllocError, AllocFailed, Global};
 use std::marker::Model;

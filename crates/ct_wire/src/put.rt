@@ -5,13 +5,13 @@ ghost use Rattle.std.specs.List.{flat_map};
 ghost use Rattle.ct_wire_fields.specs.Version.{newest};
 ghost use Rattle.ct_wire.specs.Spelling.{u32, u64, key, value, kind, address, node_or_none, list, row, pair, ptable, assigned};
 
-use ct_bytes::address::Address;
-use ct_bytes::key::Key;
-use ct_bytes::memory::NoMemory;
-use ct_bytes::value::Value;
 use ct_frame::frame::{Assigned, CallKind, PTable, TableRow};
 use ct_frame::header::NONE;
-use ct_msg::client::Pair;
+use ct_values::address::Address;
+use ct_values::client::Pair;
+use ct_values::key::Key;
+use ct_values::memory::NoMemory;
+use ct_values::value::Value;
 
 pub fn put_u32(out: &mut Vec<u8>, number: u32) -> Result<(), NoMemory>
     ensures { OnOk result (out.new.items ≡ out.old.items ++ u32 number) }

@@ -7,9 +7,9 @@ ghost use Rattle.ct_wire.specs.Decoding.{eaten};
 
 use crate::cursor::{Cursor, Stage};
 use crate::whole::copy_fields;
-use ct_bytes::key::Key;
-use ct_bytes::memory::NoMemory;
-use ct_bytes::value::Value;
+use ct_values::key::Key;
+use ct_values::memory::NoMemory;
+use ct_values::value::Value;
 use ct_wire_fields::check::follows_row;
 use ct_wire_fields::place::{NumberPlace, Place};
 use std::alloc::Global;

@@ -9,10 +9,10 @@ ghost use Rattle.ct_wire.specs.Decoding.{eaten, Gives};
 ghost use Rattle.ct_wire.specs.Whole.{at_number, first_place, front_head, gives_copy, headed, is_common, kind_number, CopyStands, KeyStands};
 
 use crate::cursor::number_of;
-use ct_bytes::key::Key;
-use ct_bytes::memory::NoMemory;
-use ct_bytes::value::Value;
 use ct_frame::frame::{CallKind, Frame, Msg};
+use ct_values::key::Key;
+use ct_values::memory::NoMemory;
+use ct_values::value::Value;
 use ct_wire_fields::check::{is_below_limit, is_db, is_from_one, is_node};
 use ct_wire_fields::draft::Head;
 use ct_wire_fields::place::Operation;

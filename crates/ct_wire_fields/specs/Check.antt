@@ -1,9 +1,9 @@
 -- The rules of single fields, and of an item against the one before it.
 use Rattle.std.specs.Prelude.{ℕ, ◌-◌, Bool, true, ◌&&◌, ◌||◌, ◌==◌, nat_lt, nat_le, List, length, slice_get, Option, None, Some, if◌then◌else◌}
-use Rattle.ct_bytes.specs.Key.{key_before}
-use Rattle.ct_bytes.specs.Address.{address_before}
-use Rattle.ct_bytes.specs.declared.address.Address.{Address}
-use Rattle.ct_msg.specs.declared.client.Pair.{Pair}
+use Rattle.ct_values.specs.Key.{key_before}
+use Rattle.ct_values.specs.Address.{address_before}
+use Rattle.ct_values.specs.declared.address.Address.{Address}
+use Rattle.ct_values.specs.declared.client.Pair.{Pair}
 use Rattle.ct_frame.specs.declared.frame.Assigned.{Assigned}
 use Rattle.ct_frame.specs.declared.frame.PTable.{PTable}
 use Rattle.ct_frame.specs.declared.frame.TableRow.{TableRow}

@@ -5,9 +5,9 @@ ghost use Rattle.ct_wire_fields.specs.Reading.{addresses_left, addresses_whole, 
 use crate::check::{follows_address, follows_assigned, is_from_one, is_node};
 use crate::draft::{Draft, Led, taken, to_address, to_number, whole};
 use crate::place::{AddressPlace, NumberPlace, Operation};
-use ct_bytes::address::Address;
-use ct_bytes::memory::NoMemory;
 use ct_frame::frame::{Assigned, Msg};
+use ct_values::address::Address;
+use ct_values::memory::NoMemory;
 use std::alloc::Global;
 
 impl Draft {

@@ -3,12 +3,12 @@ ghost use Rattle.std.specs.Prelude.{◌≡◌, IfSome, SomeIff};
 ghost use Rattle.ct_frame.specs.Fields.{is_below_limit, is_from_one, is_node, is_db};
 ghost use Rattle.ct_wire_fields.specs.Check.{is_count, last_of, key_of, value_of, follows_node, follows_db, follows_row, follows_pair, follows_ptable, follows_address, follows_assigned};
 
-use ct_bytes::address::Address;
-use ct_bytes::key::Key;
-use ct_bytes::value::Value;
 use ct_frame::frame::{Assigned, PTable, TableRow};
 use ct_frame::header::LIMIT;
-use ct_msg::client::Pair;
+use ct_values::address::Address;
+use ct_values::client::Pair;
+use ct_values::key::Key;
+use ct_values::value::Value;
 
 pub fn is_below_limit(number: u64) -> bool
     ensures { result ≡ is_below_limit number }

@@ -4,10 +4,10 @@ ghost use Rattle.ct_wire_fields.specs.Reading.{no_draft};
 
 use crate::place::{AddressPlace, NumberPlace, Operation, Place, TextPlace};
 use crate::version::Version;
-use ct_bytes::address::Address;
-use ct_bytes::items::Items;
 use ct_frame::frame::{Assigned, Frame, Msg, PTable, TableRow};
-use ct_msg::client::Pair;
+use ct_values::address::Address;
+use ct_values::client::Pair;
+use ct_values::items::Items;
 use std::alloc::Global;
 use std::mem;
 

@@ -1,8 +1,8 @@
 //! Which field of a frame comes next.
 
-use ct_bytes::address::Address;
-use ct_bytes::key::Key;
-use ct_bytes::value::Value;
+use ct_values::address::Address;
+use ct_values::key::Key;
+use ct_values::value::Value;
 
 /// What a frame is for. Its number on the wire is its place here, counted from 1.
 #[derive(Clone, Copy, Debug, PartialEq, Eq)]

@@ -4,8 +4,8 @@ ghost use Rattle.ct_wire_fields.specs.Reading.{address_read, number_read, step_o
 
 use crate::draft::{Draft, Led};
 use crate::place::{AddressPlace, NumberPlace, TextPlace};
-use ct_bytes::address::Address;
-use ct_bytes::memory::NoMemory;
+use ct_values::address::Address;
+use ct_values::memory::NoMemory;
 use std::alloc::Global;
 
 impl Draft {

@@ -6,11 +6,11 @@ ghost use Rattle.ct_wire_fields.specs.Reading.{after_db, after_key, after_kind, 
 use crate::check::{is_below_limit, is_count, is_db, is_from_one, is_node, key_of, value_of};
 use crate::draft::{Draft, Led, taken, to_number, to_text, whole};
 use crate::place::{NumberPlace, Operation, TextPlace};
-use ct_bytes::key::Key;
-use ct_bytes::memory::NoMemory;
-use ct_bytes::value::Value;
 use ct_frame::frame::{CallKind, Msg};
-use ct_msg::client::Pair;
+use ct_values::client::Pair;
+use ct_values::key::Key;
+use ct_values::memory::NoMemory;
+use ct_values::value::Value;
 use std::alloc::Global;
 
 impl Draft {

@@ -9,13 +9,13 @@ use crate::check::{
 };
 use crate::draft::{Draft, Led, taken, to_number, to_text, whole};
 use crate::place::{NumberPlace, Operation, TextPlace};
-use ct_bytes::key::Key;
-use ct_bytes::memory::NoMemory;
-use ct_bytes::nodes::is_among;
-use ct_bytes::value::Value;
 use ct_frame::frame::{Msg, PTable, TableRow};
 use ct_frame::header::NONE;
-use ct_msg::client::Pair;
+use ct_values::client::Pair;
+use ct_values::key::Key;
+use ct_values::memory::NoMemory;
+use ct_values::nodes::is_among;
+use ct_values::value::Value;
 use std::alloc::Global;
 
 impl Draft {

@@ -1,6 +1,6 @@
 use Rattle.std.proofs.Common.{◌∙◌, sym, ap, subst, ◌<◌}
 use Rattle.std.specs.List.Sorted.{IsStrictlySortedBy}
-use Rattle.ct_bytes.specs.Address.{address_cmp}
+use Rattle.ct_values.specs.Address.{address_cmp}
 use Rattle.ct_lcp2.specs.Placing.{addresses, total}
 use Rattle.ct_lcp2.specs.Tallies.{nodes}
 use Rattle.ct_lcp2.proofs.Steps.{failback_less, failback_more, failback_end, failback_stands}

@@ -1,6 +1,6 @@
 use Rattle.std.proofs.Common.{◌∙◌, sym, ap, subst}
 use Rattle.std.specs.List.Sorted.{IsStrictlySortedBy}
-use Rattle.ct_bytes.specs.Address.{address_cmp}
+use Rattle.ct_values.specs.Address.{address_cmp}
 use Rattle.ct_lcp2.specs.Placing.{addresses}
 use Rattle.ct_lcp2.proofs.Standing.{addresses_begun}
 use Rattle.ct_lcp2.proofs.Steps.{whole}

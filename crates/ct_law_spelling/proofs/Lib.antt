@@ -1,6 +1,0 @@
-pub mod Back
-pub mod Bodies
-pub mod Items
-pub mod Stream
-pub mod Tables
-pub mod Whole

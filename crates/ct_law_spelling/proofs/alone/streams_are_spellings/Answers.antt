@@ -1,5 +1,0 @@
-use Rattle.ct_law_spelling.proofs.Stream.{streams_are_spellings}
-use Rattle.ct_law_spelling.proofs.alone.streams_are_spellings.Goals as goal
-
-pub returns : goal.returns
-returns c = streams_are_spellings

@@ -1,0 +1,5 @@
+pub mod Book
+pub mod Boxes
+pub mod Hub
+pub mod Lanes
+pub mod Streams

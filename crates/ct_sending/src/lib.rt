@@ -1,5 +1,0 @@
-//! Frames are sent over a link, piece by piece.
-#![tactic(auto)]
-
-pub mod fault;
-pub mod send;

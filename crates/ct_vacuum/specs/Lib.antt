@@ -1,3 +1,0 @@
-pub mod Vacuum
-pub mod Code
-pub mod Candidates

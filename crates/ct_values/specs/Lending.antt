@@ -1,0 +1,8 @@
+-- What a list is after a write through a `&mut` to one item.
+use Rattle.std.specs.Prelude.{ℕ, List, slice_set}
+use Rattle.std.specs.Borrow.{Lends, MutBor, Fml, RattleType}
+use Rattle.ct_values.specs.contracts.items.Items.{the_row}
+
+-- the list ends with the item at index i as it was last written through r
+abbrev pub LendsAt : (T : RattleType) → MutBor (List T.Denot) → ℕ → MutBor T.Denot → Fml
+LendsAt T s i r = Lends (the_row T) T s r (slice_set s.now i)

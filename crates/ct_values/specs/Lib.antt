@@ -1,0 +1,12 @@
+pub mod Address
+pub mod Hash
+pub mod Key
+pub mod Lending
+pub mod Name
+pub mod Number
+pub mod Spelling
+pub mod Words
+pub mod Client
+pub mod Config
+pub mod Generated
+pub mod Members

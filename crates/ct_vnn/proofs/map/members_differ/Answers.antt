@@ -1,5 +1,0 @@
-use Rattle.ct_vnn.proofs.Repeats.{all_differ}
-use Rattle.ct_vnn.proofs.map.members_differ.Goals as goal
-
-pub returns : goal.returns
-returns c = λ members h. all_differ members h.1

@@ -1,0 +1,10 @@
+pub mod Cut
+pub mod Joined
+pub mod Feeding
+pub mod Following
+pub mod Ours
+pub mod Places
+pub mod Sound
+pub mod Counts
+pub mod Frames
+pub mod Fronts
