@@ -4,7 +4,7 @@ use Rattle.std.proofs.lemmas.Bool.{cond_both, and_from}
 use Rattle.std.proofs.lemmas.List.Folds.{list_all-append}
 use Rattle.std.specs.Prelude.{is_none}
 use Rattle.std.specs.List.{list_all}
-use Rattle.ct_bytes.specs.Words.{is_nil}
+use Rattle.ct_values.specs.Words.{is_nil}
 use Rattle.ct_frame.specs.Header.{plain}
 use Rattle.ct_call.specs.Rules.{Rules}
 use Rattle.ct_frame.specs.Fields.{is_from_one}
@@ -20,8 +20,8 @@ use Rattle.ct_rules.specs.declared.state.Entry.{Entry}
 use Rattle.ct_rules.specs.declared.state.Waiter.{Waiter}
 use Rattle.ct_rules.specs.declared.state.Wish.{Wish}
 use Rattle.ct_law_rules.proofs.Formed.{Formed, send_formed, send_all_formed, next_formed, pass_again_formed, opened_formed, end_vacuum_formed, waiting_formed, if_formed, handle_formed, granted_formed, waiting_of, drained_formed, satisfied_formed, end_revocation_formed}
-use Rattle.ct_deleg.specs.Tracked.{ends}
-use Rattle.ct_vacuum.specs.Vacuum.{Vacuuming, stored, deleted}
+use Rattle.ct_tracking.specs.Tracked.{ends}
+use Rattle.ct_tracking.specs.Vacuum.{Vacuuming, stored, deleted}
 
 -- ---- Call
 

@@ -2,12 +2,12 @@
 use Rattle.std.proofs.Common.{◌≡◌, ℕ, ◌+◌, ◌≤◌, Bool, true, false, List, [], ◌∷◌, Option, Some, None, ap, subst, ◌∙◌, arith, ◌&&◌, ◌||◌}
 use Rattle.std.proofs.lemmas.Bool.{cond_both, and_parts, eqb-true}
 use Rattle.std.specs.Prelude.{is_none, nat_eq}
-use Rattle.ct_bytes.specs.Words.{is_nil}
-use Rattle.ct_msg.specs.Client.{is_read, wants_record}
+use Rattle.ct_values.specs.Words.{is_nil}
+use Rattle.ct_values.specs.Client.{is_read, wants_record}
 use Rattle.ct_call.specs.Rules.{Rules}
 use Rattle.ct_frame.specs.declared.frame.Msg.{Msg}
 use Rattle.ct_frame.specs.declared.frame.Msg.TheVariants as msg
-use Rattle.ct_msg.specs.declared.client.ClientOp.{ClientOp}
+use Rattle.ct_values.specs.declared.client.ClientOp.{ClientOp}
 use Rattle.ct_rules.specs.State.{rsn_of, is_mastered, is_quiet, is_free, with_value, risen, is_for_reading}
 use Rattle.ct_rules.specs.Parts.{Moving, performs, send, reply, keeps, reaches, opened, open_of, end_vacuum, next, call_for, wait_for_copies, want_of, opened_at_home, want}
 use Rattle.ct_law_rules.specs.Form.{vacuumed_rsn, wished_as, wishes_record, is_recalled, least_of, sent_for, revoked_rsn}
@@ -23,8 +23,8 @@ use Rattle.ct_law_rules.specs.Laws.{KeepsForm, StartsInForm}
 use Rattle.ct_law_rules.proofs.Growing.{move_grows}
 use Rattle.ct_law_rules.proofs.Arriving.{call_formed, recall_formed, on_give_formed, on_refuse_formed, pass_formed, on_grant_formed, on_done_formed, on_revoke_formed, on_revokeack_formed, on_vstore_formed, on_vdelete_formed, finish_formed, on_vstored_formed, on_vdeleted_formed}
 use Rattle.ct_law_rules.proofs.Formed.{Formed, send_formed, reply_formed, send_all_formed, opened_formed, end_vacuum_formed, give_formed, revoke_formed, satisfy_formed, if_formed, drained_formed}
-use Rattle.ct_deleg.specs.Tracked.{Revocation}
-use Rattle.ct_vacuum.specs.Vacuum.{Vacuuming, vacuum_begun}
+use Rattle.ct_tracking.specs.Tracked.{Revocation}
+use Rattle.ct_tracking.specs.Vacuum.{Vacuuming, vacuum_begun}
 
 -- ---- WANT
 

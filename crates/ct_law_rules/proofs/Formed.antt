@@ -3,21 +3,21 @@ use Rattle.std.proofs.Common.{◌≡◌, ℕ, ◌<◌, Bool, true, false, cond, 
 use Rattle.std.proofs.lemmas.Bool.{cond_both, and_parts}
 use Rattle.std.specs.Prelude.{is_none, Result}
 use Rattle.std.specs.List.{list_all}
-use Rattle.ct_bytes.specs.Words.{is_nil}
+use Rattle.ct_values.specs.Words.{is_nil}
 use Rattle.ct_call.specs.Rules.{Rules}
 use Rattle.ct_call.specs.declared.fault.CallFault.{CallFault}
 use Rattle.ct_call.specs.declared.fault.CallFault.TheVariants as fault
 use Rattle.ct_frame.specs.declared.frame.Msg.{Msg}
-use Rattle.ct_msg.specs.declared.client.Answer.{Answer}
-use Rattle.ct_msg.specs.declared.client.ClientOp.{ClientOp}
-use Rattle.ct_msg.specs.declared.client.ClientOp.TheVariants as op
+use Rattle.ct_values.specs.declared.client.Answer.{Answer}
+use Rattle.ct_values.specs.declared.client.ClientOp.{ClientOp}
+use Rattle.ct_values.specs.declared.client.ClientOp.TheVariants as op
 use Rattle.ct_rules.specs.State.{rsn_of, is_mastered, is_quiet, is_free, given, with_flags, with_value, risen}
 use Rattle.ct_rules.specs.Parts.{Moving, performs, send, send_all, reply, keeps, reaches, opened, open_of, end_vacuum, give, applies, satisfy, revoke, read_here, delegate, grant, yield_record, drain, drained, satisfy_own, raise, end_revocation, next, next_of}
 use Rattle.ct_rules.specs.Messages.{pass_again}
 use Rattle.ct_law_rules.specs.Form.{HasShape, least_of, sent_for, revoked_rsn, vacuumed_rsn, wished_as, wishes_record, is_recalled}
 use Rattle.ct_frame.specs.declared.header.RecCopy.{RecCopy}
-use Rattle.ct_deleg.specs.Tracked.{Tracked}
-use Rattle.ct_vacuum.specs.Vacuum.{Vacuuming}
+use Rattle.ct_tracking.specs.Tracked.{Tracked}
+use Rattle.ct_tracking.specs.Vacuum.{Vacuuming}
 use Rattle.ct_rules.specs.declared.event.Place.{Place}
 use Rattle.ct_rules.specs.declared.state.RecallNote.{RecallNote}
 use Rattle.ct_rules.specs.declared.state.RecState.{RecState}

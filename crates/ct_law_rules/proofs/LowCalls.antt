@@ -1,20 +1,20 @@
 -- The calls of the lock and of the wish keep numbers below 2^62: every event keeps this.
 use Rattle.std.proofs.Common.{◌≡◌, ℕ, ◌+◌, ◌<◌, ◌^◌, Bool, true, false, cond, List, [], ◌∷◌, Option, Some, None, refl, subst, arith, Ok, Err}
 use Rattle.std.specs.Prelude.{Result, nat_lt, ◌&&◌, ◌||◌}
-use Rattle.ct_bytes.specs.Words.{is_nil}
-use Rattle.ct_msg.specs.Client.{is_read}
+use Rattle.ct_values.specs.Words.{is_nil}
+use Rattle.ct_values.specs.Client.{is_read}
 use Rattle.ct_call.specs.Rules.{Rules}
 use Rattle.ct_call.specs.declared.fault.CallFault.{CallFault}
 use Rattle.ct_call.specs.declared.fault.CallFault.TheVariants as fault
-use Rattle.ct_deleg.specs.Tracked.{Revocation}
-use Rattle.ct_vacuum.specs.Vacuum.{Vacuuming}
+use Rattle.ct_tracking.specs.Tracked.{Revocation}
+use Rattle.ct_tracking.specs.Vacuum.{Vacuuming}
 use Rattle.ct_frame.specs.declared.frame.CallKind.{CallKind}
 use Rattle.ct_frame.specs.declared.frame.Msg.{Msg}
 use Rattle.ct_frame.specs.declared.frame.Msg.TheVariants as msg
-use Rattle.ct_msg.specs.declared.client.Answer.{Answer}
-use Rattle.ct_msg.specs.declared.client.Answer.TheVariants as answer
-use Rattle.ct_msg.specs.declared.client.ClientOp.{ClientOp}
-use Rattle.ct_msg.specs.declared.client.ClientOp.TheVariants as op
+use Rattle.ct_values.specs.declared.client.Answer.{Answer}
+use Rattle.ct_values.specs.declared.client.Answer.TheVariants as answer
+use Rattle.ct_values.specs.declared.client.ClientOp.{ClientOp}
+use Rattle.ct_values.specs.declared.client.ClientOp.TheVariants as op
 use Rattle.ct_rules.specs.State.{rank, rsn_of, value_of, is_mastered, is_given, is_free, is_for_reading}
 use Rattle.ct_rules.specs.Parts.{Moving, performs, send, send_all, reply, keeps, reaches, opened, open_of, end_vacuum, give, applies, satisfy, revoke, read_here, delegate, grant, yield_record, drain, drained, satisfy_own, raise, end_revocation, next, next_of, keep, call_for, wait_for_copies, want_of, opened_at_home, want}
 use Rattle.ct_rules.specs.Messages.{pass_again, enqueue, on_call_of, called, on_call, wait, handle, recalled, on_recall, hand_on, on_give_of, on_give, satisfy_wish, becomes, accept, refuse, on_pass, on_refuse_of, on_refuse, read_granted, on_grant, on_done_of, on_done, acknowledge, renew, on_revoke_of, on_revoke, acknowledged, on_revokeack, on_vstore, on_vdelete, finish, on_vstored_of, on_vstored, on_vdeleted_of, on_vdeleted}

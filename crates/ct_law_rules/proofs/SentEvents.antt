@@ -4,20 +4,20 @@ use Rattle.std.proofs.lemmas.Bool.{cond_both, and_parts, and_from}
 use Rattle.std.proofs.lemmas.List.Folds.{list_all-append}
 use Rattle.std.specs.List.{list_all}
 use Rattle.std.specs.Prelude.{is_none, nat_eq, nat_le, nat_lt}
-use Rattle.ct_bytes.specs.Words.{is_nil}
-use Rattle.ct_msg.specs.Client.{is_read}
+use Rattle.ct_values.specs.Words.{is_nil}
+use Rattle.ct_values.specs.Client.{is_read}
 use Rattle.ct_frame.specs.Header.{for_reading, plain}
 use Rattle.ct_call.specs.Rules.{Rules}
-use Rattle.ct_deleg.specs.Tracked.{Revocation}
+use Rattle.ct_tracking.specs.Tracked.{Revocation}
 use Rattle.ct_frame.specs.declared.frame.CallKind.{CallKind}
 use Rattle.ct_frame.specs.declared.frame.CallKind.TheVariants as kind
 use Rattle.ct_frame.specs.declared.frame.Msg.{Msg}
 use Rattle.ct_frame.specs.declared.frame.Msg.TheVariants as msg
-use Rattle.ct_msg.specs.declared.client.Answer.TheVariants as answer
-use Rattle.ct_msg.specs.declared.client.ClientOp.{ClientOp}
-use Rattle.ct_vacuum.specs.declared.vacuum.VacuumPhase.{VacuumPhase}
-use Rattle.ct_vacuum.specs.declared.vacuum.VacuumPhase.TheVariants.{Storing, Deleting}
-use Rattle.ct_vacuum.specs.Vacuum.{Vacuuming, vacuum_begun, stored, deleted}
+use Rattle.ct_values.specs.declared.client.Answer.TheVariants as answer
+use Rattle.ct_values.specs.declared.client.ClientOp.{ClientOp}
+use Rattle.ct_tracking.specs.declared.vacuum.VacuumPhase.{VacuumPhase}
+use Rattle.ct_tracking.specs.declared.vacuum.VacuumPhase.TheVariants.{Storing, Deleting}
+use Rattle.ct_tracking.specs.Vacuum.{Vacuuming, vacuum_begun, stored, deleted}
 use Rattle.ct_rules.specs.State.{rank, is_given, kind_of, a_copy, rsn_of, is_mastered, is_free, risen, is_for_reading, value_of}
 use Rattle.ct_rules.specs.Parts.{Moving, performs, send, keeps, reaches, opened, open_of, end_vacuum, next, next_of, keep, call_for, wait_for_copies, want_of, opened_at_home, want}
 use Rattle.ct_rules.specs.Messages.{pass_again, enqueue, on_call_of, called, on_call, wait, handle, recalled, on_recall, hand_on, on_give_of, on_give, becomes, accept, refuse, on_pass, on_refuse_of, on_refuse, read_granted, on_grant, on_done_of, on_done, called_in, acknowledge, renew, on_revoke_of, on_revoke, acknowledged, on_revokeack, stored_copy, deleted_copy, on_vstore, on_vdelete, finish, greater, on_vstored_of, on_vstored, on_vdeleted_of, on_vdeleted}

@@ -8,16 +8,16 @@ use Rattle.ct_frame.specs.Header.{being_revoked, delegated}
 use Rattle.ct_call.specs.Rules.{Rules}
 use Rattle.ct_call.specs.declared.fault.CallFault.{CallFault}
 use Rattle.ct_call.specs.declared.fault.CallFault.TheVariants as fault
-use Rattle.ct_deleg.specs.Tracked.{Revocation}
-use Rattle.ct_deleg.specs.Tracked as tracked
+use Rattle.ct_tracking.specs.Tracked.{Revocation}
+use Rattle.ct_tracking.specs.Tracked as tracked
 use Rattle.ct_frame.specs.declared.frame.CallKind.{CallKind}
 use Rattle.ct_frame.specs.declared.frame.CallKind.TheVariants as kind
 use Rattle.ct_frame.specs.declared.frame.Msg.{Msg}
 use Rattle.ct_frame.specs.declared.frame.Msg.TheVariants as msg
-use Rattle.ct_msg.specs.declared.client.Answer.{Answer}
-use Rattle.ct_msg.specs.declared.client.ClientOp.{ClientOp}
-use Rattle.ct_msg.specs.declared.client.ClientOp.TheVariants as op
-use Rattle.ct_vacuum.specs.Vacuum.{Vacuuming}
+use Rattle.ct_values.specs.declared.client.Answer.{Answer}
+use Rattle.ct_values.specs.declared.client.ClientOp.{ClientOp}
+use Rattle.ct_values.specs.declared.client.ClientOp.TheVariants as op
+use Rattle.ct_tracking.specs.Vacuum.{Vacuuming}
 use Rattle.ct_rules.specs.State.{rsn_of, given, with_flags, with_value, risen, value_of}
 use Rattle.ct_rules.specs.Parts.{Moving, performs, send, send_all, reply, keeps, reaches, end_vacuum, give, applies, satisfy, revoke, read_here, delegate, grant, yield_record, drain, drained, satisfy_own, raise, end_revocation}
 use Rattle.ct_rules.specs.Messages.{satisfy_wish}
@@ -25,7 +25,7 @@ use Rattle.ct_law_rules.specs.Form.{least_of, sent_for, revoked_rsn, vacuumed_rs
 use Rattle.ct_law_rules.specs.Sent.{is_well_formed, is_of_node, is_for_node}
 use Rattle.ct_frame.specs.Fields.{is_db, is_node, is_message, is_from_one}
 use Rattle.ct_frame.specs.declared.header.RecCopy.{RecCopy}
-use Rattle.ct_deleg.specs.Tracked.{Tracked}
+use Rattle.ct_tracking.specs.Tracked.{Tracked}
 use Rattle.ct_rules.specs.declared.event.Act.{Act}
 use Rattle.ct_rules.specs.declared.event.Act.TheVariants as act
 use Rattle.ct_rules.specs.declared.event.Place.{Place}

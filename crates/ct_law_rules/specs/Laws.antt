@@ -1,12 +1,12 @@
 -- What follows for the rules of one record.
 use Rattle.std.specs.Prelude.{◌≡◌, ℕ, ◌≤◌, true, false, List, ◌++◌, Option, Some, is_none, ◌<◌, ◌^◌}
-use Rattle.ct_bytes.specs.Words.{is_nil}
+use Rattle.ct_values.specs.Words.{is_nil}
 use Rattle.ct_call.specs.Rules.{Rules}
 use Rattle.ct_frame.specs.declared.frame.Msg.{Msg}
 use Rattle.ct_frame.specs.declared.frame.Msg.TheVariants as msg
 use Rattle.ct_frame.specs.declared.header.RecCopy.{RecCopy}
-use Rattle.ct_deleg.specs.Tracked.{Tracked}
-use Rattle.ct_vacuum.specs.Vacuum.{Vacuuming}
+use Rattle.ct_tracking.specs.Tracked.{Tracked}
+use Rattle.ct_tracking.specs.Vacuum.{Vacuuming}
 use Rattle.ct_rules.specs.State.{nothing_kept, is_mastered}
 use Rattle.ct_rules.specs.Parts.{Moving}
 use Rattle.ct_rules.specs.Moves.{arrive, move, moved}

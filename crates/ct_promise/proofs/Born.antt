@@ -7,9 +7,9 @@ use Rattle.std.proofs.lemmas.Slice.Eq.{bytes_eq-Decides}
 use Rattle.std.proofs.lemmas.Map.Text.{is_eq-slice_cmp}
 use Rattle.std.specs.List.Sorted.{IsStrictlySortedBy}
 use Rattle.std.proofs.lemmas.List.Sorted.{IsPermutation-refl}
-use Rattle.ct_bytes.specs.Key.{key_cmp}
-use Rattle.ct_msg.specs.Client.{wants_record}
-use Rattle.ct_msg.specs.declared.config.DbKind.TheVariants.{Volatile}
+use Rattle.ct_values.specs.Key.{key_cmp}
+use Rattle.ct_values.specs.Client.{wants_record}
+use Rattle.ct_values.specs.declared.config.DbKind.TheVariants.{Volatile}
 use Rattle.ct_frame.specs.declared.frame.TableRow.{TableRow}
 use Rattle.ct_store.specs.Map.{look, Ascends}
 use Rattle.ct_law_rules.specs.Form
@@ -19,8 +19,8 @@ use Rattle.ct_rules_node.specs.Node as node
 use Rattle.ct_rules_node.specs.Node.{is_among, has_records, kind_at, kind_in}
 use Rattle.ct_rules_node.specs.Rounds as rounds
 use Rattle.ct_rules_node.specs.Numbered
-use Rattle.ct_cluster.specs.Cluster as cluster
-use Rattle.ct_cluster.specs.Cluster.{Sent}
+use Rattle.ct_rules_cluster.specs.Cluster as cluster
+use Rattle.ct_rules_cluster.specs.Cluster.{Sent}
 use Rattle.ct_register.specs.Register
 use Rattle.ct_register.specs.Words
 use Rattle.ct_register.proofs.Places.{of_two}

@@ -1,13 +1,13 @@
 -- The promise follows from the law of marks, and that of one generation from its law step by step.
 use Rattle.std.proofs.Common.{◌≡◌, ℕ, Bool, true, false, cond, List, [], ◌∷◌, ◌++◌, refl, sym, ap, subst}
 use Rattle.std.specs.List.{filter}
-use Rattle.ct_msg.specs.declared.config.Config.{Config}
+use Rattle.ct_values.specs.declared.config.Config.{Config}
 use Rattle.ct_call.specs.Rules.{Rules}
-use Rattle.ct_cluster.specs.Cluster.{Cluster}
-use Rattle.ct_cluster.specs.Labels.{Label}
-use Rattle.ct_cluster.specs.Traces
-use Rattle.ct_cluster.specs.Traces.{OpenCall, ran, ran_one}
-use Rattle.ct_cluster.specs.declared.step.Step.{Step}
+use Rattle.ct_rules_cluster.specs.Cluster.{Cluster}
+use Rattle.ct_rules_cluster.specs.Labels.{Label}
+use Rattle.ct_rules_cluster.specs.Traces
+use Rattle.ct_rules_cluster.specs.Traces.{OpenCall, ran, ran_one}
+use Rattle.ct_rules_cluster.specs.declared.step.Step.{Step}
 use Rattle.ct_register.specs.Lines.{Lines}
 use Rattle.ct_register.specs.Legal.{AcceptsLabels}
 use Rattle.ct_register.specs.Stands.{StandsFor, RecordsStand}

@@ -1,14 +1,14 @@
 -- What the nodes of the small run are when both have installed: what an installation makes of a frozen one.
 use Rattle.std.proofs.Common.{ℕ, true, List, [], ◌∷◌}
 use Rattle.std.specs.Prelude.{Some}
-use Rattle.ct_msg.specs.declared.client.ClientOp.TheVariants as op
+use Rattle.ct_values.specs.declared.client.ClientOp.TheVariants as op
 use Rattle.ct_store.specs.Map.{Pairs}
 use Rattle.ct_rules.specs.State.{nothing_kept}
 use Rattle.ct_rules.specs.declared.state.RecState.{RecState}
 use Rattle.ct_rules_node.specs.Node as node
 use Rattle.ct_rules_node.specs.Node.{Node, Frozen, Installs}
 use Rattle.ct_rules_node.specs.Rounds.{installed_node}
-use Rattle.ct_cluster.specs.Cluster.{Cluster, Sent}
+use Rattle.ct_rules_cluster.specs.Cluster.{Cluster, Sent}
 use Rattle.ct_promise.specs.Small.{config, both, a, the_row}
 
 -- a node that is frozen for the round, with these states of keys in `t` and this next request number

@@ -2,15 +2,15 @@
 use Rattle.std.proofs.Common.{◌≡◌, ℕ, zero, suc, ◌+◌, List, [], ◌∷◌, ◌++◌, refl, sym, ap, ◌∙◌, subst}
 use Rattle.std.specs.Prelude.{replicate, Some}
 use Rattle.std.specs.List.{AllByRecursion}
-use Rattle.ct_msg.specs.declared.config.Config.{Config}
-use Rattle.ct_msg.specs.declared.config.DbDecl.{DbDecl}
+use Rattle.ct_values.specs.declared.config.Config.{Config}
+use Rattle.ct_values.specs.declared.config.DbDecl.{DbDecl}
 use Rattle.ct_rules.specs.declared.state.RecState.{RecState}
 use Rattle.ct_rules_node.specs.Node as node
 use Rattle.ct_rules_node.specs.Node.{Node, untouched, untouched_all}
 use Rattle.ct_rules_node.specs.Numbered.{by_number}
-use Rattle.ct_cluster.specs.Cluster.{everyone, opening, wished_in, committing, pending_in, pending_from, pending}
-use Rattle.ct_cluster.specs.Traces.{asked_in}
-use Rattle.ct_cluster.specs.declared.step.PendingCall.{PendingCall}
+use Rattle.ct_rules_cluster.specs.Cluster.{everyone, opening, wished_in, committing, pending_in, pending_from, pending}
+use Rattle.ct_rules_cluster.specs.Traces.{asked_in}
+use Rattle.ct_rules_cluster.specs.declared.step.PendingCall.{PendingCall}
 use Rattle.ct_register.specs.Marks
 use Rattle.ct_register.proofs.Opened.{opened_state, no_copy}
 use Rattle.ct_register.proofs.Small.{none_not_some}

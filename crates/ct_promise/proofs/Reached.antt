@@ -1,8 +1,8 @@
 -- The small run, worked out by computing, with all words of the rules open.
 use Rattle.std.proofs.Common.{◌≡◌, true, refl, sym, subst}
 use Rattle.std.specs.List.{list_all}
-use Rattle.ct_bytes.specs.Words.{is_this_node, or_empty}
-use Rattle.ct_msg.specs.Client.{db_of, is_read, key_of, wants_record}
+use Rattle.ct_values.specs.Words.{is_this_node, or_empty}
+use Rattle.ct_values.specs.Client.{db_of, is_read, key_of, wants_record}
 use Rattle.ct_promise.specs.Born.{IsBornWith, BornRegisters}
 use Rattle.ct_promise.specs.Small.{config, both, begun_with, born, registers, RowsAreThere}
 use Rattle.ct_promise.proofs.Nodes.{with_sent}
@@ -23,11 +23,11 @@ use Rattle.ct_rules_node.specs.Rounds.{begin_round, frozen_state, changed, froze
 use Rattle.ct_rules_node.specs.Steps.{on_record_of, if_persistent, if_sound, if_taken_over, arrives, vacuum_all, vacuums, happens}
 use Rattle.ct_rules_node.specs.Takeovers.{share, assigned_in, send_releases, runs, begin_takeover, has_address, on_release, all_released, released_by, on_releaseack, held_with, takes, on_take}
 use Rattle.ct_rules_node.specs.Turn.{does, with_node, with_lead, with_phase, makes as turn_makes, answers, notes, posts, posts_all}
-use Rattle.ct_cluster.specs.Cluster.{numbers, everyone, opening as cluster_opening, is_true, is_up, absent, or_absent, node_at, sent_at, is_waiting_fate, is_waiting, is_delivered_fate, is_delivered, able_from, wished, wished_in, committing, pending_in, pending_at, pending_from, pending}
-use Rattle.ct_cluster.specs.Faults.{no_such_node, no_such_nodes, node_down, node_up, no_such_db as faults_no_such_db, wrong_kind as faults_wrong_kind, not_serving as faults_not_serving, leads, not_leader, not_member, lock_held, not_holder, not_waiting, not_delivered, fault_of, is_allowed}
+use Rattle.ct_rules_cluster.specs.Cluster.{numbers, everyone, opening as cluster_opening, is_true, is_up, absent, or_absent, node_at, sent_at, is_waiting_fate, is_waiting, is_delivered_fate, is_delivered, able_from, wished, wished_in, committing, pending_in, pending_at, pending_from, pending}
+use Rattle.ct_rules_cluster.specs.Faults.{no_such_node, no_such_nodes, node_down, node_up, no_such_db as faults_no_such_db, wrong_kind as faults_wrong_kind, not_serving as faults_not_serving, leads, not_leader, not_member, lock_held, not_holder, not_waiting, not_delivered, fault_of, is_allowed}
 use Rattle.ct_rules_node.specs.Coming.{is_allowed_op}
-use Rattle.ct_cluster.specs.Steps.{frames_of, lines_of, with_node as steps_with_node, put, is_counted, if_counted, fed_of, fed, done, with_fate, deliver, drop, repeat, without_holder, gone, stop, recover, steps, steps_or, applied}
-use Rattle.ct_cluster.specs.Traces.{asked_in, closed, opened as traces_opened, closed_by, closed_by_all, answer_label, sent_label, members_of, label_of, line_labels, is_refusal, is_refused, begun_by, own_labels, labels, idle, taken, ran_one, after, ran}
+use Rattle.ct_rules_cluster.specs.Steps.{frames_of, lines_of, with_node as steps_with_node, put, is_counted, if_counted, fed_of, fed, done, with_fate, deliver, drop, repeat, without_holder, gone, stop, recover, steps, steps_or, applied}
+use Rattle.ct_rules_cluster.specs.Traces.{asked_in, closed, opened as traces_opened, closed_by, closed_by_all, answer_label, sent_label, members_of, label_of, line_labels, is_refusal, is_refused, begun_by, own_labels, labels, idle, taken, ran_one, after, ran}
 use Rattle.ct_persist.specs.Persisted.{written}
 use Rattle.ct_persist.specs.Updates.{contents, updated_all, commits, each_next}
 use Rattle.ct_lcp2.specs.Best.{best_from}

@@ -1,8 +1,8 @@
 -- What is promised of records in a generation that began with some.
 use Rattle.std.specs.Prelude.{◌≡◌, ℕ, ◌+◌, ◌<◌, ◌≤◌, ◌^◌, nat_eq, nat_lt, Bool, true, false, not, List, [], ◌∷◌, length, map, Option, None, Some}
 use Rattle.std.specs.List.{list_all}
-use Rattle.ct_msg.specs.Client.{db_of, key_of, wants_record}
-use Rattle.ct_msg.specs.declared.config.Config.{Config}
+use Rattle.ct_values.specs.Client.{db_of, key_of, wants_record}
+use Rattle.ct_values.specs.declared.config.Config.{Config}
 use Rattle.ct_frame.specs.Fields.{ascends}
 use Rattle.ct_frame.specs.declared.frame.TableRow.{TableRow}
 use Rattle.ct_call.specs.Rules.{Rules}
@@ -13,10 +13,10 @@ use Rattle.ct_rules.specs.declared.state.Wish.{Wish}
 use Rattle.ct_rules_node.specs.Admission.{record_in}
 use Rattle.ct_rules_node.specs.Node.{Node, Lead, Nothing, Freezes, Pulls, Installs, Completed, is_present_in, master_of, db_at, state_at, is_among, has_records, kind_at}
 use Rattle.ct_rules_node.specs.Rounds.{row_master, installed_state}
-use Rattle.ct_cluster.specs.Cluster.{Cluster, Sent, is_up, node_at, sent_at, pending}
-use Rattle.ct_cluster.specs.Traces.{OpenCall, ran}
-use Rattle.ct_cluster.specs.declared.step.PendingCall.{PendingCall}
-use Rattle.ct_cluster.specs.declared.step.Step.{Step}
+use Rattle.ct_rules_cluster.specs.Cluster.{Cluster, Sent, is_up, node_at, sent_at, pending}
+use Rattle.ct_rules_cluster.specs.Traces.{OpenCall, ran}
+use Rattle.ct_rules_cluster.specs.declared.step.PendingCall.{PendingCall}
+use Rattle.ct_rules_cluster.specs.declared.step.Step.{Step}
 use Rattle.ct_register.specs.Register.{reading}
 use Rattle.ct_register.specs.Lines.{Lines}
 use Rattle.ct_promise.specs.Promises.{IsConfig}

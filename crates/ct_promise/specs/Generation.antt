@@ -1,16 +1,16 @@
 -- What is promised of records while no generation follows the first one.
 use Rattle.std.specs.Prelude.{◌≡◌, Bool, true, false, not, List, []}
 use Rattle.std.specs.List.{list_all, filter}
-use Rattle.ct_msg.specs.Client.{db_of}
-use Rattle.ct_msg.specs.declared.config.Config.{Config}
+use Rattle.ct_values.specs.Client.{db_of}
+use Rattle.ct_values.specs.declared.config.Config.{Config}
 use Rattle.ct_frame.specs.declared.event.Note.{Note}
 use Rattle.ct_frame.specs.declared.event.Note.TheVariants as note
 use Rattle.ct_call.specs.Rules.{Rules}
-use Rattle.ct_cluster.specs.Cluster.{opening}
-use Rattle.ct_cluster.specs.Labels.{Label, Answered, Begun, Noted, Pushed, Takeover, Taken}
-use Rattle.ct_cluster.specs.Traces.{Ran, ran}
-use Rattle.ct_cluster.specs.declared.step.Step.{Step}
-use Rattle.ct_cluster.specs.declared.step.Step.TheVariants as step
+use Rattle.ct_rules_cluster.specs.Cluster.{opening}
+use Rattle.ct_rules_cluster.specs.Labels.{Label, Answered, Begun, Noted, Pushed, Takeover, Taken}
+use Rattle.ct_rules_cluster.specs.Traces.{Ran, ran}
+use Rattle.ct_rules_cluster.specs.declared.step.Step.{Step}
+use Rattle.ct_rules_cluster.specs.declared.step.Step.TheVariants as step
 use Rattle.ct_register.specs.Lines
 use Rattle.ct_register.specs.Lines.{Lines}
 use Rattle.ct_register.specs.Legal.{AcceptsLabels}

@@ -1,13 +1,13 @@
 -- What is promised of the records of one generation, step by step.
 use Rattle.std.specs.Prelude.{◌≡◌, ℕ, ◌≤◌, Bool, true, List, [], ◌∷◌, length, Option, None, Some}
 use Rattle.std.specs.List.{list_all}
-use Rattle.ct_msg.specs.declared.config.Config.{Config}
+use Rattle.ct_values.specs.declared.config.Config.{Config}
 use Rattle.ct_frame.specs.declared.header.RecCopy.{RecCopy}
 use Rattle.ct_call.specs.Rules.{Rules}
 use Rattle.ct_rules_node.specs.Node.{state_at}
-use Rattle.ct_cluster.specs.Cluster.{Cluster, node_at, opening, pending}
-use Rattle.ct_cluster.specs.Traces.{OpenCall, ran_one}
-use Rattle.ct_cluster.specs.declared.step.Step.{Step}
+use Rattle.ct_rules_cluster.specs.Cluster.{Cluster, node_at, opening, pending}
+use Rattle.ct_rules_cluster.specs.Traces.{OpenCall, ran_one}
+use Rattle.ct_rules_cluster.specs.declared.step.Step.{Step}
 use Rattle.ct_register.specs.Register.{Register}
 use Rattle.ct_register.specs.Lines
 use Rattle.ct_register.specs.Lines.{Lines}

@@ -1,6 +1,6 @@
 -- What is shown here of the statements: what follows from what among them, and that nothing is marked at the opening.
-use Rattle.ct_msg.specs.declared.config.Config.{Config}
-use Rattle.ct_cluster.specs.Cluster.{opening}
+use Rattle.ct_values.specs.declared.config.Config.{Config}
+use Rattle.ct_rules_cluster.specs.Cluster.{opening}
 use Rattle.ct_register.specs.Lines
 use Rattle.ct_promise.specs.Promises.{Promise}
 use Rattle.ct_promise.specs.Generation.{PromiseOfOneGeneration}

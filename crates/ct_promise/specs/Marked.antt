@@ -1,17 +1,17 @@
 -- What is promised of RSNs: each stands for one place among the versions of its record.
 use Rattle.std.specs.Prelude.{◌≡◌, ℕ, nat_eq, Bool, true, false, ◌&&◌, bytes_eq, List, [], ◌∷◌, Some}
 use Rattle.std.specs.List.{list_any}
-use Rattle.ct_msg.specs.declared.config.Config.{Config}
+use Rattle.ct_values.specs.declared.config.Config.{Config}
 use Rattle.ct_frame.specs.declared.event.Note.{Note}
 use Rattle.ct_frame.specs.declared.event.Note.TheVariants as note
 use Rattle.ct_frame.specs.declared.header.RecCopy.{RecCopy}
 use Rattle.ct_call.specs.Rules.{Rules}
 use Rattle.ct_rules.specs.declared.state.Entry.{Entry}
 use Rattle.ct_rules_node.specs.Node.{is_present_in, state_at}
-use Rattle.ct_cluster.specs.Cluster.{Cluster, node_at, opening}
-use Rattle.ct_cluster.specs.Labels.{Label, Noted}
-use Rattle.ct_cluster.specs.Traces.{OpenCall, ran_one}
-use Rattle.ct_cluster.specs.declared.step.Step.{Step}
+use Rattle.ct_rules_cluster.specs.Cluster.{Cluster, node_at, opening}
+use Rattle.ct_rules_cluster.specs.Labels.{Label, Noted}
+use Rattle.ct_rules_cluster.specs.Traces.{OpenCall, ran_one}
+use Rattle.ct_rules_cluster.specs.declared.step.Step.{Step}
 use Rattle.ct_register.specs.Lines
 use Rattle.ct_register.specs.Lines.{Lines}
 use Rattle.ct_register.specs.Legal.{AcceptsLabels}

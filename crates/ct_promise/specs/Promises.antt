@@ -1,15 +1,15 @@
 -- What is promised of every run of the cluster.
 use Rattle.std.specs.Prelude.{◌≡◌, ℕ, nat_eq, true, List, [], Some, Ok}
 use Rattle.std.specs.List.{AllByRecursion, list_any}
-use Rattle.ct_bytes.specs.declared.address.Address.{Address}
-use Rattle.ct_msg.specs.Config.{Configures}
-use Rattle.ct_msg.specs.declared.client.ClientOp.{ClientOp}
-use Rattle.ct_msg.specs.declared.config.Config.{Config}
-use Rattle.ct_msg.specs.declared.config.DbDecl.{DbDecl}
+use Rattle.ct_values.specs.declared.address.Address.{Address}
+use Rattle.ct_values.specs.Config.{Configures}
+use Rattle.ct_values.specs.declared.client.ClientOp.{ClientOp}
+use Rattle.ct_values.specs.declared.config.Config.{Config}
+use Rattle.ct_values.specs.declared.config.DbDecl.{DbDecl}
 use Rattle.ct_call.specs.Rules.{Rules}
-use Rattle.ct_cluster.specs.Cluster.{Cluster, opening, pending}
-use Rattle.ct_cluster.specs.Traces.{OpenCall, asked_in, Ran, ran}
-use Rattle.ct_cluster.specs.declared.step.Step.{Step}
+use Rattle.ct_rules_cluster.specs.Cluster.{Cluster, opening, pending}
+use Rattle.ct_rules_cluster.specs.Traces.{OpenCall, asked_in, Ran, ran}
+use Rattle.ct_rules_cluster.specs.declared.step.Step.{Step}
 use Rattle.ct_register.specs.Lines.{Lines}
 use Rattle.ct_register.specs.Legal.{Legal}
 use Rattle.ct_register.specs.Stands.{StandsFor}

@@ -1,14 +1,14 @@
 -- A small cluster that began with rows, and its registers.
 use Rattle.std.specs.Prelude.{ℕ, zero, suc, true, bytes_eq, if◌then◌else◌, List, [], ◌∷◌, length, Option, None, Some}
-use Rattle.ct_msg.specs.Config.{lock_db}
-use Rattle.ct_msg.specs.declared.client.ClientOp.TheVariants as op
-use Rattle.ct_msg.specs.declared.config.Config.{Config}
-use Rattle.ct_msg.specs.declared.config.DbKind.TheVariants.{Volatile}
+use Rattle.ct_values.specs.Config.{lock_db}
+use Rattle.ct_values.specs.declared.client.ClientOp.TheVariants as op
+use Rattle.ct_values.specs.declared.config.Config.{Config}
+use Rattle.ct_values.specs.declared.config.DbKind.TheVariants.{Volatile}
 use Rattle.ct_frame.specs.declared.frame.TableRow.{TableRow}
-use Rattle.ct_cluster.specs.Cluster.{Cluster, opening}
-use Rattle.ct_cluster.specs.Traces.{ran}
-use Rattle.ct_cluster.specs.declared.step.Step.{Step}
-use Rattle.ct_cluster.specs.declared.step.Step.TheVariants as step
+use Rattle.ct_rules_cluster.specs.Cluster.{Cluster, opening}
+use Rattle.ct_rules_cluster.specs.Traces.{ran}
+use Rattle.ct_rules_cluster.specs.declared.step.Step.{Step}
+use Rattle.ct_rules_cluster.specs.declared.step.Step.TheVariants as step
 use Rattle.ct_rules_node.specs.Node.{is_among}
 use Rattle.ct_register.specs.Words.{at}
 use Rattle.ct_register.specs.Register

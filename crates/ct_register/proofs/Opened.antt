@@ -2,15 +2,15 @@
 use Rattle.std.proofs.Common.{arith, ◌≡◌, ℕ, zero, suc, nat_lt, Bool, true, false, if◌then◌else◌, List, [], ◌∷◌, refl, sym, subst, ap, ◌∙◌}
 use Rattle.std.specs.Prelude.{slice_get, replicate, is_some}
 use Rattle.std.specs.List.{list_any}
-use Rattle.ct_bytes.specs.Address.{same_address}
-use Rattle.ct_bytes.specs.declared.address.Address.{Address}
-use Rattle.ct_msg.specs.declared.config.Config.{Config}
+use Rattle.ct_values.specs.Address.{same_address}
+use Rattle.ct_values.specs.declared.address.Address.{Address}
+use Rattle.ct_values.specs.declared.config.Config.{Config}
 use Rattle.ct_frame.specs.declared.header.RecCopy.{RecCopy}
 use Rattle.ct_persist.specs.Updates
 use Rattle.ct_store.specs.Map.{look}
-use Rattle.ct_cluster.specs.Handed.{nothing_kept, RecState, Node}
-use Rattle.ct_cluster.specs.Handed as node
-use Rattle.ct_cluster.specs.Cluster as cluster
+use Rattle.ct_rules_cluster.specs.Handed.{nothing_kept, RecState, Node}
+use Rattle.ct_rules_cluster.specs.Handed as node
+use Rattle.ct_rules_cluster.specs.Cluster as cluster
 use Rattle.ct_register.specs.Stands.{HasCopy, HoldsAddress, OpeningRecordsStand, OpeningStands}
 use Rattle.ct_register.proofs.Small.{nought, none_not_some}
 

@@ -3,7 +3,7 @@ use Rattle.std.proofs.Common.{◌≡◌, ℕ, true, false, List, [], ◌∷◌, 
 use Rattle.std.specs.Prelude.{◌≢◌, nat_eq, bytes_eq}
 use Rattle.std.proofs.lemmas.Bool.{cases_eq, cond_both, eq-eqb, ne_eqb}
 use Rattle.std.proofs.lemmas.Slice.Eq.{bytes_eq-Decides}
-use Rattle.ct_cluster.specs.Handed.{is_among}
+use Rattle.ct_rules_cluster.specs.Handed.{is_among}
 use Rattle.ct_register.specs.Register.{Register}
 use Rattle.ct_register.specs.Words.{at, at_key}
 

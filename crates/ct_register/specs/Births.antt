@@ -1,6 +1,6 @@
 -- The birth of a line: what it takes over from its parents.
 use Rattle.std.specs.Prelude.{◌≡◌, ◌≢◌, ℕ, ◌+◌, ◌<◌, ◌≤◌, nat_eq, true, false, if◌then◌else◌, List, [], ◌∷◌, length, take, Some}
-use Rattle.ct_cluster.specs.Handed.{is_among}
+use Rattle.ct_rules_cluster.specs.Handed.{is_among}
 use Rattle.ct_register.specs.Words.{at}
 use Rattle.ct_register.specs.Register
 use Rattle.ct_register.specs.Register.{Register, reading}

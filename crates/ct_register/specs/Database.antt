@@ -1,12 +1,12 @@
 -- One persistent database in one generation: what it began with, its commits, and what each node has seen of them.
 use Rattle.std.specs.Prelude.{◌≡◌, ◌≢◌, ℕ, ◌+◌, ◌<◌, ◌≤◌, not, ◌&&◌, if◌then◌else◌, List, [], ◌∷◌, ◌++◌, length, take, Option, None, Some}
-use Rattle.ct_bytes.specs.Words.{or_empty}
-use Rattle.ct_msg.specs.declared.client.Answer.{Answer}
-use Rattle.ct_msg.specs.declared.client.Answer.TheVariants as answer
-use Rattle.ct_msg.specs.declared.client.Pair.{Pair}
+use Rattle.ct_values.specs.Words.{or_empty}
+use Rattle.ct_values.specs.declared.client.Answer.{Answer}
+use Rattle.ct_values.specs.declared.client.Answer.TheVariants as answer
+use Rattle.ct_values.specs.declared.client.Pair.{Pair}
 use Rattle.ct_store.specs.Map.{Pairs, look}
 use Rattle.ct_persist.specs.Updates.{contents}
-use Rattle.ct_cluster.specs.Handed.{is_among}
+use Rattle.ct_rules_cluster.specs.Handed.{is_among}
 use Rattle.ct_register.specs.Words.{at}
 
 -- one persistent database in one line

@@ -1,8 +1,8 @@
 -- What the registers of every legal trace look like.
 use Rattle.std.specs.Prelude.{◌≡◌, ◌≢◌, ℕ, ◌+◌, ◌≤◌, Bool, true, List, length, Option, Some}
-use Rattle.ct_msg.specs.declared.config.Config.{Config}
+use Rattle.ct_values.specs.declared.config.Config.{Config}
 use Rattle.ct_call.specs.Rules.{Rules}
-use Rattle.ct_cluster.specs.Labels.{Label}
+use Rattle.ct_rules_cluster.specs.Labels.{Label}
 use Rattle.ct_register.specs.Register.{Register}
 use Rattle.ct_register.specs.Database.{Database}
 use Rattle.ct_register.specs.Lines.{Lines}

@@ -1,14 +1,14 @@
 -- What follows of the registers alone.
 use Rattle.std.specs.Prelude.{◌≡◌, Bool, true, false}
-use Rattle.ct_msg.specs.declared.client.Answer.TheVariants as answer
-use Rattle.ct_msg.specs.declared.client.ClientOp.TheVariants as op
-use Rattle.ct_msg.specs.declared.config.Config.{Config}
+use Rattle.ct_values.specs.declared.client.Answer.TheVariants as answer
+use Rattle.ct_values.specs.declared.client.ClientOp.TheVariants as op
+use Rattle.ct_values.specs.declared.config.Config.{Config}
 use Rattle.ct_frame.specs.declared.event.Note.TheVariants as note
 use Rattle.ct_call.specs.Rules.{Rules}
-use Rattle.ct_cluster.specs.Labels.{Label, Answered, Noted}
+use Rattle.ct_rules_cluster.specs.Labels.{Label, Answered, Noted}
 use Rattle.ct_register.specs.Lines.{Lines}
 use Rattle.ct_register.specs.Legal.{AcceptsLabel}
-use Rattle.ct_cluster.specs.Handed.{is_persistent, kind_at}
+use Rattle.ct_rules_cluster.specs.Handed.{is_persistent, kind_at}
 
 -- does the label leave a choice? A birth does, and a read of a persistent database.
 abbrev pub leaves_choice : Config → Label → Bool

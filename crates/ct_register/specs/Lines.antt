@@ -1,8 +1,8 @@
 -- The registers of all generations. A generation that was born is a line: a node is in one line at most.
 use Rattle.std.specs.Prelude.{ℕ, nat_eq, nat_lt, Bool, true, false, if◌then◌else◌, List, [], Option, None, Some}
 use Rattle.std.specs.List.{range_with_len}
-use Rattle.ct_bytes.specs.declared.address.Address.{Address}
-use Rattle.ct_msg.specs.declared.config.Config.{Config}
+use Rattle.ct_values.specs.declared.address.Address.{Address}
+use Rattle.ct_values.specs.declared.config.Config.{Config}
 use Rattle.ct_register.specs.Words.{at, at_key, at_address}
 use Rattle.ct_register.specs.Register
 use Rattle.ct_register.specs.Register.{Register, owner_without, joined_by, left_by}

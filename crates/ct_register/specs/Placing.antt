@@ -1,12 +1,12 @@
 -- Where the addresses of one generation are placed: by its push, and then by its takeover runs.
 use Rattle.std.specs.Prelude.{◌≡◌, ℕ, ◌+◌, nat_eq, Bool, true, false, ◌&&◌, List, filter, Option, None, Some, is_some}
 use Rattle.std.specs.List.{list_any}
-use Rattle.ct_bytes.specs.Words.{is_this_node}
-use Rattle.ct_bytes.specs.Address.{same_address}
-use Rattle.ct_bytes.specs.declared.address.Address.{Address}
+use Rattle.ct_values.specs.Words.{is_this_node}
+use Rattle.ct_values.specs.Address.{same_address}
+use Rattle.ct_values.specs.declared.address.Address.{Address}
 use Rattle.ct_frame.specs.declared.frame.Assigned.{Assigned}
 use Rattle.ct_lcp2.specs.Placing.{placed}
-use Rattle.ct_cluster.specs.Handed.{is_among, assigned_all}
+use Rattle.ct_rules_cluster.specs.Handed.{is_among, assigned_all}
 use Rattle.ct_register.specs.Words.{at}
 
 -- a takeover run: the members that are able, and the placement that it begins with

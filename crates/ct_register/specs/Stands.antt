@@ -1,16 +1,16 @@
 -- Which clusters the registers describe.
 use Rattle.std.specs.Prelude.{◌≡◌, ◌≢◌, ◌↔◌, ℕ, ◌+◌, ◌≤◌, nat_lt, true, List, length, None, Some, is_some}
 use Rattle.std.specs.List.{list_any}
-use Rattle.ct_bytes.specs.Address.{same_address}
-use Rattle.ct_bytes.specs.declared.address.Address.{Address}
-use Rattle.ct_msg.specs.declared.config.Config.{Config}
-use Rattle.ct_msg.specs.declared.config.DbKind.TheVariants.{Persistent}
+use Rattle.ct_values.specs.Address.{same_address}
+use Rattle.ct_values.specs.declared.address.Address.{Address}
+use Rattle.ct_values.specs.declared.config.Config.{Config}
+use Rattle.ct_values.specs.declared.config.DbKind.TheVariants.{Persistent}
 use Rattle.ct_frame.specs.Header.{for_reading}
 use Rattle.ct_frame.specs.declared.header.RecCopy.{RecCopy}
 use Rattle.ct_persist.specs.Persisted.{Persisted}
-use Rattle.ct_cluster.specs.Handed.{state_at, db_at, kind_at, holder_in}
-use Rattle.ct_cluster.specs.Cluster as cluster
-use Rattle.ct_cluster.specs.Cluster.{Cluster, is_up, node_at}
+use Rattle.ct_rules_cluster.specs.Handed.{state_at, db_at, kind_at, holder_in}
+use Rattle.ct_rules_cluster.specs.Cluster as cluster
+use Rattle.ct_rules_cluster.specs.Cluster.{Cluster, is_up, node_at}
 use Rattle.ct_register.specs.Register.{reading}
 use Rattle.ct_register.specs.Database.{Database, contents_after}
 use Rattle.ct_frame.specs.declared.frame.Assigned.{Assigned}

@@ -1,7 +1,7 @@
 -- Small words of the other files: functions changed at one place.
 use Rattle.std.specs.Prelude.{ℕ, nat_eq, bytes_eq, if◌then◌else◌, List}
-use Rattle.ct_bytes.specs.Address.{same_address}
-use Rattle.ct_bytes.specs.declared.address.Address.{Address}
+use Rattle.ct_values.specs.Address.{same_address}
+use Rattle.ct_values.specs.declared.address.Address.{Address}
 
 -- the function, changed at one number
 unfoldable pub at : {X : Type 0} → ℕ → X → (ℕ → X) → ℕ → X

@@ -2,4 +2,3 @@ pub mod State
 pub mod Parts
 pub mod Messages
 pub mod Moves
-pub mod Runs

@@ -1,16 +1,16 @@
 -- What comes of each message that speaks of one record, at its receiver.
 use Rattle.std.specs.Prelude.{ℕ, ◌+◌, ◌-◌, ◌==◌, nat_eq, nat_le, nat_lt, Bool, not, ◌&&◌, ◌||◌, if◌then◌else◌, List, [], ◌∷◌, ◌++◌, Option, None, Some, is_none}
 use Rattle.std.specs.List.{list_any}
-use Rattle.ct_msg.specs.declared.client.Answer.TheVariants as answer
+use Rattle.ct_values.specs.declared.client.Answer.TheVariants as answer
 use Rattle.ct_frame.specs.Header.{for_reading, plain}
 use Rattle.ct_frame.specs.declared.frame.Msg.TheVariants as msg
 use Rattle.ct_frame.specs.declared.frame.CallKind.{CallKind}
 use Rattle.ct_frame.specs.declared.frame.CallKind.TheVariants as kind
 use Rattle.ct_frame.specs.declared.header.RecCopy.{RecCopy}
 use Rattle.ct_call.specs.Rules.{Rules}
-use Rattle.ct_deleg.specs.Tracked.{untracked, called_back, ends}
-use Rattle.ct_vacuum.specs.Vacuum.{Vacuuming, ends_phase, stored, deleted}
-use Rattle.ct_vacuum.specs.declared.vacuum.VacuumPhase.TheVariants.{Storing, Deleting}
+use Rattle.ct_tracking.specs.Tracked.{untracked, called_back, ends}
+use Rattle.ct_tracking.specs.Vacuum.{Vacuuming, ends_phase, stored, deleted}
+use Rattle.ct_tracking.specs.declared.vacuum.VacuumPhase.TheVariants.{Storing, Deleting}
 use Rattle.ct_rules.specs.State.{a_copy, rank, rsn_of, value_of, is_mastered, is_given, is_free, is_read_kind, same_kind, kind_of, is_wished}
 use Rattle.ct_rules.specs.Parts.{Moving, performs, send, send_all, reply, keeps, reaches, opened, end_vacuum, satisfy, grant, yield_record, drained, end_revocation, next, keep}
 use Rattle.ct_rules.specs.declared.state.Entry.{Entry}

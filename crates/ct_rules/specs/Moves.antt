@@ -1,14 +1,14 @@
 -- What comes of every event at one record.
 use Rattle.std.specs.Prelude.{ℕ, ◌+◌, ◌==◌, nat_eq, Bool, false, ◌&&◌, if◌then◌else◌, List, [], ◌∷◌, Option, None, Some, is_none}
-use Rattle.ct_bytes.specs.Words.{is_nil}
-use Rattle.ct_msg.specs.declared.client.Answer.TheVariants as answer
+use Rattle.ct_values.specs.Words.{is_nil}
+use Rattle.ct_values.specs.declared.client.Answer.TheVariants as answer
 use Rattle.ct_frame.specs.declared.frame.Msg.{Msg}
 use Rattle.ct_frame.specs.declared.frame.Msg.TheVariants as msg
 use Rattle.ct_call.specs.Rules.{Rules}
-use Rattle.ct_deleg.specs.Tracked.{Revocation}
-use Rattle.ct_vacuum.specs.Vacuum.{Vacuuming, vacuum_begun}
-use Rattle.ct_vacuum.specs.declared.vacuum.VacuumPhase.{VacuumPhase}
-use Rattle.ct_vacuum.specs.declared.vacuum.VacuumPhase.TheVariants.{Storing, Deleting}
+use Rattle.ct_tracking.specs.Tracked.{Revocation}
+use Rattle.ct_tracking.specs.Vacuum.{Vacuuming, vacuum_begun}
+use Rattle.ct_tracking.specs.declared.vacuum.VacuumPhase.{VacuumPhase}
+use Rattle.ct_tracking.specs.declared.vacuum.VacuumPhase.TheVariants.{Storing, Deleting}
 use Rattle.ct_rules.specs.State.{rsn_of, value_of, with_value, risen, is_free, kind_of}
 use Rattle.ct_rules.specs.Parts.{Moving, send, send_all, reply, keeps, reaches, give, drained, want}
 use Rattle.ct_rules.specs.Messages.{on_call, on_recall, on_give, on_pass, on_refuse, on_grant, on_done, on_revoke, on_revokeack, on_vstore, on_vstored, on_vdelete, on_vdeleted, finish}

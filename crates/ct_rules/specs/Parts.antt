@@ -1,12 +1,12 @@
 -- The parts that the rules of one record are made of: each is a function from the middle of a step to the middle of a step.
 use Rattle.std.specs.Prelude.{ℕ, ◌+◌, ◌^◌, ◌==◌, nat_eq, nat_le, Bool, ◌&&◌, ◌||◌, if◌then◌else◌, List, [], ◌∷◌, ◌++◌, Option, None, Some, is_none, Result, Ok, Err}
-use Rattle.ct_bytes.specs.Words.{is_nil}
-use Rattle.ct_msg.specs.Client.{is_read}
-use Rattle.ct_msg.specs.declared.client.Answer.{Answer}
-use Rattle.ct_msg.specs.declared.client.Answer.TheVariants as answer
-use Rattle.ct_msg.specs.declared.client.ClientOp.{ClientOp}
-use Rattle.ct_msg.specs.declared.client.ClientOp.TheVariants as op
-use Rattle.ct_msg.specs.declared.client.Why.TheVariants as why
+use Rattle.ct_values.specs.Words.{is_nil}
+use Rattle.ct_values.specs.Client.{is_read}
+use Rattle.ct_values.specs.declared.client.Answer.{Answer}
+use Rattle.ct_values.specs.declared.client.Answer.TheVariants as answer
+use Rattle.ct_values.specs.declared.client.ClientOp.{ClientOp}
+use Rattle.ct_values.specs.declared.client.ClientOp.TheVariants as op
+use Rattle.ct_values.specs.declared.client.Why.TheVariants as why
 use Rattle.ct_frame.specs.Header.{being_revoked, delegated, plain}
 use Rattle.ct_frame.specs.declared.frame.Msg.{Msg}
 use Rattle.ct_frame.specs.declared.frame.Msg.TheVariants as msg
@@ -15,7 +15,7 @@ use Rattle.ct_call.specs.Rules.{Rules}
 use Rattle.ct_call.specs.Table.{applied}
 use Rattle.ct_call.specs.declared.fault.CallFault.{CallFault}
 use Rattle.ct_call.specs.declared.fault.CallFault.TheVariants as fault
-use Rattle.ct_deleg.specs.Tracked.{untracked, added, revocation_begun}
+use Rattle.ct_tracking.specs.Tracked.{untracked, added, revocation_begun}
 use Rattle.ct_rules.specs.State.{a_copy, rsn_of, value_of, is_mastered, is_for_reading, with_value, with_flags, risen, given, is_quiet, is_free, is_read_kind, kind_of, is_wished}
 use Rattle.ct_rules.specs.declared.state.Entry.{Entry}
 use Rattle.ct_rules.specs.declared.state.RecState.{RecState}

@@ -1,10 +1,10 @@
 -- A state in which nothing is kept, and the small words that the rules use of a state.
 use Rattle.std.specs.Prelude.{ℕ, ◌+◌, ◌==◌, nat_eq, Bool, true, false, ◌&&◌, List, [], ◌∷◌, Option, None, Some, is_none}
-use Rattle.ct_bytes.specs.Words.{is_nil}
+use Rattle.ct_values.specs.Words.{is_nil}
 use Rattle.ct_frame.specs.Header.{for_reading, nobody, plain}
-use Rattle.ct_deleg.specs.Tracked.{Tracked, untracked}
-use Rattle.ct_msg.specs.declared.client.ClientOp.{ClientOp}
-use Rattle.ct_msg.specs.declared.client.ClientOp.TheVariants as op
+use Rattle.ct_tracking.specs.Tracked.{Tracked, untracked}
+use Rattle.ct_values.specs.declared.client.ClientOp.{ClientOp}
+use Rattle.ct_values.specs.declared.client.ClientOp.TheVariants as op
 use Rattle.ct_frame.specs.declared.frame.CallKind.{CallKind}
 use Rattle.ct_frame.specs.declared.frame.CallKind.TheVariants as kind
 use Rattle.ct_frame.specs.declared.header.RecCopy.{RecCopy}

@@ -1,13 +1,13 @@
 //! What comes to one record, and what the node does about it.
 ghost use Rattle.std.specs.Prelude.{◌≡◌, IfOk};
 
-use ct_bytes::copies::Duplicate;
-use ct_bytes::items::Items;
-use ct_bytes::key::Key;
-use ct_bytes::memory::NoMemory;
-use ct_bytes::value::Value;
 use ct_frame::frame::Msg;
-use ct_msg::client::{Answer, ClientOp};
+use ct_values::client::{Answer, ClientOp};
+use ct_values::copies::Duplicate;
+use ct_values::items::Items;
+use ct_values::key::Key;
+use ct_values::memory::NoMemory;
+use ct_values::value::Value;
 
 /// Where a record is looked at.
 #[derive(Debug, Drop, PartialEq, Eq)]

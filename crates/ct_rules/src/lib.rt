@@ -5,5 +5,4 @@
 #![tactic(auto)]
 
 pub mod event;
-pub mod runs;
 pub mod state;

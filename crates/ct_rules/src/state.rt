@@ -2,15 +2,15 @@
 ghost use Rattle.std.specs.Prelude.{◌≡◌, IfOk};
 ghost use Rattle.ct_rules.specs.State.{is_blank, nothing_kept};
 
-use ct_bytes::copies::Duplicate;
-use ct_bytes::items::Items;
-use ct_bytes::memory::NoMemory;
-use ct_bytes::value::Value;
-use ct_deleg::tracking::Tracking;
 use ct_frame::frame::CallKind;
 use ct_frame::header::RecCopy;
-use ct_msg::client::ClientOp;
-use ct_vacuum::vacuum::Vacuum;
+use ct_tracking::tracking::Tracking;
+use ct_tracking::vacuum::Vacuum;
+use ct_values::client::ClientOp;
+use ct_values::copies::Duplicate;
+use ct_values::items::Items;
+use ct_values::memory::NoMemory;
+use ct_values::value::Value;
 use std::alloc::Global;
 
 /// What the location master knows of a record: the node that has it or is sent it, the least RSN that it has there, the

@@ -11,4 +11,3 @@ pub mod Retries
 pub mod Admission
 pub mod Steps
 pub mod Coming
-pub mod Laws

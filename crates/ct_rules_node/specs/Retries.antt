@@ -1,6 +1,6 @@
 -- Retry: what was not answered is sent again, in a fixed order.
 use Rattle.std.specs.Prelude.{ℕ, ◌+◌, if◌then◌else◌, List, [], ◌∷◌, Option, None, Some}
-use Rattle.ct_msg.specs.declared.config.Config.{Config}
+use Rattle.ct_values.specs.declared.config.Config.{Config}
 use Rattle.ct_frame.specs.declared.frame.Msg.TheVariants as msg
 use Rattle.ct_store.specs.Map.{Pairs}
 use Rattle.ct_rules.specs.Moves.{call_again, revoke_again}

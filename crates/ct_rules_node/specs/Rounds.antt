@@ -1,10 +1,10 @@
 -- Rounds of recovery: a leader freezes the members, pulls what they hold, pushes what is made of it, and thaws them.
 use Rattle.std.specs.Prelude.{ℕ, ◌+◌, nat_eq, nat_lt, Bool, true, false, not, ◌&&◌, ◌||◌, if◌then◌else◌, List, [], ◌∷◌, ◌++◌, map, Option, None, Some}
 use Rattle.std.specs.List.{filter}
-use Rattle.ct_bytes.specs.Words.{others, is_this_node}
-use Rattle.ct_bytes.specs.declared.address.Address.{Address}
-use Rattle.ct_msg.specs.declared.client.Answer.TheVariants as answer
-use Rattle.ct_msg.specs.declared.config.Config.{Config}
+use Rattle.ct_values.specs.Words.{others, is_this_node}
+use Rattle.ct_values.specs.declared.address.Address.{Address}
+use Rattle.ct_values.specs.declared.client.Answer.TheVariants as answer
+use Rattle.ct_values.specs.declared.config.Config.{Config}
 use Rattle.ct_frame.specs.Header.{nobody, plain}
 use Rattle.ct_frame.specs.declared.event.Note.TheVariants as note
 use Rattle.ct_frame.specs.declared.frame.Assigned.{Assigned}
@@ -16,7 +16,7 @@ use Rattle.ct_frame.specs.declared.header.RecCopy.{RecCopy}
 use Rattle.ct_frame.specs.declared.round.Pull.{Pull}
 use Rattle.ct_frame.specs.declared.round.PushBody.{PushBody}
 use Rattle.ct_call.specs.Rules.{Rules}
-use Rattle.ct_deleg.specs.Tracked.{untracked}
+use Rattle.ct_tracking.specs.Tracked.{untracked}
 use Rattle.ct_merge.specs.Gathered.{Gathered, nothing, gathered, finished}
 use Rattle.ct_merge.specs.declared.merged.MergedAll.{MergedAll}
 use Rattle.ct_persist.specs.Persisted.{Persisted, listed, replaced}

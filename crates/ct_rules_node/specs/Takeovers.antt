@@ -1,10 +1,10 @@
 -- Takeover runs: the leader of a completed round places the addresses anew; all members release before any takes.
 use Rattle.std.specs.Prelude.{ℕ, ◌+◌, nat_eq, nat_lt, Bool, not, ◌&&◌, if◌then◌else◌, List, [], ◌∷◌, is_some}
 use Rattle.std.specs.List.{filter, list_any}
-use Rattle.ct_bytes.specs.Address.{address_before, same_address}
-use Rattle.ct_bytes.specs.Words.{others, is_this_node}
-use Rattle.ct_bytes.specs.declared.address.Address.{Address}
-use Rattle.ct_msg.specs.declared.config.Config.{Config}
+use Rattle.ct_values.specs.Address.{address_before, same_address}
+use Rattle.ct_values.specs.Words.{others, is_this_node}
+use Rattle.ct_values.specs.declared.address.Address.{Address}
+use Rattle.ct_values.specs.declared.config.Config.{Config}
 use Rattle.ct_frame.specs.declared.event.Note.TheVariants as note
 use Rattle.ct_frame.specs.declared.frame.Assigned.{Assigned}
 use Rattle.ct_frame.specs.declared.frame.Msg.TheVariants as msg

@@ -1,6 +1,6 @@
 -- The middle of a node's step.
 use Rattle.std.specs.Prelude.{ℕ, ◌^◌, nat_le, Bool, false, ◌||◌, List, [], ◌∷◌, ◌++◌}
-use Rattle.ct_msg.specs.declared.client.Answer.{Answer}
+use Rattle.ct_values.specs.declared.client.Answer.{Answer}
 use Rattle.ct_frame.specs.declared.event.Note.{Note}
 use Rattle.ct_frame.specs.declared.event.Out.{Out}
 use Rattle.ct_frame.specs.declared.event.Out.TheVariants as out

@@ -1,0 +1,11 @@
+pub mod Formed
+pub mod Still
+pub mod Whole
+pub mod Putting
+pub mod Turns
+pub mod Lists
+pub mod Admitting
+pub mod Going
+pub mod Clients
+pub mod Commits
+pub mod WholeRecords

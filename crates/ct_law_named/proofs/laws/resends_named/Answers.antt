@@ -1,5 +1,0 @@
-use Rattle.ct_law_named.proofs.Events.{resends_named}
-use Rattle.ct_law_named.proofs.laws.resends_named.Goals as goal
-
-pub returns : goal.returns
-returns c = resends_named

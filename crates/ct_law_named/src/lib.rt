@@ -1,4 +1,0 @@
-//! Whom the rules of one record speak to: the nodes that its state names, and no others; a law of the definitions.
-#![tactic(auto)]
-
-pub mod laws;

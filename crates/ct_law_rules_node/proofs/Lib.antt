@@ -1,0 +1,14 @@
+pub mod Parts
+pub mod Events
+pub mod Keys
+pub mod Installed
+pub mod Tables
+pub mod AtRecord
+pub mod BesideRecords
+pub mod Growing
+pub mod Refusals
+pub mod Quiet
+pub mod Starting
+pub mod Rounds
+pub mod Numbered
+pub mod Waiting

@@ -1,9 +1,0 @@
--- Each run, as it was shown.
-use Rattle.ct_register_runs.proofs.Reached.{commit_is_read, unsure_is_open}
-use Rattle.ct_register_runs.proofs.runs.commits.Goals as goal
-
-pub returns-clause-commit_is_read : goal.returns-clause-commit_is_read
-returns-clause-commit_is_read c = commit_is_read
-
-pub returns-clause-unsure_is_open : goal.returns-clause-unsure_is_open
-returns-clause-unsure_is_open c = unsure_is_open

@@ -1,6 +1,0 @@
--- Each run, as it was shown.
-use Rattle.ct_register_runs.proofs.Reached.{tickets_count}
-use Rattle.ct_register_runs.proofs.runs.tickets.Goals as goal
-
-pub returns : goal.returns
-returns c = tickets_count

@@ -1,5 +1,0 @@
-use Rattle.ct_rules_node.proofs.Waiting.{calls_each}
-use Rattle.ct_rules_node.proofs.laws.calls_each.Goals as goal
-
-pub returns : goal.returns
-returns c = calls_each

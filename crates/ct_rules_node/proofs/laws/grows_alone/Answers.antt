@@ -1,5 +1,0 @@
-use Rattle.ct_rules_node.proofs.Growing.{happens_grows}
-use Rattle.ct_rules_node.proofs.laws.grows_alone.Goals as goal
-
-pub returns : goal.returns
-returns c = happens_grows

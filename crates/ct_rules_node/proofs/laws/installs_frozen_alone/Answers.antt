@@ -1,5 +1,0 @@
-use Rattle.ct_rules_node.proofs.Rounds.{pushed_alone}
-use Rattle.ct_rules_node.proofs.laws.installs_frozen_alone.Goals as goal
-
-pub returns : goal.returns
-returns c = pushed_alone

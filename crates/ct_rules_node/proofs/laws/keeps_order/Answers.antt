@@ -1,6 +1,0 @@
-use Rattle.ct_rules_node.proofs.Starting.{starts_in_order, restarts_in_order}
-use Rattle.ct_rules_node.proofs.Growing.{happens_in_order}
-use Rattle.ct_rules_node.proofs.laws.keeps_order.Goals as goal
-
-pub returns : goal.returns
-returns c = record { opening = starts_in_order; stop = restarts_in_order; kept = happens_in_order }

@@ -1,5 +1,0 @@
-use Rattle.ct_rules_node.proofs.Quiet.{happens_quiet}
-use Rattle.ct_rules_node.proofs.laws.quiet_unless_present.Goals as goal
-
-pub returns : goal.returns
-returns c = happens_quiet

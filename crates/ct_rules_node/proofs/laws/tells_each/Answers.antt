@@ -1,5 +1,0 @@
-use Rattle.ct_rules_node.proofs.Tables.{tells_at}
-use Rattle.ct_rules_node.proofs.laws.tells_each.Goals as goal
-
-pub returns : goal.returns
-returns c = tells_at

@@ -1,5 +1,0 @@
-use Rattle.ct_rules_node.proofs.Rounds.{sees_locks}
-use Rattle.ct_rules_node.proofs.laws.tests_locks.Goals as goal
-
-pub returns : goal.returns
-returns c = sees_locks

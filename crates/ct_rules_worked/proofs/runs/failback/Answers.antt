@@ -1,0 +1,5 @@
+use Rattle.ct_rules_worked.proofs.Computed.{every_run}
+use Rattle.ct_rules_worked.proofs.runs.failback.Goals as goal
+
+pub returns : goal.returns
+returns c = every_run.23

@@ -1,0 +1,10 @@
+pub mod Steps
+pub mod Examples
+pub mod Migrations
+pub mod Readers
+pub mod Vacuums
+pub mod Recoveries
+pub mod Commits
+pub mod Addresses
+pub mod Rounds
+pub mod Refusals

@@ -1,5 +1,0 @@
-use Rattle.ct_runs.proofs.Computed.{every_run}
-use Rattle.ct_runs.proofs.runs.call_waits_across_a_round.Goals as goal
-
-pub returns : goal.returns
-returns c = every_run.25

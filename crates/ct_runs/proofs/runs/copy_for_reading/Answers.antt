@@ -1,5 +1,0 @@
-use Rattle.ct_runs.proofs.Computed.{every_run}
-use Rattle.ct_runs.proofs.runs.copy_for_reading.Goals as goal
-
-pub returns : goal.returns
-returns c = every_run.6

@@ -1,5 +1,0 @@
-use Rattle.ct_runs.proofs.Computed.{every_run}
-use Rattle.ct_runs.proofs.runs.lost_pass.Goals as goal
-
-pub returns : goal.returns
-returns c = every_run.4

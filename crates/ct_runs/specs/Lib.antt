@@ -1,9 +1,0 @@
-pub mod Examples
-pub mod Migrations
-pub mod Readers
-pub mod Vacuums
-pub mod Recoveries
-pub mod Commits
-pub mod Addresses
-pub mod Rounds
-pub mod Refusals
