@@ -4,16 +4,16 @@ use Rattle.std.proofs.lemmas.Bool.{lt-ltb}
 use Rattle.std.proofs.lemmas.Option.{slice_get_cases, slice_get_past}
 use Rattle.std.specs.Prelude.{map, slice_get}
 use Rattle.std.specs.List.Sorted.{IsStrictlyIncreasing}
-use Rattle.ct_msg.specs.declared.config.Config.{Config}
-use Rattle.ct_msg.specs.declared.config.DbDecl.{DbDecl}
-use Rattle.ct_cluster.specs.Cluster.{everyone, numbers}
+use Rattle.ct_values.specs.declared.config.Config.{Config}
+use Rattle.ct_values.specs.declared.config.DbDecl.{DbDecl}
+use Rattle.ct_rules_cluster.specs.Cluster.{everyone, numbers}
 use Rattle.ct_rules_node.specs.Node.{Database, Node, is_persistent, kind_at, kind_in, opening, restarted}
-use Rattle.ct_node_form.specs.Whole.{HasLimits, is_node_of}
-use Rattle.ct_node_form.proofs.Whole.{opens_in_form, restarts_in_form}
-use Rattle.ct_node_placed.proofs.Placed.{opens_placed, restarts_placed}
+use Rattle.ct_law_form.specs.Whole.{HasLimits, is_node_of}
+use Rattle.ct_law_form.proofs.Whole.{opens_in_form, restarts_in_form}
+use Rattle.ct_law_form_cluster.proofs.Placed.{opens_placed, restarts_placed}
 use Rattle.ct_node_state.proofs.Ascending.{ascending}
-pub use Rattle.ct_cluster.proofs.Numbers.{numbers_more}
-use Rattle.ct_cluster.proofs.Numbers.{numbers_below, numbers_ascend}
+pub use Rattle.ct_rules_cluster.proofs.Numbers.{numbers_more}
+use Rattle.ct_rules_cluster.proofs.Numbers.{numbers_below, numbers_ascend}
 use Rattle.ct_core.specs.Core.{CoreInForm}
 
 -- ---- all nodes

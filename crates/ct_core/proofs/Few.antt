@@ -1,6 +1,6 @@
 -- A core has few databases.
 use Rattle.std.proofs.Common.{ℕ, ◌<◌, ◌^◌, length, arith}
-use Rattle.ct_msg.specs.declared.config.Config.{Config}
+use Rattle.ct_values.specs.declared.config.Config.{Config}
 use Rattle.ct_rules_node.specs.Node.{Node}
 use Rattle.ct_core.specs.Core.{CoreInForm}
 

@@ -1,3 +1,6 @@
+pub mod Formed
+pub mod Arriving
+pub mod Waiting
 pub mod Everyone
 pub mod Few
 pub mod Leading

@@ -2,23 +2,23 @@
 use Rattle.std.proofs.Common.{◌≡◌, ◌∙◌, ℕ, Bool, true, false, cond, List, None, Some, Ok, Err, refl, sym, ap, subst}
 use Rattle.std.specs.Prelude.{IfOk, Result}
 use Rattle.std.specs.List.{list_all}
-use Rattle.ct_msg.specs.declared.config.Config.{Config}
+use Rattle.ct_values.specs.declared.config.Config.{Config}
 use Rattle.ct_frame.specs.declared.event.Event.{Event}
 use Rattle.ct_frame.specs.declared.event.Out.{Out}
 use Rattle.ct_call.specs.Rules.{Rules}
-use Rattle.ct_node_form.specs.Whole.{is_sound_out}
-use Rattle.ct_node_placed.specs.Placed.{IsPlaced}
-use Rattle.ct_node_placed.proofs.Placed.{stays_placed}
-use Rattle.ct_node_steps.proofs.Whole.{steps_keep_form}
-use Rattle.ct_planned.specs.Changes.{CanChange, Plans, changed_by}
-use Rattle.ct_planned.specs.declared.change.Change.{Change}
-use Rattle.ct_planned.specs.declared.change.Planned.{Planned}
+use Rattle.ct_law_form.specs.Whole.{is_sound_out}
+use Rattle.ct_law_form_cluster.specs.Placed.{IsPlaced}
+use Rattle.ct_law_form_cluster.proofs.Placed.{stays_placed}
+use Rattle.ct_law_form_steps.proofs.WholeSteps.{steps_keep_form}
+use Rattle.ct_node_plan.specs.Changes.{CanChange, Plans, changed_by}
+use Rattle.ct_node_plan.specs.declared.change.Change.{Change}
+use Rattle.ct_node_plan.specs.declared.change.Planned.{Planned}
 use Rattle.ct_rules_node.specs.Coming.{may_come}
 use Rattle.ct_rules_node.specs.Node.{Node}
 use Rattle.ct_rules_node.specs.Steps.{happens, unless_spent}
 use Rattle.ct_rules_node.specs.Turn.{Turn, begins}
-use Rattle.ct_turn.specs.declared.turn.CoreFault.{CoreFault}
-use Rattle.ct_turn.specs.declared.turn.CoreFault.TheVariants.{Exhausted, NoMemory}
+use Rattle.ct_node_plan.specs.declared.turn.CoreFault.{CoreFault}
+use Rattle.ct_node_plan.specs.declared.turn.CoreFault.TheVariants.{Exhausted, NoMemory}
 use Rattle.ct_core.specs.Core.{Core, CoreInForm, IsChangeOf, IsPlanOf, PlansStep, turn_of}
 
 -- ---- plans

@@ -1,20 +1,20 @@
 -- One node as a machine, and what its steps are.
 use Rattle.std.specs.Prelude.{◌≡◌, ℕ, false, true, List, Option, None, Some, Result, Ok, Err}
-use Rattle.ct_msg.specs.declared.config.Config.{Config}
+use Rattle.ct_values.specs.declared.config.Config.{Config}
 use Rattle.ct_frame.specs.declared.event.Event.{Event}
 use Rattle.ct_frame.specs.declared.event.Out.{Out}
 use Rattle.ct_call.specs.Rules.{Rules}
-use Rattle.ct_node_form.specs.Whole.{NodeInForm}
-use Rattle.ct_node_placed.specs.Placed.{IsPlaced}
-use Rattle.ct_planned.specs.Changes.{CanChange, changed_by}
-use Rattle.ct_planned.specs.declared.change.Change.{Change}
-use Rattle.ct_planned.specs.declared.change.Planned.{Planned}
+use Rattle.ct_law_form.specs.Whole.{NodeInForm}
+use Rattle.ct_law_form_cluster.specs.Placed.{IsPlaced}
+use Rattle.ct_node_plan.specs.Changes.{CanChange, changed_by}
+use Rattle.ct_node_plan.specs.declared.change.Change.{Change}
+use Rattle.ct_node_plan.specs.declared.change.Planned.{Planned}
 use Rattle.ct_rules_node.specs.Coming.{may_come}
 use Rattle.ct_rules_node.specs.Node.{Node}
 use Rattle.ct_rules_node.specs.Steps.{stepped}
 use Rattle.ct_rules_node.specs.Turn.{Turn}
-use Rattle.ct_turn.specs.declared.turn.CoreFault.{CoreFault}
-use Rattle.ct_turn.specs.declared.turn.CoreFault.TheVariants.{Exhausted, NoMemory}
+use Rattle.ct_node_plan.specs.declared.turn.CoreFault.{CoreFault}
+use Rattle.ct_node_plan.specs.declared.turn.CoreFault.TheVariants.{Exhausted, NoMemory}
 
 -- a node with its number and its configuration
 pub record Core : Type 0 where

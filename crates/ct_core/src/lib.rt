@@ -1,3 +1,7 @@
+//! One node as a machine.
+//!
+//! What comes of every event at a node, as a plan: each event goes to its rule, and a message that the node drops to none.
+//!
 //! One node as a machine: it takes an event and answers what it does. It has no clock, no threads and no input or output of
 //! its own.
 //!
@@ -19,8 +23,23 @@
 //! }];
 //! assert!(rt; outs.as_slice() == wanted.as_slice());
 //! ```
+//!
+//! Whether an event may come to a node, as its step asks.
+//!
+//! A program that feeds a node from outside tests what comes, and steps:
+//!
+//! ```
+//! if may_come(&core, &event)? {
+//!     let outs = core.step(&table, &event)?;
+//! }
+//! ```
 #![tactic(auto)]
 
+pub mod arrivals;
+pub mod coming;
+pub mod events;
 pub mod machine;
 mod opening;
 pub mod reading;
+pub mod rounds;
+pub mod runs;

@@ -1,13 +1,13 @@
 //! The nodes that a cluster opens with.
 ghost use Rattle.std.specs.Prelude.{◌≡◌, IfOk};
-ghost use Rattle.ct_cluster.specs.Cluster.{everyone};
+ghost use Rattle.ct_rules_cluster.specs.Cluster.{everyone};
 
-use ct_bytes::memory::NoMemory;
-use ct_msg::config::Config;
+use ct_values::config::Config;
+use ct_values::memory::NoMemory;
 use std::alloc::Global;
 
 /// All nodes of a configuration.
-#[tactic(auto, using(crate::proofs::Everyone::numbers_more), unfolding(ct_cluster::specs::Cluster::everyone, ct_cluster::specs::Cluster::numbers))]
+#[tactic(auto, using(crate::proofs::Everyone::numbers_more), unfolding(ct_rules_cluster::specs::Cluster::everyone, ct_rules_cluster::specs::Cluster::numbers))]
 pub(crate) fn everyone(alloc: Global, config: &Config) -> Result<Vec<u32>, NoMemory>
     ensures { IfOk result (λ v. v.items ≡ everyone config.now) }
 {

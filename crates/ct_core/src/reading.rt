@@ -1,30 +1,30 @@
 //! What a node has and knows. No call but those of lists takes memory.
 ghost use Rattle.std.specs.Prelude.{◌≡◌, ◌++◌, IfOk, OnOk, None, Some, if◌then◌else◌, map, option_copied};
 ghost use Rattle.std.specs.Map.Iter.{deref_pair};
-ghost use Rattle.ct_bytes.specs.Address.{same_address};
-ghost use Rattle.ct_cluster.specs.Cluster.{pending_in};
-ghost use Rattle.ct_cluster.specs.Faults.{leads};
-ghost use Rattle.ct_round.specs.Member.{told_in};
-ghost use Rattle.ct_rows.specs.Had.{copies_of, entries_of};
+ghost use Rattle.ct_values.specs.Address.{same_address};
+ghost use Rattle.ct_rules_cluster.specs.Cluster.{pending_in};
+ghost use Rattle.ct_rules_cluster.specs.Faults.{leads};
+ghost use Rattle.ct_lead.specs.Member.{told_in};
+ghost use Rattle.ct_node_view.specs.Had.{copies_of, entries_of};
 ghost use Rattle.ct_rules_node.specs.Node.{db_at, is_persistent, is_serving, kind_at, state_at};
 ghost use Rattle.ct_rules_node.specs.Numbered.{by_number};
 ghost use Rattle.ct_rules_node.specs.Rounds.{rows_of};
 ghost use Rattle.ct_rules_node.specs.Takeovers.{has_address};
 
 use crate::machine::Core;
-use ct_bytes::address::Address;
-use ct_bytes::key::Key;
-use ct_bytes::memory::NoMemory;
-use ct_cluster::step::PendingCall;
 use ct_frame::frame::{Assigned, TableRow};
 use ct_frame::header::RecCopy;
 use ct_frame::round::Phase;
-use ct_msg::config::Config;
 use ct_node_state::kinds::{is_persistent, kind_at};
 use ct_node_state::phases::is_serving;
-use ct_pending::pending::{add_pending, pending};
+use ct_node_view::pending::{add_pending, pending};
+use ct_node_view::{entries, rows};
 use ct_persist::store::PStore;
-use ct_rows::{entries, rows};
+use ct_rules_cluster::step::PendingCall;
+use ct_values::address::Address;
+use ct_values::config::Config;
+use ct_values::key::Key;
+use ct_values::memory::NoMemory;
 
 fn is_same(a: Address, b: Address) -> bool
     ensures { result ≡ same_address a b }

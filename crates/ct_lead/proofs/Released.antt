@@ -2,12 +2,12 @@
 use Rattle.std.proofs.Common.{◌≡◌, ◌∙◌, ℕ, Bool, true, false, cond, List, [], ◌∷◌, Option, None, Some, refl, ap}
 use Rattle.std.proofs.lemmas.Bool.{eq-eqb}
 use Rattle.std.specs.Prelude.{nat_eq, ◌&&◌}
-use Rattle.ct_bytes.specs.Words.{is_nil, others}
+use Rattle.ct_values.specs.Words.{is_nil, others}
 use Rattle.ct_frame.specs.declared.frame.Assigned.{Assigned}
 use Rattle.ct_lead.specs.Lead.{run_by, run_of}
 use Rattle.ct_lead.specs.Runs.{left_by, released_by, unreleased}
 use Rattle.ct_rules_node.specs.Node.{Takeover, Run, is_among}
-use Rattle.ct_takeover.specs.Run.{Handing, after_releaseack}
+use Rattle.ct_lead.specs.Run.{Handing, after_releaseack}
 
 -- a release under the run's own number
 pub own_number : (n : ℕ) (r : Handing) → after_releaseack n r.number r ≡ record r { missing = others n r.missing }

@@ -4,8 +4,8 @@ use Rattle.ct_frame.specs.declared.frame.Assigned.{Assigned}
 use Rattle.ct_frame.specs.declared.round.Stage.{Stage}
 use Rattle.ct_frame.specs.declared.round.Stage.TheVariants as stage
 use Rattle.ct_rules_node.specs.Node.{Lead, Nothing, Freezes, Pulls, Installs, Completed, Run, NoRun, Releasing, Taking}
-use Rattle.ct_round.specs.Leader.{Leading}
-use Rattle.ct_takeover.specs.Run.{Handing}
+use Rattle.ct_lead.specs.Leader.{Leading}
+use Rattle.ct_lead.specs.Run.{Handing}
 use Rattle.ct_lead.specs.declared.lead.Led.{Led}
 use Rattle.ct_lead.specs.declared.lead.Led.TheVariants as led
 

@@ -1,3 +1,9 @@
 pub mod Lead
 pub mod Runs
 pub mod Stages
+pub mod State
+pub mod Member
+pub mod Leader
+pub mod Run
+pub mod Held
+pub mod Laws

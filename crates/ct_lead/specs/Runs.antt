@@ -1,6 +1,6 @@
 -- The takeover run of a completed round that a node leads, and what is asked again of the members of any round.
 use Rattle.std.specs.Prelude.{ℕ, nat_eq, Bool, false, ◌&&◌, List, [], ◌∷◌, Option, None, Some}
-use Rattle.ct_bytes.specs.Words.{others}
+use Rattle.ct_values.specs.Words.{others}
 use Rattle.ct_frame.specs.declared.frame.Assigned.{Assigned}
 use Rattle.ct_frame.specs.declared.frame.Msg.{Msg}
 use Rattle.ct_frame.specs.declared.frame.Msg.TheVariants as msg

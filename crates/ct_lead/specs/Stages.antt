@@ -1,6 +1,6 @@
 -- What the answers of members make of what a node leads.
 use Rattle.std.specs.Prelude.{ℕ, nat_eq, Bool, true, false, ◌&&◌, if◌then◌else◌, List, [], Option, None, Some}
-use Rattle.ct_bytes.specs.Words.{is_nil, others}
+use Rattle.ct_values.specs.Words.{is_nil, others}
 use Rattle.ct_frame.specs.declared.frame.Assigned.{Assigned}
 use Rattle.ct_frame.specs.declared.round.Pull.{Pull}
 use Rattle.ct_frame.specs.declared.round.PushBody.{PushBody}

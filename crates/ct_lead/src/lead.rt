@@ -6,13 +6,13 @@ ghost use Rattle.ct_merge.specs.Held.{is_in_order};
 ghost use Rattle.ct_rules_node.specs.Node as node;
 ghost use Rattle.ct_rules_node.specs.Rounds.{lead_from};
 
-use ct_bytes::copies::Duplicate;
-use ct_bytes::items::Items;
-use ct_bytes::memory::NoMemory;
+use crate::leader::Leader;
+use crate::run::Run;
 use ct_frame::frame::Assigned;
 use ct_frame::round::{Pull, PushBody, Stage};
-use ct_round::leader::Leader;
-use ct_takeover::run::Run;
+use ct_values::copies::Duplicate;
+use ct_values::items::Items;
+use ct_values::memory::NoMemory;
 use std::alloc::Global;
 use std::marker::Model;
 

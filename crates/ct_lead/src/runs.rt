@@ -1,19 +1,19 @@
 //! The takeover run of a completed round that a node leads, and what is asked again of the members of any round.
 ghost use Rattle.std.specs.Prelude.{◌≡◌, ◌≢◌, [], true, if◌then◌else◌, IfOk, MatchOption, None, Some};
-ghost use Rattle.ct_bytes.specs.Words.{is_nil, others};
+ghost use Rattle.ct_values.specs.Words.{is_nil, others};
 ghost use Rattle.ct_lead.specs.Runs.{asked_again, awaits_releaseack, handed_out, is_completed_in, led_after_releaseack, led_generation, led_running, led_takeover, placement_of, question, unreleased};
 ghost use Rattle.ct_lead.specs.Lead.{gathers_in, is_gathering};
 ghost use Rattle.ct_rules_node.specs.Node.{is_among};
 ghost use Rattle.ct_rules_node.specs.Rounds.{push_of};
 
 use crate::lead::{Lead, Led};
-use ct_bytes::copies::Duplicate;
-use ct_bytes::items::Items;
-use ct_bytes::memory::NoMemory;
+use crate::leader::Leader;
+use crate::run::Run;
 use ct_frame::frame::{Assigned, Msg};
 use ct_frame::round::{PushBody, Stage};
-use ct_round::leader::Leader;
-use ct_takeover::run::Run;
+use ct_values::copies::Duplicate;
+use ct_values::items::Items;
+use ct_values::memory::NoMemory;
 use std::alloc::Global;
 
 /// These items, copied.

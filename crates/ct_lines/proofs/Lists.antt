@@ -5,9 +5,9 @@ use Rattle.std.proofs.lemmas.List.Splits.{join_with_byte-slice_split}
 use Rattle.std.specs.Fmt.{decimal}
 use Rattle.std.specs.List.{slice_split, join_with_byte}
 use Rattle.std.specs.Prelude.{nat_lt, ◌==◌}
-use Rattle.ct_bytes.specs.Spelling.{spelling}
+use Rattle.ct_values.specs.Spelling.{spelling}
 use Rattle.ct_frame.specs.Fields.{ascends, is_one_to_sixteen}
-use Rattle.ct_msg.specs.declared.client.Pair.{Pair}
+use Rattle.ct_values.specs.declared.client.Pair.{Pair}
 use Rattle.ct_lines.specs.Words.{number_word, key_word, value_word, each_of, pair_from, pair_of, pair_word, pairs_of, in_order, if_in_order, numbers_of, members_word}
 use Rattle.ct_lines.specs.Spelled.{pair_text, members_text, IsSmall, IsKey, IsValue, IsPair, ArePairs, AreMembers}
 use Rattle.ct_lines.proofs.Each.{AreSaid, each_only, each_back, as_many}

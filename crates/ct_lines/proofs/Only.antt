@@ -2,12 +2,12 @@
 use Rattle.std.proofs.Common.{◌≡◌, ℕ, ◌<◌, ◌≤◌, List, [], ◌∷◌, codes, map, Option, Some, None, refl, ap, sym, ◌∙◌, subst, arith}
 use Rattle.std.specs.Fmt.{decimal}
 use Rattle.std.specs.Prelude.{option_map}
-use Rattle.ct_bytes.specs.Number.{number_of}
-use Rattle.ct_bytes.specs.Spelling.{spelling}
-use Rattle.ct_cluster.specs.declared.step.Step.{Step}
-use Rattle.ct_cluster.specs.declared.step.Step.TheVariants as step
-use Rattle.ct_msg.specs.declared.client.Pair.{Pair}
-use Rattle.ct_msg.specs.declared.config.DbKind.{DbKind}
+use Rattle.ct_values.specs.Number.{number_of}
+use Rattle.ct_values.specs.Spelling.{spelling}
+use Rattle.ct_rules_cluster.specs.declared.step.Step.{Step}
+use Rattle.ct_rules_cluster.specs.declared.step.Step.TheVariants as step
+use Rattle.ct_values.specs.declared.client.Pair.{Pair}
+use Rattle.ct_values.specs.declared.config.DbKind.{DbKind}
 use Rattle.ct_lines.specs.declared.line.ScenarioLine.{ScenarioLine}
 use Rattle.ct_lines.specs.declared.line.ScenarioLine.TheVariants.{Config, Change, ByName, Settle, Ctdb}
 use Rattle.ct_lines.specs.declared.line.ConfigLine.TheVariants as config

@@ -5,12 +5,12 @@ use Rattle.std.proofs.lemmas.Bool.Decides.{nat_tests}
 use Rattle.std.proofs.lemmas.List.{length-append}
 use Rattle.std.specs.List.{list_any}
 use Rattle.std.specs.Prelude.{IsSome, is_none, is_some, nat_lt, nat_le, ◌||◌, option_map}
-use Rattle.ct_bytes.specs.Address.{same_address}
-use Rattle.ct_bytes.specs.declared.address.Address.{Address}
-use Rattle.ct_msg.specs.Config.{config_fault, first_place, lock_db, repeat_from, repeated_address, repeated_name, same_name}
-use Rattle.ct_msg.specs.declared.config.Config.{Config}
-use Rattle.ct_msg.specs.declared.config.ConfigFault.TheVariants.{BadNodes, Repeated, TooMany}
-use Rattle.ct_msg.specs.declared.config.DbDecl.{DbDecl}
+use Rattle.ct_values.specs.Address.{same_address}
+use Rattle.ct_values.specs.declared.address.Address.{Address}
+use Rattle.ct_values.specs.Config.{config_fault, first_place, lock_db, repeat_from, repeated_address, repeated_name, same_name}
+use Rattle.ct_values.specs.declared.config.Config.{Config}
+use Rattle.ct_values.specs.declared.config.ConfigFault.TheVariants.{BadNodes, Repeated, TooMany}
+use Rattle.ct_values.specs.declared.config.DbDecl.{DbDecl}
 use Rattle.ct_lines.specs.Places.{Accepted, IsAccepted, IsConfigOf, IsMade, config_refusal, first_reason, is_closed, is_named, is_there, later_refusal, or_one, refusal, with_config, with_later, with_line}
 use Rattle.ct_lines.specs.declared.line.ConfigLine.{ConfigLine}
 use Rattle.ct_lines.specs.declared.line.ConfigLine.TheVariants as config

@@ -5,17 +5,17 @@ use Rattle.std.proofs.lemmas.Slice.Eq.{bytes_eq-Decides}
 use Rattle.std.specs.Fmt.{decimal}
 use Rattle.std.specs.Prelude.{is_none, option_map, nat_lt}
 use Rattle.std.specs.Str.{bytes_eq}
-use Rattle.ct_bytes.specs.declared.address.Address.{Address}
-use Rattle.ct_bytes.specs.declared.address.Address.TheVariants.{V4, V6}
-use Rattle.ct_bytes.specs.Address.{address_of, address_text, IsAddress}
-use Rattle.ct_bytes.proofs.Reading.{read_back, read_only}
-use Rattle.ct_bytes.specs.Name.{bad_byte}
-use Rattle.ct_bytes.specs.Number.{number_of}
-use Rattle.ct_bytes.specs.Spelling.{spelling, unspelled}
-use Rattle.ct_bytes.proofs.Numbers.{number_only, number_back}
-use Rattle.ct_bytes.proofs.Spellings.{spelling-unspelled, unspelled-spelling}
-use Rattle.ct_msg.specs.declared.config.DbKind.{DbKind}
-use Rattle.ct_msg.specs.declared.config.DbKind.TheVariants.{Volatile, ReadOnly, Persistent}
+use Rattle.ct_values.specs.declared.address.Address.{Address}
+use Rattle.ct_values.specs.declared.address.Address.TheVariants.{V4, V6}
+use Rattle.ct_values.specs.Address.{address_of, address_text, IsAddress}
+use Rattle.ct_values.proofs.Reading.{read_back, read_only}
+use Rattle.ct_values.specs.Name.{bad_byte}
+use Rattle.ct_values.specs.Number.{number_of}
+use Rattle.ct_values.specs.Spelling.{spelling, unspelled}
+use Rattle.ct_values.proofs.Numbers.{number_only, number_back}
+use Rattle.ct_values.proofs.Spellings.{spelling-unspelled, unspelled-spelling}
+use Rattle.ct_values.specs.declared.config.DbKind.{DbKind}
+use Rattle.ct_values.specs.declared.config.DbKind.TheVariants.{Volatile, ReadOnly, Persistent}
 use Rattle.ct_lines.specs.Words.{within, of_length, number_word, message_word, address_word, if_address, is_address, key_word, value_word, name_word, kind_word}
 use Rattle.ct_lines.specs.Spelled.{kind_text, IsSmall, IsMessage, IsName, IsKey, IsValue}
 

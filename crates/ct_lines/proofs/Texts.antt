@@ -7,15 +7,15 @@ use Rattle.std.proofs.NetLemmas.Alphabet.{IsDigitOrDot, IsHexOrColon, All-ipv4_t
 use Rattle.std.specs.Fmt.{decimal}
 use Rattle.std.specs.Int.{w128, to_be_bytes}
 use Rattle.std.specs.List.{All, list_all, slice_split, join_with_byte}
-use Rattle.ct_bytes.specs.declared.address.Address.{Address}
-use Rattle.ct_bytes.specs.declared.address.Address.TheVariants.{V4, V6}
-use Rattle.ct_bytes.specs.Address.{octets, groups, address_text}
-use Rattle.ct_bytes.specs.Name.{is_allowed, is_letter, is_name_byte, bad_from}
-use Rattle.ct_bytes.specs.Number.{IsDigit}
-use Rattle.ct_bytes.specs.Spelling.{AreBytes, IsWordByte, spelling}
-use Rattle.ct_bytes.proofs.Numbers.{decimal_digits}
-use Rattle.ct_bytes.proofs.Spellings.{spelling_word_bytes}
-use Rattle.ct_bytes.proofs.Addresses.{bytes_small, groups_small, below}
+use Rattle.ct_values.specs.declared.address.Address.{Address}
+use Rattle.ct_values.specs.declared.address.Address.TheVariants.{V4, V6}
+use Rattle.ct_values.specs.Address.{octets, groups, address_text}
+use Rattle.ct_values.specs.Name.{is_allowed, is_letter, is_name_byte, bad_from}
+use Rattle.ct_values.specs.Number.{IsDigit}
+use Rattle.ct_values.specs.Spelling.{AreBytes, IsWordByte, spelling}
+use Rattle.ct_values.proofs.Numbers.{decimal_digits}
+use Rattle.ct_values.proofs.Spellings.{spelling_word_bytes}
+use Rattle.ct_values.proofs.Addresses.{bytes_small, groups_small, below}
 
 -- none of these bytes is c
 abbrev pub IsFree : ℕ → List ℕ → Type 0

@@ -1,11 +1,11 @@
 -- The place of a line after the lines that were accepted before it.
 use Rattle.std.specs.Prelude.{◌≡◌, ℕ, nat_le, is_none, is_some, Bool, true, false, ◌||◌, if◌then◌else◌, List, [], ◌∷◌, ◌++◌, length, Option, None, Some, Result, Ok, Err}
 use Rattle.std.specs.List.{list_any}
-use Rattle.ct_bytes.specs.Address.{same_address}
-use Rattle.ct_bytes.specs.declared.address.Address.{Address}
-use Rattle.ct_msg.specs.Config.{Configures, config_fault, lock_db, same_name}
-use Rattle.ct_msg.specs.declared.config.Config.{Config}
-use Rattle.ct_msg.specs.declared.config.DbDecl.{DbDecl}
+use Rattle.ct_values.specs.Address.{same_address}
+use Rattle.ct_values.specs.declared.address.Address.{Address}
+use Rattle.ct_values.specs.Config.{Configures, config_fault, lock_db, same_name}
+use Rattle.ct_values.specs.declared.config.Config.{Config}
+use Rattle.ct_values.specs.declared.config.DbDecl.{DbDecl}
 use Rattle.ct_lines.specs.declared.line.ConfigLine.{ConfigLine}
 use Rattle.ct_lines.specs.declared.line.ConfigLine.TheVariants as config
 use Rattle.ct_lines.specs.declared.line.LineKind.{LineKind}

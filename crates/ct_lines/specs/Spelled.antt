@@ -2,15 +2,15 @@
 use Rattle.std.specs.Prelude.{◌≡◌, ℕ, ◌<◌, ◌≤◌, ◌^◌, nat_lt, true, List, [], ◌∷◌, length, map, codes, None}
 use Rattle.std.specs.Fmt.{decimal}
 use Rattle.std.specs.List.{All, join_with_byte}
-use Rattle.ct_bytes.specs.Address.{address_text, IsAddress}
-use Rattle.ct_bytes.specs.Name.{bad_byte}
-use Rattle.ct_bytes.specs.Spelling.{AreBytes, spelling}
-use Rattle.ct_cluster.specs.declared.step.Step.{Step}
-use Rattle.ct_cluster.specs.declared.step.Step.TheVariants as step
+use Rattle.ct_values.specs.Address.{address_text, IsAddress}
+use Rattle.ct_values.specs.Name.{bad_byte}
+use Rattle.ct_values.specs.Spelling.{AreBytes, spelling}
+use Rattle.ct_rules_cluster.specs.declared.step.Step.{Step}
+use Rattle.ct_rules_cluster.specs.declared.step.Step.TheVariants as step
 use Rattle.ct_frame.specs.Fields.{ascends}
-use Rattle.ct_msg.specs.declared.client.Pair.{Pair}
-use Rattle.ct_msg.specs.declared.config.DbKind.{DbKind}
-use Rattle.ct_msg.specs.declared.config.DbKind.TheVariants.{Volatile, ReadOnly, Persistent}
+use Rattle.ct_values.specs.declared.client.Pair.{Pair}
+use Rattle.ct_values.specs.declared.config.DbKind.{DbKind}
+use Rattle.ct_values.specs.declared.config.DbKind.TheVariants.{Volatile, ReadOnly, Persistent}
 use Rattle.ct_lines.specs.declared.line.ScenarioLine.{ScenarioLine}
 use Rattle.ct_lines.specs.declared.line.ScenarioLine.TheVariants.{Config, Change, ByName, Settle, Ctdb}
 use Rattle.ct_lines.specs.declared.line.ConfigLine.{ConfigLine}

@@ -2,16 +2,16 @@
 use Rattle.std.specs.Prelude.{ℕ, ◌^◌, Bool, ◌&&◌, ◌==◌, nat_le, nat_lt, is_none, if◌then◌else◌, List, [], ◌∷◌, length, codes, Option, None, Some}
 use Rattle.std.specs.List.{slice_split}
 use Rattle.std.specs.Str.{bytes_eq}
-use Rattle.ct_bytes.specs.declared.address.Address.{Address}
-use Rattle.ct_bytes.specs.declared.address.Address.TheVariants.{V4, V6}
-use Rattle.ct_bytes.specs.Address.{address_of}
-use Rattle.ct_bytes.specs.Name.{bad_byte}
-use Rattle.ct_bytes.specs.Number.{number_of}
-use Rattle.ct_bytes.specs.Spelling.{unspelled}
+use Rattle.ct_values.specs.declared.address.Address.{Address}
+use Rattle.ct_values.specs.declared.address.Address.TheVariants.{V4, V6}
+use Rattle.ct_values.specs.Address.{address_of}
+use Rattle.ct_values.specs.Name.{bad_byte}
+use Rattle.ct_values.specs.Number.{number_of}
+use Rattle.ct_values.specs.Spelling.{unspelled}
 use Rattle.ct_frame.specs.Fields.{ascends, is_one_to_sixteen}
-use Rattle.ct_msg.specs.declared.client.Pair.{Pair}
-use Rattle.ct_msg.specs.declared.config.DbKind.{DbKind}
-use Rattle.ct_msg.specs.declared.config.DbKind.TheVariants.{Volatile, ReadOnly, Persistent}
+use Rattle.ct_values.specs.declared.client.Pair.{Pair}
+use Rattle.ct_values.specs.declared.config.DbKind.{DbKind}
+use Rattle.ct_values.specs.declared.config.DbKind.TheVariants.{Volatile, ReadOnly, Persistent}
 
 -- a number, where it is at least low and below high
 abbrev pub within : ℕ → ℕ → Option ℕ → Option ℕ

@@ -1,15 +1,15 @@
 //! The lines of a scenario.
 ghost use Rattle.std.specs.Prelude.{◌≡◌};
 
-use ct_bytes::address::Address;
-use ct_bytes::items::Items;
-use ct_bytes::key::Key;
-use ct_bytes::memory::NoMemory;
-use ct_bytes::name::DbName;
-use ct_bytes::value::Value;
-use ct_cluster::step::Step;
-use ct_msg::client::Pair;
-use ct_msg::config::DbDecl;
+use ct_rules_cluster::step::Step;
+use ct_values::address::Address;
+use ct_values::client::Pair;
+use ct_values::config::DbDecl;
+use ct_values::items::Items;
+use ct_values::key::Key;
+use ct_values::memory::NoMemory;
+use ct_values::name::DbName;
+use ct_values::value::Value;
 use std::alloc::AllocFailed;
 use thiserror::Error;
 

@@ -13,8 +13,8 @@ use crate::words::{
     address_word, cut, is_word, key_word, kind_word, members_word, message_word, name_word,
     number_word, pairs_of, small_within, value_word,
 };
-use ct_cluster::step::Step;
-use ct_msg::config::DbDecl;
+use ct_rules_cluster::step::Step;
+use ct_values::config::DbDecl;
 use std::alloc::Global;
 
 fn number_step(word: &[u8], arg: &[u8]) -> Result<Step, WordFault>

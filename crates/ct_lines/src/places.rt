@@ -1,15 +1,15 @@
 //! The place of a line: which one may come after those that were accepted, and the configuration that they make.
 ghost use Rattle.std.specs.Prelude.{◌≡◌, None, IfOk, IsSome, OnErr, OnOk};
 ghost use Rattle.std.specs.List.{list_any};
-ghost use Rattle.ct_msg.specs.Config.{lock_db, same_name};
+ghost use Rattle.ct_values.specs.Config.{lock_db, same_name};
 ghost use Rattle.ct_lines.specs.Places.{Checks, IsConfigOf, IsMade, config_refusal, first_reason, is_closed, is_named, is_there, later_refusal, nothing_accepted, refusal, with_config, with_later, with_line};
 ghost use Rattle.ct_lines.specs.Spelled.{IsConfig, IsInRange};
 
 use crate::line::{ConfigLine, LineKind, LineKindFault, ScenarioLine};
-use ct_bytes::address::Address;
-use ct_bytes::items::Items;
-use ct_bytes::memory::NoMemory;
-use ct_msg::config::{Config, ConfigFault, DbDecl};
+use ct_values::address::Address;
+use ct_values::config::{Config, ConfigFault, DbDecl};
+use ct_values::items::Items;
+use ct_values::memory::NoMemory;
 use std::alloc::Global;
 use std::marker::Model;
 

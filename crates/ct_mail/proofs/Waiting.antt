@@ -4,7 +4,7 @@ use Rattle.std.specs.Prelude.{map, nat_eq, nat_lt, slice_get, slice_index_or, sl
 use Rattle.std.proofs.lemmas.Bool.{cond_both, ltb-true}
 use Rattle.std.proofs.lemmas.Option.{slice_get-get_or}
 use Rattle.ct_frame.specs.declared.frame.Frame.{Frame}
-use Rattle.ct_cluster.specs.Cluster.{Fate, Sent, is_waiting, is_waiting_fate}
+use Rattle.ct_rules_cluster.specs.Cluster.{Fate, Sent, is_waiting, is_waiting_fate}
 use Rattle.ct_mail.specs.Mail.{before_waiting, waiting_from, next_waiting, numbered, posted}
 
 -- where it is said of the first item, whether that waits or not

@@ -1,8 +1,8 @@
 -- The messages that were sent, by number, and the first of them that waits.
 use Rattle.std.specs.Prelude.{ℕ, zero, suc, ◌+◌, ◌-◌, nat_eq, if◌then◌else◌, List, [], ◌∷◌, Option, None, Some, slice_get}
 use Rattle.ct_frame.specs.declared.frame.Frame.{Frame}
-use Rattle.ct_cluster.specs.Cluster as cluster
-use Rattle.ct_cluster.specs.Cluster.{Sent, is_waiting_fate}
+use Rattle.ct_rules_cluster.specs.Cluster as cluster
+use Rattle.ct_rules_cluster.specs.Cluster.{Sent, is_waiting_fate}
 use Rattle.ct_mail.specs.declared.sent.Fate.{Fate}
 use Rattle.ct_mail.specs.declared.sent.Fate.TheVariants.{Waiting, Delivered, Dropped}
 

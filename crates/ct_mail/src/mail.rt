@@ -1,13 +1,13 @@
 //! Every message that was sent in a cluster, by number.
 ghost use Rattle.std.specs.Prelude.{◌≡◌, ◌≤◌, ◌<◌, ◌+◌, ◌-◌, ◌++◌, true, false, [], IfOk, OnOk, OnErr, Some, None, MatchOption, length, map, slice_get, slice_set, take};
-ghost use Rattle.ct_cluster.specs.Cluster as cluster;
-ghost use Rattle.ct_cluster.specs.Cluster.{is_waiting, is_delivered, is_waiting_fate};
+ghost use Rattle.ct_rules_cluster.specs.Cluster as cluster;
+ghost use Rattle.ct_rules_cluster.specs.Cluster.{is_waiting, is_delivered, is_waiting_fate};
 ghost use Rattle.ct_mail.specs.Mail.{before_waiting, fate_of, next_waiting, numbered, posted};
 
 use crate::sent::{Fate, Sent};
-use ct_bytes::items::Items;
-use ct_bytes::memory::NoMemory;
 use ct_frame::frame::Frame;
+use ct_values::items::Items;
+use ct_values::memory::NoMemory;
 use std::alloc::Global;
 use std::marker::Model;
 
@@ -21,7 +21,7 @@ pub struct Mail {
 
 impl Model for Mail {
     ghost use Rattle.std.specs.Prelude.{◌≡◌, List};
-    ghost use Rattle.ct_cluster.specs.Cluster as cluster;
+    ghost use Rattle.ct_rules_cluster.specs.Cluster as cluster;
     ghost use Rattle.ct_mail.specs.Mail.{before_waiting};
 
     ghost Value = { List cluster.Sent };
@@ -119,7 +119,7 @@ impl Mail {
     }
 
     /// Does the message of this number wait?
-    #[tactic(auto, unfolding(ct_cluster::specs::Cluster::is_waiting))]
+    #[tactic(auto, unfolding(ct_rules_cluster::specs::Cluster::is_waiting))]
     pub fn is_waiting(&self, number: u64) -> bool
         ensures { result ≡ is_waiting (numbered number self.now) }
     {
@@ -130,7 +130,7 @@ impl Mail {
     }
 
     /// Was the message of this number delivered?
-    #[tactic(auto, unfolding(ct_cluster::specs::Cluster::is_delivered))]
+    #[tactic(auto, unfolding(ct_rules_cluster::specs::Cluster::is_delivered))]
     pub fn is_delivered(&self, number: u64) -> bool
         ensures { result ≡ is_delivered (numbered number self.now) }
     {
@@ -173,7 +173,7 @@ impl Mail {
     }
 
     /// The message of this number, which waits, is delivered. It takes no memory.
-    #[tactic(auto, unfolding(ct_cluster::specs::Cluster::is_waiting_fate))]
+    #[tactic(auto, unfolding(ct_rules_cluster::specs::Cluster::is_waiting_fate))]
     pub fn deliver(&mut self, number: u64)
         requires { is_waiting (numbered number self.old) ≡ true }
         ensures { (x : cluster.Sent) → numbered number self.old ≡ Some x → self.new ≡ slice_set self.old (number - 1) (record x { fate = cluster.Delivered }) }
@@ -182,7 +182,7 @@ impl Mail {
     }
 
     /// The message of this number, which waits, is dropped. It takes no memory.
-    #[tactic(auto, unfolding(ct_cluster::specs::Cluster::is_waiting_fate))]
+    #[tactic(auto, unfolding(ct_rules_cluster::specs::Cluster::is_waiting_fate))]
     pub fn drop(&mut self, number: u64)
         requires { is_waiting (numbered number self.old) ≡ true }
         ensures { (x : cluster.Sent) → numbered number self.old ≡ Some x → self.new ≡ slice_set self.old (number - 1) (record x { fate = cluster.Dropped }) }

@@ -18,7 +18,7 @@ pub(crate) struct Sent {
 }
 
 impl Model for Sent {
-    ghost use Rattle.ct_cluster.specs.Cluster as cluster;
+    ghost use Rattle.ct_rules_cluster.specs.Cluster as cluster;
     ghost use Rattle.ct_mail.specs.Mail.{fate_of};
 
     ghost Value = { cluster.Sent };
@@ -28,11 +28,11 @@ impl Model for Sent {
 
 impl Fate {
     ghost use Rattle.std.specs.Prelude.{◌≡◌};
-    ghost use Rattle.ct_cluster.specs.Cluster.{is_waiting_fate, is_delivered_fate};
+    ghost use Rattle.ct_rules_cluster.specs.Cluster.{is_waiting_fate, is_delivered_fate};
     ghost use Rattle.ct_mail.specs.Mail.{fate_of};
 
     /// Does the message wait?
-    #[tactic(auto, unfolding(ct_cluster::specs::Cluster::is_waiting_fate))]
+    #[tactic(auto, unfolding(ct_rules_cluster::specs::Cluster::is_waiting_fate))]
     pub fn is_waiting(self) -> bool
         ensures { result ≡ is_waiting_fate (fate_of self) }
     {
@@ -43,7 +43,7 @@ impl Fate {
     }
 
     /// Was the message delivered?
-    #[tactic(auto, unfolding(ct_cluster::specs::Cluster::is_delivered_fate))]
+    #[tactic(auto, unfolding(ct_rules_cluster::specs::Cluster::is_delivered_fate))]
     pub fn is_delivered(self) -> bool
         ensures { result ≡ is_delivered_fate (fate_of self) }
     {
@@ -56,7 +56,7 @@ impl Fate {
 
 impl Sent {
     ghost use Rattle.std.specs.Prelude.{◌≡◌};
-    ghost use Rattle.ct_cluster.specs.Cluster.{is_waiting_fate, is_delivered_fate};
+    ghost use Rattle.ct_rules_cluster.specs.Cluster.{is_waiting_fate, is_delivered_fate};
     ghost use Rattle.ct_mail.specs.Mail.{fate_of, posted};
 
     /// A message that was just sent.

@@ -7,8 +7,8 @@ use Rattle.std.specs.Cmp.{nat_cmp_is}
 use Rattle.std.specs.Ordering.{nat_cmp}
 use Rattle.std.specs.declared.cmp.Ordering.TheVariants.{Less}
 use Rattle.std.proofs.lemmas.Map.Keys.{sorted_from_strictly_increasing, IsStrictlyIncreasing-from_sorted}
-use Rattle.ct_vnn.specs.Members.{repeat, repeat_after}
-use Rattle.ct_deleg.proofs.Nodes.{sorted_none}
+use Rattle.ct_values.specs.Members.{repeat, repeat_after}
+use Rattle.ct_tracking.proofs.Nodes.{sorted_none}
 
 pub none_ascend : IsStrictlyIncreasing []
 none_ascend = IsStrictlyIncreasing-from_sorted [] sorted_none

@@ -1,3 +1,5 @@
+pub mod Noting
+pub mod Sweeping
 pub mod Ascending
 pub mod Differing
 pub mod Lists

@@ -2,7 +2,7 @@
 use Rattle.std.proofs.Common.{◌≡◌, ℕ, Bool, ◌&&◌, refl}
 use Rattle.std.specs.Prelude.{nat_eq}
 use Rattle.ct_rules_node.specs.Node.{Phase, Idle, Serving, Installed, Freezing, Frozen, is_serving, is_freezing, is_present}
-use Rattle.ct_round.specs.Member.{told_in}
+use Rattle.ct_lead.specs.Member.{told_in}
 use Rattle.ct_node_state.specs.Phases.{tells_serving, tells_freezing, tells_present}
 
 pub serving_told : (p : Phase) (generation : ℕ) → tells_serving (told_in p generation) ≡ is_serving p

@@ -2,7 +2,7 @@
 ghost use Rattle.std.specs.Prelude.{◌≡◌, ◌≢◌, ◌≤◌, None, length};
 ghost use Rattle.ct_rules_node.specs.Node.{has_records, is_persistent, is_readonly, kind_at, name_of};
 
-use ct_msg::config::{Config, DbKind};
+use ct_values::config::{Config, DbKind};
 
 /// The kind of the database of this number, where there is one.
 #[tactic(auto, unfolding(ct_rules_node::specs::Node::kind_at, ct_rules_node::specs::Node::kind_in))]

@@ -1,13 +1,13 @@
 //! The members of a node's generation.
 ghost use Rattle.std.specs.Prelude.{◌≡◌, ◌≢◌, [], IfOk};
 ghost use Rattle.std.specs.List.Sorted.{IsStrictlyIncreasing};
-ghost use Rattle.ct_bytes.specs.Words.{others};
+ghost use Rattle.ct_values.specs.Words.{others};
 ghost use Rattle.ct_rules_node.specs.Node.{is_among, master_of};
 
-use ct_bytes::copies::Duplicate;
-use ct_bytes::key::Key;
-use ct_bytes::memory::NoMemory;
-use ct_vnn::map::{MapFault, VnnMap, lmaster};
+use ct_values::copies::Duplicate;
+use ct_values::key::Key;
+use ct_values::map::{MapFault, VnnMap, lmaster};
+use ct_values::memory::NoMemory;
 use std::alloc::Global;
 use std::marker::Model;
 
@@ -95,7 +95,7 @@ impl Members {
     }
 
     /// The members but this node. They ascend.
-    #[tactic(auto, using(ct_deleg::proofs::Nodes::ascends_others))]
+    #[tactic(auto, using(ct_tracking::proofs::Nodes::ascends_others))]
     pub fn others(&self, node: u32) -> Result<Vec<u32>, NoMemory>
         ensures others { IfOk result (λ v. v.items ≡ others node self.now) }
         ensures ascending { IsStrictlyIncreasing (others node self.now) }

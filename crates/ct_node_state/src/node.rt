@@ -1,30 +1,30 @@
 //! The state of a node.
 ghost use Rattle.std.specs.Prelude.{◌≡◌, ◌≢◌, ◌<◌, true, [], IfOk, OnOk, OnErr, length, slice_get, slice_set, option_copied};
 ghost use Rattle.std.specs.List.Sorted.{IsStrictlyIncreasing};
-ghost use Rattle.ct_database.specs.Noted.{is_deleted};
+ghost use Rattle.ct_node_state.specs.Noted.{is_deleted};
 ghost use Rattle.ct_persist.specs.Persisted.{updated};
 ghost use Rattle.ct_store.specs.Map.{look};
 ghost use Rattle.ct_rules_node.specs.Node.{db_at, opening, or_nothing, or_untouched, state_at, untouched_all, with_db};
 ghost use Rattle.ct_rules_node.specs.Records.{kept, place_of, put_back, view, with_state};
 ghost use Rattle.ct_node_state.specs.Whole.{left_as};
 
+use crate::database::{Committing, Database};
 use crate::kinds::{is_readonly, kind_at};
 use crate::members::Members;
 use crate::placing::assigned_all;
-use ct_bytes::copies::Duplicate;
-use ct_bytes::items::Items;
-use ct_bytes::key::Key;
-use ct_bytes::memory::NoMemory;
-use ct_database::database::{Committing, Database};
-use ct_draft::draft::Draft;
 use ct_frame::frame::Assigned;
+use ct_lead::holder::Holder;
 use ct_lead::lead::Lead;
-use ct_msg::client::Pair;
-use ct_msg::config::{Config, DbDecl};
-use ct_round::member::Member;
+use ct_lead::member::Member;
+use ct_record_parts::draft::Draft;
 use ct_rules::event::Place;
 use ct_rules::state::RecState;
-use ct_takeover::holder::Holder;
+use ct_values::client::Pair;
+use ct_values::config::{Config, DbDecl};
+use ct_values::copies::Duplicate;
+use ct_values::items::Items;
+use ct_values::key::Key;
+use ct_values::memory::NoMemory;
 use std::alloc::Global;
 use std::marker::Model;
 

@@ -4,7 +4,7 @@ ghost use Rattle.ct_rules_node.specs.Node.{is_freezing, is_present, is_serving};
 ghost use Rattle.ct_node_state.specs.Phases.{tells_freezing, tells_present, tells_serving};
 
 use ct_frame::round::Phase;
-use ct_round::member::Member;
+use ct_lead::member::Member;
 
 fn tells_serving(phase: Phase) -> bool
     ensures { result ≡ tells_serving phase }

@@ -1,12 +1,12 @@
 //! The addresses of a configuration, each with its node.
 ghost use Rattle.std.specs.Prelude.{◌≡◌, IfOk};
-ghost use Rattle.ct_bytes.specs.Address.{same_address};
+ghost use Rattle.ct_values.specs.Address.{same_address};
 ghost use Rattle.ct_rules_node.specs.Node.{assigned_all, holder_in};
 
-use ct_bytes::address::Address;
-use ct_bytes::items::Items;
-use ct_bytes::memory::NoMemory;
 use ct_frame::frame::Assigned;
+use ct_values::address::Address;
+use ct_values::items::Items;
+use ct_values::memory::NoMemory;
 use std::alloc::Global;
 
 fn is_same(a: Address, b: Address) -> bool

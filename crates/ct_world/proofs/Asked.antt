@@ -2,22 +2,22 @@
 use Rattle.std.proofs.Common.{◌≡◌, ◌∙◌, ℕ, zero, suc, ◌+◌, ◌<◌, Bool, true, ◌&&◌, List, [], ◌∷◌, length, Option, Some, None, refl, sym, ap, subst, arith}
 use Rattle.std.proofs.lemmas.Bool.{and_parts, ltb-true}
 use Rattle.std.specs.Prelude.{◌^◌, nat_lt}
-use Rattle.ct_msg.specs.declared.client.ClientOp.{ClientOp}
-use Rattle.ct_msg.specs.declared.config.Config.{Config}
+use Rattle.ct_values.specs.declared.client.ClientOp.{ClientOp}
+use Rattle.ct_values.specs.declared.config.Config.{Config}
 use Rattle.ct_frame.specs.declared.event.Event.TheVariants as event
 use Rattle.ct_frame.specs.declared.frame.Frame.{Frame}
-use Rattle.ct_cluster.specs.Cluster.{Cluster, Sent, able_from, is_delivered, is_waiting, node_at, sent_at}
-use Rattle.ct_cluster.specs.Faults.{fault_of, no_such_node, no_such_nodes, not_delivered, not_waiting}
-use Rattle.ct_cluster.specs.Steps.{is_counted}
-use Rattle.ct_cluster.specs.declared.step.Step.TheVariants as step
-use Rattle.ct_cluster.specs.declared.step.StepFault.{StepFault}
-use Rattle.ct_cluster.specs.declared.step.StepFault.TheVariants as fault
-use Rattle.ct_cluster_form.proofs.Coming.{events_may_come, node_is, recover_nodes}
+use Rattle.ct_rules_cluster.specs.Cluster.{Cluster, Sent, able_from, is_delivered, is_waiting, node_at, sent_at}
+use Rattle.ct_rules_cluster.specs.Faults.{fault_of, no_such_node, no_such_nodes, not_delivered, not_waiting}
+use Rattle.ct_rules_cluster.specs.Steps.{is_counted}
+use Rattle.ct_rules_cluster.specs.declared.step.Step.TheVariants as step
+use Rattle.ct_rules_cluster.specs.declared.step.StepFault.{StepFault}
+use Rattle.ct_rules_cluster.specs.declared.step.StepFault.TheVariants as fault
+use Rattle.ct_law_form_cluster.proofs.Coming.{events_may_come, node_is, recover_nodes}
 use Rattle.ct_mail.specs.Mail.{numbered}
-use Rattle.ct_node_form.specs.Whole.{is_node_of}
+use Rattle.ct_law_form.specs.Whole.{is_node_of}
 use Rattle.ct_rules_node.specs.Coming.{may_come}
 use Rattle.ct_rules_node.specs.Refusals.{first_of}
-use Rattle.ct_rules_node.proofs.Refusals.{first_none, required}
+use Rattle.ct_law_rules_node.proofs.Refusals.{first_none, required}
 use Rattle.ct_world.specs.Feeding.{MayTake}
 use Rattle.ct_world.specs.World.{PartsInForm, cluster_of}
 use Rattle.ct_world.specs.declared.parts.Parts.{Parts}

@@ -3,19 +3,19 @@ use Rattle.std.proofs.Common.{◌≡◌, ◌≢◌, ◌∙◌, ℕ, zero, suc, �
 use Rattle.std.specs.Prelude.{◌^◌, map, nat_lt, slice_get, slice_set, Result}
 use Rattle.std.proofs.lemmas.Bool.{lt-ltb, ltb-true, cases_eq}
 use Rattle.std.proofs.lemmas.List.{length-append}
-use Rattle.ct_msg.specs.declared.config.Config.{Config}
+use Rattle.ct_values.specs.declared.config.Config.{Config}
 use Rattle.ct_frame.specs.declared.event.Event.{Event}
 use Rattle.ct_frame.specs.declared.frame.Frame.{Frame}
 use Rattle.ct_call.specs.Rules.{Rules}
-use Rattle.ct_cluster.specs.Cluster.{Cluster, Sent, node_at, or_absent}
-use Rattle.ct_cluster.specs.Steps.{Stepped, fed, fed_of, frames_of, if_counted, is_counted, lines_of, put, with_node}
-use Rattle.ct_cluster.specs.declared.step.Line.{Line}
-use Rattle.ct_cluster.specs.declared.step.StepFault.{StepFault}
-use Rattle.ct_cluster.specs.declared.step.StepFault.TheVariants.{Exhausted, NoMemory}
+use Rattle.ct_rules_cluster.specs.Cluster.{Cluster, Sent, node_at, or_absent}
+use Rattle.ct_rules_cluster.specs.Steps.{Stepped, fed, fed_of, frames_of, if_counted, is_counted, lines_of, put, with_node}
+use Rattle.ct_rules_cluster.specs.declared.step.Line.{Line}
+use Rattle.ct_rules_cluster.specs.declared.step.StepFault.{StepFault}
+use Rattle.ct_rules_cluster.specs.declared.step.StepFault.TheVariants.{Exhausted, NoMemory}
 use Rattle.ct_core.specs.Core.{Core, IsChangeOf, turn_of}
 use Rattle.ct_mail.specs.Mail.{posted}
-use Rattle.ct_planned.specs.Changes.{changed_by}
-use Rattle.ct_planned.specs.declared.change.Planned.{Planned}
+use Rattle.ct_node_plan.specs.Changes.{changed_by}
+use Rattle.ct_node_plan.specs.declared.change.Planned.{Planned}
 use Rattle.ct_rules_node.specs.Coming.{may_come}
 use Rattle.ct_rules_node.specs.Node.{Node}
 use Rattle.ct_rules_node.specs.Steps.{stepped}

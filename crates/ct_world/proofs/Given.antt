@@ -1,15 +1,15 @@
 -- What the parts are given is what the rules of the cluster give.
 use Rattle.std.proofs.Common.{◌≡◌, ◌∙◌, ℕ, zero, suc, ◌+◌, ◌<◌, ◌≤◌, Bool, true, false, List, [], ◌∷◌, ◌++◌, length, get_or, append-nil, Option, Some, None, Result, Ok, Err, Fits, w64, refl, sym, ap, subst, append_assoc, arith}
 use Rattle.std.specs.Prelude.{◌^◌, IsErrAnd, MatchOption, drop, slice_get}
-use Rattle.ct_msg.specs.declared.config.Config.{Config}
+use Rattle.ct_values.specs.declared.config.Config.{Config}
 use Rattle.ct_frame.specs.declared.event.Event.{Event}
 use Rattle.ct_frame.specs.declared.frame.Frame.{Frame}
 use Rattle.ct_call.specs.Rules.{Rules}
-use Rattle.ct_cluster.specs.Cluster.{Cluster, Sent, is_delivered, is_true, is_up, is_waiting, pending_from, pending_in}
-use Rattle.ct_cluster.specs.Steps.{Stepped, fed}
-use Rattle.ct_cluster.specs.declared.step.Line.{Line}
-use Rattle.ct_cluster.specs.declared.step.PendingCall.{PendingCall}
-use Rattle.ct_cluster.specs.declared.step.StepFault.{StepFault}
+use Rattle.ct_rules_cluster.specs.Cluster.{Cluster, Sent, is_delivered, is_true, is_up, is_waiting, pending_from, pending_in}
+use Rattle.ct_rules_cluster.specs.Steps.{Stepped, fed}
+use Rattle.ct_rules_cluster.specs.declared.step.Line.{Line}
+use Rattle.ct_rules_cluster.specs.declared.step.PendingCall.{PendingCall}
+use Rattle.ct_rules_cluster.specs.declared.step.StepFault.{StepFault}
 use Rattle.ct_core.specs.Core.{Core}
 use Rattle.ct_world.specs.World.{Applies, World, states_of}
 

@@ -3,20 +3,20 @@ use Rattle.std.proofs.Common.{◌≡◌, ◌∙◌, ℕ, zero, suc, ◌+◌, Boo
 use Rattle.std.specs.Prelude.{◌^◌, Result, nat_lt, slice_set}
 use Rattle.std.proofs.lemmas.Bool.{cond_both}
 use Rattle.std.proofs.lemmas.List.{length-set}
-use Rattle.ct_msg.specs.declared.config.Config.{Config}
+use Rattle.ct_values.specs.declared.config.Config.{Config}
 use Rattle.ct_frame.specs.declared.event.Event.{Event}
 use Rattle.ct_frame.specs.declared.event.Event.TheVariants as event
 use Rattle.ct_call.specs.Rules.{Rules}
-use Rattle.ct_cluster.specs.Cluster.{Cluster, Dropped, Delivered, Fate, Sent, able_from, is_up, node_at, sent_at}
-use Rattle.ct_cluster.specs.Faults.{fault_of, is_allowed}
-use Rattle.ct_cluster.specs.Steps.{Stepped, applied, deliver, done, drop, fed, fed_of, if_counted, is_counted, put, recover, repeat, steps, steps_or, stop, with_fate, with_node}
-use Rattle.ct_cluster.specs.declared.step.Line.{Line}
-use Rattle.ct_cluster.specs.declared.step.Step.{Step}
-use Rattle.ct_cluster.specs.declared.step.Step.TheVariants as step
-use Rattle.ct_cluster.specs.declared.step.StepFault.{StepFault}
-use Rattle.ct_cluster.specs.declared.step.StepFault.TheVariants as fault
-use Rattle.ct_cluster_form.specs.Form.{ClusterInForm}
-use Rattle.ct_cluster_form.proofs.Whole.{stays_in_form}
+use Rattle.ct_rules_cluster.specs.Cluster.{Cluster, Dropped, Delivered, Fate, Sent, able_from, is_up, node_at, sent_at}
+use Rattle.ct_rules_cluster.specs.Faults.{fault_of, is_allowed}
+use Rattle.ct_rules_cluster.specs.Steps.{Stepped, applied, deliver, done, drop, fed, fed_of, if_counted, is_counted, put, recover, repeat, steps, steps_or, stop, with_fate, with_node}
+use Rattle.ct_rules_cluster.specs.declared.step.Line.{Line}
+use Rattle.ct_rules_cluster.specs.declared.step.Step.{Step}
+use Rattle.ct_rules_cluster.specs.declared.step.Step.TheVariants as step
+use Rattle.ct_rules_cluster.specs.declared.step.StepFault.{StepFault}
+use Rattle.ct_rules_cluster.specs.declared.step.StepFault.TheVariants as fault
+use Rattle.ct_law_form_cluster.specs.Form.{ClusterInForm}
+use Rattle.ct_law_form_cluster.proofs.WholeCluster.{stays_in_form}
 use Rattle.ct_rules_node.specs.Steps.{stepped}
 use Rattle.ct_rules_node.specs.Turn.{Turn}
 use Rattle.ct_world.specs.Feeding.{MayTake, Takes}

@@ -1,9 +1,9 @@
 -- The first number of a list that is no node's.
 use Rattle.std.proofs.Common.{◌≡◌, ℕ, zero, suc, ◌<◌, Bool, true, false, List, [], ◌∷◌, length, Some, sym, ap, arith}
 use Rattle.std.specs.Prelude.{drop, nat_lt, slice_index_or, if◌then◌else◌}
-use Rattle.ct_msg.specs.declared.config.Config.{Config}
-use Rattle.ct_cluster.specs.Faults.{no_such_nodes}
-use Rattle.ct_cluster.specs.declared.step.StepFault.TheVariants as fault
+use Rattle.ct_values.specs.declared.config.Config.{Config}
+use Rattle.ct_rules_cluster.specs.Faults.{no_such_nodes}
+use Rattle.ct_rules_cluster.specs.declared.step.StepFault.TheVariants as fault
 
 pub missing_here : (c : Config) (ns : List ℕ) (i : ℕ) → i < length ns → nat_lt (slice_index_or ns i 0) c.nodes ≡ false → no_such_nodes c (drop i ns) ≡ Some (fault.NoSuchNode (slice_index_or ns i 0))
 unfolding no_such_nodes

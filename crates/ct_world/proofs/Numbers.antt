@@ -1,6 +1,6 @@
 -- The message of a number.
 use Rattle.std.proofs.Common.{◌≡◌, ℕ, zero, suc, List, refl, sym, ap, ◌∙◌, arith}
-use Rattle.ct_cluster.specs.Cluster.{Cluster, Sent, sent_at}
+use Rattle.ct_rules_cluster.specs.Cluster.{Cluster, Sent, sent_at}
 use Rattle.ct_mail.specs.Mail.{numbered}
 
 pub numbered_so : (k : ℕ) (w : Cluster) → numbered k w.sent ≡ sent_at k w

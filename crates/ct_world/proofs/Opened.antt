@@ -2,18 +2,18 @@
 use Rattle.std.proofs.Common.{◌≡◌, ◌∙◌, ℕ, zero, suc, ◌+◌, Bool, true, List, [], ◌∷◌, ◌++◌, None, Ok, Some, refl, sym, ap, subst, arith}
 use Rattle.std.specs.Prelude.{map, replicate, slice_get}
 use Rattle.std.proofs.lemmas.List.{length-replicate}
-use Rattle.ct_bytes.specs.declared.address.Address.{Address}
-use Rattle.ct_msg.specs.Config.{Configures}
-use Rattle.ct_msg.specs.declared.config.Config.{Config}
-use Rattle.ct_msg.specs.declared.config.DbDecl.{DbDecl}
-use Rattle.ct_cluster.specs.Cluster as cluster
-use Rattle.ct_cluster.specs.Cluster.{Cluster, everyone, numbers}
-use Rattle.ct_cluster.specs.Steps.{is_counted}
-use Rattle.ct_cluster_form.proofs.Whole.{opens_in_form}
+use Rattle.ct_values.specs.declared.address.Address.{Address}
+use Rattle.ct_values.specs.Config.{Configures}
+use Rattle.ct_values.specs.declared.config.Config.{Config}
+use Rattle.ct_values.specs.declared.config.DbDecl.{DbDecl}
+use Rattle.ct_rules_cluster.specs.Cluster as cluster
+use Rattle.ct_rules_cluster.specs.Cluster.{Cluster, everyone, numbers}
+use Rattle.ct_rules_cluster.specs.Steps.{is_counted}
+use Rattle.ct_law_form_cluster.proofs.WholeCluster.{opens_in_form}
 use Rattle.ct_core.specs.Core.{Core}
 use Rattle.ct_core.proofs.Everyone.{numbers_more}
-use Rattle.ct_node_form.specs.Whole.{HasLimits}
-use Rattle.ct_node_form.proofs.Whole.{configs_have_limits}
+use Rattle.ct_law_form.specs.Whole.{HasLimits}
+use Rattle.ct_law_form.proofs.Whole.{configs_have_limits}
 use Rattle.ct_promise.specs.Promises.{IsConfig}
 use Rattle.ct_rules_node.specs.Node.{opening}
 use Rattle.ct_world.specs.World.{AreSeated, WorldInForm, opened, states_of}

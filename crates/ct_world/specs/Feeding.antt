@@ -1,18 +1,18 @@
 -- A step of the cluster that is not refused: what its parts are asked, and what a node that takes an event does to them.
 use Rattle.std.specs.Prelude.{◌≡◌, ℕ, ◌^◌, ◌+◌, ◌<◌, ◌≤◌, nat_lt, true, Bool, ◌&&◌, List, ◌++◌, length, map, slice_get, Option, None, Some, Result, Ok, Err}
 use Rattle.ct_call.specs.Rules.{Rules}
-use Rattle.ct_cluster.specs.Cluster.{Cluster}
-use Rattle.ct_cluster.specs.Faults.{fault_of, is_allowed}
-use Rattle.ct_cluster.specs.Steps.{fed, frames_of, lines_of, steps}
-use Rattle.ct_cluster.specs.declared.step.Line.{Line}
-use Rattle.ct_cluster.specs.declared.step.Step.{Step}
-use Rattle.ct_cluster.specs.declared.step.StepFault.{StepFault}
-use Rattle.ct_cluster.specs.declared.step.StepFault.TheVariants.{Exhausted, NoMemory}
+use Rattle.ct_rules_cluster.specs.Cluster.{Cluster}
+use Rattle.ct_rules_cluster.specs.Faults.{fault_of, is_allowed}
+use Rattle.ct_rules_cluster.specs.Steps.{fed, frames_of, lines_of, steps}
+use Rattle.ct_rules_cluster.specs.declared.step.Line.{Line}
+use Rattle.ct_rules_cluster.specs.declared.step.Step.{Step}
+use Rattle.ct_rules_cluster.specs.declared.step.StepFault.{StepFault}
+use Rattle.ct_rules_cluster.specs.declared.step.StepFault.TheVariants.{Exhausted, NoMemory}
 use Rattle.ct_core.specs.Core.{Core, IsPlanOf, turn_of}
 use Rattle.ct_frame.specs.declared.event.Event.{Event}
 use Rattle.ct_frame.specs.declared.event.Out.{Out}
 use Rattle.ct_mail.specs.Mail.{posted}
-use Rattle.ct_planned.specs.declared.change.Planned.{Planned}
+use Rattle.ct_node_plan.specs.declared.change.Planned.{Planned}
 use Rattle.ct_rules_node.specs.Steps.{stepped}
 use Rattle.ct_rules_node.specs.Turn.{Turn}
 use Rattle.ct_world.specs.World.{Applies, PartsInForm, cluster_of, world_of}

@@ -1,6 +1,6 @@
 -- What a command at a node may read.
 use Rattle.std.specs.Prelude.{ℕ}
-use Rattle.ct_cluster.specs.Cluster.{node_at}
+use Rattle.ct_rules_cluster.specs.Cluster.{node_at}
 use Rattle.ct_core.specs.Core.{Core}
 use Rattle.ct_world.specs.World.{World}
 

@@ -1,15 +1,15 @@
 //! Why a step is refused, apart from a number that would reach its limit. No call takes memory.
 ghost use Rattle.std.specs.Prelude.{◌≡◌, ◌∷◌, nat_lt, [], MatchOption, slice_get};
-ghost use Rattle.ct_cluster.specs.Cluster.{absent, is_delivered, is_true, is_up, is_waiting, node_at, sent_at};
-ghost use Rattle.ct_cluster.specs.Faults as rule;
-ghost use Rattle.ct_cluster.specs.declared.step.Step.TheVariants as step;
+ghost use Rattle.ct_rules_cluster.specs.Cluster.{absent, is_delivered, is_true, is_up, is_waiting, node_at, sent_at};
+ghost use Rattle.ct_rules_cluster.specs.Faults as rule;
+ghost use Rattle.ct_rules_cluster.specs.declared.step.Step.TheVariants as step;
 ghost use Rattle.ct_rules_node.specs.Node.{is_among, is_serving};
 ghost use Rattle.ct_rules_node.specs.Refusals.{first_of};
 
 use crate::world::World;
-use ct_cluster::step::{Step, StepFault};
 use ct_core::machine::Core;
 use ct_node_state::kinds::{is_persistent, kind_at};
+use ct_rules_cluster::step::{Step, StepFault};
 
 /// Is the node in the list?
 #[tactic(auto, unfolding(ct_rules_node::specs::Node::is_among))]
@@ -20,7 +20,7 @@ fn is_among(node: u32, nodes: &[u32]) -> bool
 }
 
 /// Is the node's mark there and set?
-#[tactic(auto, unfolding(ct_cluster::specs::Cluster::is_true))]
+#[tactic(auto, unfolding(ct_rules_cluster::specs::Cluster::is_true))]
 pub(crate) fn is_marked(marks: &[bool], node: u32) -> bool
     ensures { result ≡ is_true (slice_get marks.now node) }
 {
@@ -32,7 +32,7 @@ pub(crate) fn is_marked(marks: &[bool], node: u32) -> bool
 
 impl World {
     /// There is no node of this number.
-    #[tactic(auto, unfolding(ct_cluster::specs::Faults::no_such_node, ct_rules_node::specs::Refusals::refused_if))]
+    #[tactic(auto, unfolding(ct_rules_cluster::specs::Faults::no_such_node, ct_rules_node::specs::Refusals::refused_if))]
     fn no_such_node(&self, node: u32) -> Option<StepFault>
         ensures { result ≡ rule.no_such_node self.now.config node }
     {
@@ -50,7 +50,7 @@ impl World {
     }
 
     /// The first of these numbers that is no node's.
-    #[tactic(auto, unfolding(ct_cluster::specs::Faults::no_such_nodes))]
+    #[tactic(auto, unfolding(ct_rules_cluster::specs::Faults::no_such_nodes))]
     fn no_such_nodes(&self, nodes: &[u32]) -> Option<StepFault>
         ensures { result ≡ rule.no_such_nodes self.now.config nodes.now }
     {
@@ -63,7 +63,7 @@ impl World {
     }
 
     /// Does the node run?
-    #[tactic(auto, unfolding(ct_cluster::specs::Cluster::is_up))]
+    #[tactic(auto, unfolding(ct_rules_cluster::specs::Cluster::is_up))]
     pub fn is_up(&self, node: u32) -> bool
         ensures { result ≡ is_up node self.now.cluster }
     {
@@ -71,7 +71,7 @@ impl World {
     }
 
     /// The node does not run.
-    #[tactic(auto, unfolding(ct_cluster::specs::Faults::node_down, ct_rules_node::specs::Refusals::refused_if))]
+    #[tactic(auto, unfolding(ct_rules_cluster::specs::Faults::node_down, ct_rules_node::specs::Refusals::refused_if))]
     fn node_down(&self, node: u32) -> Option<StepFault>
         ensures { result ≡ rule.node_down self.now.cluster node }
     {
@@ -82,7 +82,7 @@ impl World {
     }
 
     /// The node runs.
-    #[tactic(auto, unfolding(ct_cluster::specs::Faults::node_up, ct_rules_node::specs::Refusals::refused_if))]
+    #[tactic(auto, unfolding(ct_rules_cluster::specs::Faults::node_up, ct_rules_node::specs::Refusals::refused_if))]
     fn node_up(&self, node: u32) -> Option<StepFault>
         ensures { result ≡ rule.node_up self.now.cluster node }
     {
@@ -93,7 +93,7 @@ impl World {
     }
 
     /// No database has this number.
-    #[tactic(auto, unfolding(ct_cluster::specs::Faults::no_such_db, ct_rules_node::specs::Refusals::refused_if))]
+    #[tactic(auto, unfolding(ct_rules_cluster::specs::Faults::no_such_db, ct_rules_node::specs::Refusals::refused_if))]
     fn no_such_db(&self, db: u32) -> Option<StepFault>
         ensures { result ≡ rule.no_such_db self.now.config db }
     {
@@ -104,7 +104,7 @@ impl World {
     }
 
     /// A persistent database is not vacuumed.
-    #[tactic(auto, unfolding(ct_cluster::specs::Faults::wrong_kind, ct_rules_node::specs::Refusals::refused_if))]
+    #[tactic(auto, unfolding(ct_rules_cluster::specs::Faults::wrong_kind, ct_rules_node::specs::Refusals::refused_if))]
     fn wrong_kind(&self, db: u32) -> Option<StepFault>
         ensures { result ≡ rule.wrong_kind self.now.config db }
     {
@@ -115,7 +115,7 @@ impl World {
     }
 
     /// The node of this number, where there is one.
-    #[tactic(auto, using(crate::proofs::Cores::core_there, crate::proofs::Cores::core_gone), unfolding(ct_cluster::specs::Cluster::node_at, ct_cluster::specs::Cluster::or_absent))]
+    #[tactic(auto, using(crate::proofs::Cores::core_there, crate::proofs::Cores::core_gone), unfolding(ct_rules_cluster::specs::Cluster::node_at, ct_rules_cluster::specs::Cluster::or_absent))]
     pub(crate) fn core(&self, node: u32) -> Option<&Core>
         ensures { MatchOption result (node_at node self.now.cluster ≡ absent) (λ x. node_at node self.now.cluster ≡ x.now.node) }
     {
@@ -123,7 +123,7 @@ impl World {
     }
 
     /// Does the node serve?
-    #[tactic(auto, unfolding(ct_cluster::specs::Cluster::absent, ct_rules_node::specs::Node::is_serving))]
+    #[tactic(auto, unfolding(ct_rules_cluster::specs::Cluster::absent, ct_rules_node::specs::Node::is_serving))]
     fn serves(&self, node: u32) -> bool
         ensures { result ≡ is_serving (node_at node self.now.cluster).phase }
     {
@@ -134,7 +134,7 @@ impl World {
     }
 
     /// Does the node lead its generation with the round completed?
-    #[tactic(auto, unfolding(ct_cluster::specs::Cluster::absent, ct_cluster::specs::Faults::leads))]
+    #[tactic(auto, unfolding(ct_rules_cluster::specs::Cluster::absent, ct_rules_cluster::specs::Faults::leads))]
     fn leads(&self, node: u32) -> bool
         ensures { result ≡ rule.leads (node_at node self.now.cluster).generation (node_at node self.now.cluster).lead }
     {
@@ -145,7 +145,7 @@ impl World {
     }
 
     /// The node does not serve.
-    #[tactic(auto, unfolding(ct_cluster::specs::Faults::not_serving, ct_rules_node::specs::Refusals::refused_if))]
+    #[tactic(auto, unfolding(ct_rules_cluster::specs::Faults::not_serving, ct_rules_node::specs::Refusals::refused_if))]
     fn not_serving(&self, node: u32) -> Option<StepFault>
         ensures { result ≡ rule.not_serving self.now.cluster node }
     {
@@ -156,7 +156,7 @@ impl World {
     }
 
     /// The node does not lead its generation with the round completed.
-    #[tactic(auto, unfolding(ct_cluster::specs::Faults::not_leader, ct_rules_node::specs::Refusals::refused_if))]
+    #[tactic(auto, unfolding(ct_rules_cluster::specs::Faults::not_leader, ct_rules_node::specs::Refusals::refused_if))]
     fn not_leader(&self, node: u32) -> Option<StepFault>
         ensures { result ≡ rule.not_leader self.now.cluster node }
     {
@@ -167,7 +167,7 @@ impl World {
     }
 
     /// Another node holds the recovery lock.
-    #[tactic(auto, unfolding(ct_cluster::specs::Faults::lock_held, ct_rules_node::specs::Refusals::refused_if))]
+    #[tactic(auto, unfolding(ct_rules_cluster::specs::Faults::lock_held, ct_rules_node::specs::Refusals::refused_if))]
     fn lock_held(&self, node: u32) -> Option<StepFault>
         ensures { result ≡ rule.lock_held node self.now.cluster.holder }
     {
@@ -182,7 +182,7 @@ impl World {
     }
 
     /// The node does not hold the recovery lock.
-    #[tactic(auto, unfolding(ct_cluster::specs::Faults::not_holder, ct_rules_node::specs::Refusals::refused_if, ct_bytes::specs::Words::is_this_node))]
+    #[tactic(auto, unfolding(ct_rules_cluster::specs::Faults::not_holder, ct_rules_node::specs::Refusals::refused_if, ct_values::specs::Words::is_this_node))]
     fn not_holder(&self, node: u32) -> Option<StepFault>
         ensures { result ≡ rule.not_holder self.now.cluster node }
     {
@@ -207,7 +207,7 @@ impl World {
     }
 
     /// No message of this number waits.
-    #[tactic(auto, unfolding(ct_cluster::specs::Faults::not_waiting, ct_rules_node::specs::Refusals::refused_if))]
+    #[tactic(auto, unfolding(ct_rules_cluster::specs::Faults::not_waiting, ct_rules_node::specs::Refusals::refused_if))]
     fn not_waiting(&self, number: u64) -> Option<StepFault>
         ensures { result ≡ rule.not_waiting self.now.cluster number }
     {
@@ -218,7 +218,7 @@ impl World {
     }
 
     /// No message of this number was delivered.
-    #[tactic(auto, unfolding(ct_cluster::specs::Faults::not_delivered, ct_rules_node::specs::Refusals::refused_if))]
+    #[tactic(auto, unfolding(ct_rules_cluster::specs::Faults::not_delivered, ct_rules_node::specs::Refusals::refused_if))]
     fn not_delivered(&self, number: u64) -> Option<StepFault>
         ensures { result ≡ rule.not_delivered self.now.cluster number }
     {
@@ -229,7 +229,7 @@ impl World {
     }
 
     /// There is no node of this number, or it does not run.
-    #[tactic(auto, unfolding(ct_cluster::specs::Faults::fault_of, ct_rules_node::specs::Refusals::first_of))]
+    #[tactic(auto, unfolding(ct_rules_cluster::specs::Faults::fault_of, ct_rules_node::specs::Refusals::first_of))]
     fn not_up(&self, node: u32) -> Option<StepFault>
         ensures { result ≡ first_of (rule.no_such_node self.now.config node ∷ rule.node_down self.now.cluster node ∷ []) }
     {
@@ -240,7 +240,7 @@ impl World {
     }
 
     /// A vacuum is refused so.
-    #[tactic(auto, unfolding(ct_cluster::specs::Faults::fault_of, ct_rules_node::specs::Refusals::first_of))]
+    #[tactic(auto, unfolding(ct_rules_cluster::specs::Faults::fault_of, ct_rules_node::specs::Refusals::first_of))]
     fn no_vacuum(&self, node: u32, db: u32) -> Option<StepFault>
         ensures { result ≡ rule.fault_of self.now.config self.now.cluster (step.Vacuum node db) }
     {
@@ -257,7 +257,7 @@ impl World {
     }
 
     /// A recovery is refused so.
-    #[tactic(auto, unfolding(ct_cluster::specs::Faults::fault_of, ct_rules_node::specs::Refusals::first_of, ct_cluster::specs::Faults::no_such_nodes, ct_cluster::specs::Faults::not_member, ct_cluster::specs::Faults::no_such_node, ct_rules_node::specs::Refusals::refused_if))]
+    #[tactic(auto, unfolding(ct_rules_cluster::specs::Faults::fault_of, ct_rules_node::specs::Refusals::first_of, ct_rules_cluster::specs::Faults::no_such_nodes, ct_rules_cluster::specs::Faults::not_member, ct_rules_cluster::specs::Faults::no_such_node, ct_rules_node::specs::Refusals::refused_if))]
     fn no_recovery(&self, node: u32, members: &[u32]) -> Option<StepFault>
         ensures { result ≡ rule.fault_of self.now.config self.now.cluster (step.Recover node members.now) }
     {
@@ -277,7 +277,7 @@ impl World {
     }
 
     /// A takeover is refused so.
-    #[tactic(auto, unfolding(ct_cluster::specs::Faults::fault_of, ct_rules_node::specs::Refusals::first_of))]
+    #[tactic(auto, unfolding(ct_rules_cluster::specs::Faults::fault_of, ct_rules_node::specs::Refusals::first_of))]
     fn no_takeover(&self, node: u32) -> Option<StepFault>
         ensures { result ≡ rule.fault_of self.now.config self.now.cluster (step.Takeover node) }
     {
@@ -291,7 +291,7 @@ impl World {
     }
 
     /// A start is refused so.
-    #[tactic(auto, unfolding(ct_cluster::specs::Faults::fault_of, ct_rules_node::specs::Refusals::first_of))]
+    #[tactic(auto, unfolding(ct_rules_cluster::specs::Faults::fault_of, ct_rules_node::specs::Refusals::first_of))]
     fn no_start(&self, node: u32) -> Option<StepFault>
         ensures { result ≡ rule.fault_of self.now.config self.now.cluster (step.Start node) }
     {
@@ -302,7 +302,7 @@ impl World {
     }
 
     /// The recovery lock is not given back, for this.
-    #[tactic(auto, unfolding(ct_cluster::specs::Faults::fault_of, ct_rules_node::specs::Refusals::first_of))]
+    #[tactic(auto, unfolding(ct_rules_cluster::specs::Faults::fault_of, ct_rules_node::specs::Refusals::first_of))]
     fn no_yield(&self, node: u32) -> Option<StepFault>
         ensures { result ≡ rule.fault_of self.now.config self.now.cluster (step.Yield node) }
     {
@@ -313,7 +313,7 @@ impl World {
     }
 
     /// Why a step is refused: the first that holds, in order.
-    #[tactic(auto, unfolding(ct_cluster::specs::Faults::fault_of, ct_rules_node::specs::Refusals::first_of))]
+    #[tactic(auto, unfolding(ct_rules_cluster::specs::Faults::fault_of, ct_rules_node::specs::Refusals::first_of))]
     pub fn fault(&self, step: &Step) -> Option<StepFault>
         ensures { result ≡ rule.fault_of self.now.config self.now.cluster step.now }
     {

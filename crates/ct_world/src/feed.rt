@@ -1,11 +1,11 @@
 //! An event is given to a node.
 ghost use Rattle.std.specs.Prelude.{◌≡◌, ◌<◌, ◌++◌, ◌&&◌, ◌^◌, true, OnOk, OnErr, Some, length, map, nat_lt, slice_get, slice_set};
 ghost use Rattle.ct_call.specs.Shown.{rules_of};
-ghost use Rattle.ct_cluster.specs.Cluster.{node_at};
-ghost use Rattle.ct_cluster.specs.Steps.{fed};
+ghost use Rattle.ct_rules_cluster.specs.Cluster.{node_at};
+ghost use Rattle.ct_rules_cluster.specs.Steps.{fed};
 ghost use Rattle.ct_core.specs.Core.{Core, IsChangeOf, IsPlanOf};
 ghost use Rattle.ct_mail.specs.Mail.{posted};
-ghost use Rattle.ct_planned.specs.Changes.{changed_by};
+ghost use Rattle.ct_node_plan.specs.Changes.{changed_by};
 ghost use Rattle.ct_rules_node.specs.Coming.{may_come};
 ghost use Rattle.ct_rules_node.specs.Steps.{stepped};
 ghost use Rattle.ct_world.specs.Feeding.{CarriesOut, PlansAt, booked};
@@ -13,16 +13,16 @@ ghost use Rattle.ct_world.specs.World.{Applies, AreSeated, PartsInForm, cluster_
 
 use crate::lines::told;
 use crate::parts::{Books, Parts, Told};
-use ct_bytes::items::Items;
-use ct_bytes::memory::NoMemory;
 use ct_call::table::CallTable;
-use ct_cluster::step::{Line, StepFault};
 use ct_core::machine::Core;
 use ct_frame::event::Event;
 use ct_frame::frame::Frame;
 use ct_frame::header::LIMIT;
-use ct_planned::change::{Change, Planned};
-use ct_turn::turn::CoreFault;
+use ct_node_plan::change::{Change, Planned};
+use ct_node_plan::turn::CoreFault;
+use ct_rules_cluster::step::{Line, StepFault};
+use ct_values::items::Items;
+use ct_values::memory::NoMemory;
 
 /// What comes of an event at the node of this number, as a plan.
 fn plan_at(

@@ -1,18 +1,18 @@
 //! What a step prints, and the messages that it sends.
 ghost use Rattle.std.specs.Prelude.{◌≡◌, ◌∷◌, ◌++◌, ◌+◌, ◌^◌, ◌<◌, ◌≤◌, [], IfOk, OnOk, length, map};
-ghost use Rattle.ct_cluster.specs.Cluster.{able_from};
-ghost use Rattle.ct_cluster.specs.Steps.{frames_of, gone, lines_of};
-ghost use Rattle.ct_cluster.specs.declared.step.Line.TheVariants as line;
+ghost use Rattle.ct_rules_cluster.specs.Cluster.{able_from};
+ghost use Rattle.ct_rules_cluster.specs.Steps.{frames_of, gone, lines_of};
+ghost use Rattle.ct_rules_cluster.specs.declared.step.Line.TheVariants as line;
 ghost use Rattle.ct_mail.specs.Mail.{posted};
 ghost use Rattle.ct_world.specs.Feeding.{TellsAll};
 
 use crate::parts::Told;
-use ct_bytes::items::Items;
-use ct_bytes::memory::NoMemory;
-use ct_cluster::step::{Line, PendingCall, StepFault};
 use ct_frame::event::Out;
 use ct_frame::frame::Frame;
 use ct_frame::header::LIMIT;
+use ct_rules_cluster::step::{Line, PendingCall, StepFault};
+use ct_values::items::Items;
+use ct_values::memory::NoMemory;
 use std::alloc::Global;
 
 /// One line more. Without memory the call fails, and nothing is asked of the list any more.
@@ -41,7 +41,7 @@ pub(crate) fn one(alloc: Global, line: Line) -> Result<Vec<Line>, NoMemory>
 }
 
 /// The lines of a stop, after which these calls are gone.
-#[tactic(auto, unfolding(ct_cluster::specs::Steps::gone))]
+#[tactic(auto, unfolding(ct_rules_cluster::specs::Steps::gone))]
 pub(crate) fn stopped(
     alloc: Global,
     node: u32,
@@ -57,7 +57,7 @@ pub(crate) fn stopped(
 }
 
 /// The nodes that are marked as able.
-#[tactic(auto, unfolding(ct_cluster::specs::Cluster::able_from))]
+#[tactic(auto, unfolding(ct_rules_cluster::specs::Cluster::able_from))]
 pub(crate) fn able_nodes(alloc: Global, marks: &[bool], nodes: u32) -> Result<Items<u32>, NoMemory>
     requires { length marks.now ≡ nodes }
     ensures { IfOk result (λ able. able ≡ able_from 0 marks.now) }
@@ -72,7 +72,7 @@ pub(crate) fn able_nodes(alloc: Global, marks: &[bool], nodes: u32) -> Result<It
 }
 
 /// All that a node does, told. Its first message gets this number; none gets 2^62.
-#[tactic(auto, unfolding(ct_cluster::specs::Steps::frames_of, ct_cluster::specs::Steps::lines_of))]
+#[tactic(auto, unfolding(ct_rules_cluster::specs::Steps::frames_of, ct_rules_cluster::specs::Steps::lines_of))]
 pub(crate) fn told(
     alloc: Global,
     node: u32,

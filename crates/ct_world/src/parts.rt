@@ -1,10 +1,10 @@
 //! What a cluster consists of. While a step changes its parts one after the other, they need not be in form.
-use ct_bytes::items::Items;
-use ct_cluster::step::Line;
 use ct_core::machine::Core;
 use ct_frame::frame::Frame;
 use ct_mail::mail::Mail;
-use ct_msg::config::Config;
+use ct_rules_cluster::step::Line;
+use ct_values::config::Config;
+use ct_values::items::Items;
 use std::alloc::Global;
 
 /// Who holds the recovery lock, the last ticket that was given, and how many client calls got a number.

@@ -2,9 +2,9 @@
 ghost use Rattle.std.specs.Prelude.{◌≡◌, ◌<◌, [], true, false, IfOk, MatchOption, None, Some, length, slice_get, slice_set};
 ghost use Rattle.ct_call.specs.Rules.{Rules};
 ghost use Rattle.ct_call.specs.Shown.{rules_of};
-ghost use Rattle.ct_cluster.specs.Cluster.{Sent, is_up, node_at, pending_in, sent_at};
-ghost use Rattle.ct_cluster.specs.Steps.{fed, without_holder};
-ghost use Rattle.ct_cluster.specs.declared.step.Step.TheVariants as step;
+ghost use Rattle.ct_rules_cluster.specs.Cluster.{Sent, is_up, node_at, pending_in, sent_at};
+ghost use Rattle.ct_rules_cluster.specs.Steps.{fed, without_holder};
+ghost use Rattle.ct_rules_cluster.specs.declared.step.Step.TheVariants as step;
 ghost use Rattle.ct_core.specs.Core as machine;
 ghost use Rattle.ct_frame.specs.declared.event.Event.TheVariants as event;
 ghost use Rattle.ct_rules_node.specs.Coming.{may_come};
@@ -16,15 +16,15 @@ ghost use Rattle.ct_world.specs.World.{Applies, AreSeated, PartsInForm, cluster_
 use crate::faults::is_marked;
 use crate::lines::{able_nodes, one, stopped};
 use crate::parts::Parts;
-use ct_bytes::copies::Duplicate;
-use ct_bytes::items::Items;
-use ct_bytes::memory::NoMemory;
 use ct_call::table::CallTable;
-use ct_cluster::step::{Line, PendingCall, Step, StepFault};
 use ct_core::machine::Core;
 use ct_frame::event::Event;
 use ct_frame::frame::Frame;
-use ct_msg::client::ClientOp;
+use ct_rules_cluster::step::{Line, PendingCall, Step, StepFault};
+use ct_values::client::ClientOp;
+use ct_values::copies::Duplicate;
+use ct_values::items::Items;
+use ct_values::memory::NoMemory;
 
 /// A node has this mark.
 fn mark(marks: &mut Items<bool>, node: u32, mark: bool)
@@ -51,7 +51,7 @@ fn restart_at(cores: &mut Items<Core>, node: u32)
 }
 
 /// The recovery lock is free where this node held it.
-#[tactic(auto, unfolding(ct_cluster::specs::Steps::without_holder, ct_bytes::specs::Words::is_this_node))]
+#[tactic(auto, unfolding(ct_rules_cluster::specs::Steps::without_holder, ct_values::specs::Words::is_this_node))]
 fn without_holder(node: u32, holder: Option<u32>) -> Option<u32>
     ensures { result ≡ without_holder node holder }
 {
@@ -222,7 +222,7 @@ impl Parts {
     }
 
     /// A node gives the recovery lock back.
-    #[tactic(auto, unfolding(ct_cluster::specs::Steps::steps, ct_cluster::specs::Steps::done))]
+    #[tactic(auto, unfolding(ct_rules_cluster::specs::Steps::steps, ct_rules_cluster::specs::Steps::done))]
     fn give_back(&mut self, node: u32) -> Result<Vec<Line>, StepFault>
         requires { MayTake (step.Yield node) self.old }
         ensures step { (rules : Rules) → Takes (λ lines. lines.items) result rules (step.Yield node) self.old self.new }
@@ -248,7 +248,7 @@ impl Parts {
     }
 
     /// A node runs again.
-    #[tactic(auto, using(crate::proofs::Asked::start_node), unfolding(ct_cluster::specs::Steps::steps, ct_cluster::specs::Steps::done))]
+    #[tactic(auto, using(crate::proofs::Asked::start_node), unfolding(ct_rules_cluster::specs::Steps::steps, ct_rules_cluster::specs::Steps::done))]
     fn start(&mut self, node: u32) -> Result<Vec<Line>, StepFault>
         requires { MayTake (step.Start node) self.old }
         ensures step { (rules : Rules) → Takes (λ lines. lines.items) result rules (step.Start node) self.old self.new }
@@ -272,7 +272,7 @@ impl Parts {
     }
 
     /// A node is marked as able to hold addresses, or as not able.
-    #[tactic(auto, using(crate::proofs::Asked::able_node), unfolding(ct_cluster::specs::Steps::steps, ct_cluster::specs::Steps::done))]
+    #[tactic(auto, using(crate::proofs::Asked::able_node), unfolding(ct_rules_cluster::specs::Steps::steps, ct_rules_cluster::specs::Steps::done))]
     fn set_able(&mut self, node: u32, able: bool) -> Result<Vec<Line>, StepFault>
         requires { MayTake (step.Able node able) self.old }
         ensures step { (rules : Rules) → Takes (λ lines. lines.items) result rules (step.Able node able) self.old self.new }

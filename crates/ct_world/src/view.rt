@@ -1,7 +1,7 @@
 //! What a command at a node may read.
 ghost use Rattle.std.specs.Prelude.{◌≡◌, false, true, IfSome, MatchOption};
-ghost use Rattle.ct_cluster.specs.Cluster.{is_up};
-ghost use Rattle.ct_node_form.specs.Whole.{HasLimits};
+ghost use Rattle.ct_rules_cluster.specs.Cluster.{is_up};
+ghost use Rattle.ct_law_form.specs.Whole.{HasLimits};
 ghost use Rattle.ct_world.specs.View.{core_at};
 
 use crate::world::World;

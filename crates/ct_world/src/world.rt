@@ -1,26 +1,26 @@
 //! The cluster.
 ghost use Rattle.std.specs.Prelude.{◌≡◌, true, IfOk, MatchOption, None, Some, map, replicate};
-ghost use Rattle.ct_cluster.specs.Cluster as cluster;
+ghost use Rattle.ct_rules_cluster.specs.Cluster as cluster;
 ghost use Rattle.ct_call.specs.Shown.{rules_of};
-ghost use Rattle.ct_cluster.specs.Cluster.{Sent, numbers, pending, pending_from, sent_at};
-ghost use Rattle.ct_cluster.specs.Faults.{is_allowed};
-ghost use Rattle.ct_cluster.specs.Steps.{applied};
+ghost use Rattle.ct_rules_cluster.specs.Cluster.{Sent, numbers, pending, pending_from, sent_at};
+ghost use Rattle.ct_rules_cluster.specs.Faults.{is_allowed};
+ghost use Rattle.ct_rules_cluster.specs.Steps.{applied};
 ghost use Rattle.ct_mail.specs.Mail.{next_waiting};
-ghost use Rattle.ct_node_form.specs.Whole.{HasLimits};
+ghost use Rattle.ct_law_form.specs.Whole.{HasLimits};
 ghost use Rattle.ct_promise.specs.Promises.{IsConfig};
 ghost use Rattle.ct_rules_node.specs.Numbered.{by_number};
 ghost use Rattle.ct_world.specs.World.{Applies, AreNumbered, opened, states_of};
 
 use crate::parts::{Books, Parts};
-use ct_bytes::items::Items;
-use ct_bytes::memory::NoMemory;
 use ct_call::table::CallTable;
-use ct_cluster::step::{Line, PendingCall, Step, StepFault};
 use ct_core::machine::Core;
 use ct_frame::frame::Frame;
 use ct_mail::mail::Mail;
-use ct_msg::config::Config;
-use ct_pending::pending::by_number;
+use ct_node_view::pending::by_number;
+use ct_rules_cluster::step::{Line, PendingCall, Step, StepFault};
+use ct_values::config::Config;
+use ct_values::items::Items;
+use ct_values::memory::NoMemory;
 use std::alloc::Global;
 use std::marker::Model;
 
@@ -54,7 +54,7 @@ fn marks(alloc: Global, nodes: u32) -> Result<Items<bool>, NoMemory>
 }
 
 /// All nodes of a configuration, each at the opening.
-#[tactic(auto, using(crate::proofs::Opened::opened_more), unfolding(ct_cluster::specs::Cluster::numbers))]
+#[tactic(auto, using(crate::proofs::Opened::opened_more), unfolding(ct_rules_cluster::specs::Cluster::numbers))]
 fn opened(alloc: Global, config: &Config) -> Result<Items<Core>, NoMemory>
     requires { HasLimits config.now }
     ensures { IfOk result (λ cores. cores ≡ map (opened config.now) (numbers 0 config.now.nodes)) }
@@ -154,7 +154,7 @@ impl World {
     }
 
     /// The client calls that wait at all nodes, by number.
-    #[tactic(auto, using(crate::proofs::Pending::are_numbered), unfolding(ct_cluster::specs::Cluster::pending))]
+    #[tactic(auto, using(crate::proofs::Pending::are_numbered), unfolding(ct_rules_cluster::specs::Cluster::pending))]
     pub fn pending(&self) -> Result<Vec<PendingCall>, NoMemory>
         ensures { IfOk result (λ calls. calls.items ≡ pending self.now.cluster) }
     {

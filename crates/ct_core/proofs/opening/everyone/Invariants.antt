@@ -1,5 +1,5 @@
 use Rattle.std.proofs.Common.{◌≡◌, ◌≤◌}
-use Rattle.ct_cluster.specs.Cluster.{numbers}
+use Rattle.ct_rules_cluster.specs.Cluster.{numbers}
 use Rattle.ct_core.proofs.opening.everyone.Given as goal
 
 -- the nodes below this one are there

@@ -1,5 +1,5 @@
 use Rattle.std.proofs.Common.{◌≡◌, drop}
-use Rattle.ct_bytes.specs.Words.{is_nil, others}
+use Rattle.ct_values.specs.Words.{is_nil, others}
 use Rattle.ct_lead.proofs.runs.is_last.Given as goal
 
 -- none before is another

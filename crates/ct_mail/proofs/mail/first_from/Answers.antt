@@ -1,6 +1,6 @@
 use Rattle.std.proofs.Common.{◌≡◌, true, false, length, sym}
 use Rattle.std.proofs.lemmas.Bool.{ltb-false}
-use Rattle.ct_cluster.specs.Cluster.{is_waiting_fate}
+use Rattle.ct_rules_cluster.specs.Cluster.{is_waiting_fate}
 use Rattle.ct_mail.proofs.Waiting.{read_there, goes_past, stops_there, ends_there}
 use Rattle.ct_mail.proofs.mail.first_from.Goals as goal
 

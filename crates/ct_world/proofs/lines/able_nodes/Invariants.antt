@@ -1,5 +1,5 @@
 use Rattle.std.proofs.Common.{◌≡◌, ◌≤◌, ◌++◌, drop}
-use Rattle.ct_cluster.specs.Cluster.{able_from}
+use Rattle.ct_rules_cluster.specs.Cluster.{able_from}
 use Rattle.ct_world.proofs.lines.able_nodes.Given as goal
 
 -- the nodes so far and those of the marks that are left are all

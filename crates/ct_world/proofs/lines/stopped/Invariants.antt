@@ -1,6 +1,6 @@
 use Rattle.std.proofs.Common.{◌≡◌, ◌∷◌, ◌++◌}
-use Rattle.ct_cluster.specs.Steps.{gone}
-use Rattle.ct_cluster.specs.declared.step.Line.TheVariants as line
+use Rattle.ct_rules_cluster.specs.Steps.{gone}
+use Rattle.ct_rules_cluster.specs.declared.step.Line.TheVariants as line
 use Rattle.ct_world.proofs.lines.stopped.Given as goal
 
 -- what is told and what is left to tell is the whole

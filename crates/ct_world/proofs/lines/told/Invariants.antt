@@ -1,6 +1,6 @@
 use Rattle.std.proofs.Common.{◌≡◌, ◌≤◌, ◌+◌, ◌^◌, ◌++◌, length}
 use Rattle.std.specs.Prelude.{map}
-use Rattle.ct_cluster.specs.Steps.{frames_of, lines_of}
+use Rattle.ct_rules_cluster.specs.Steps.{frames_of, lines_of}
 use Rattle.ct_mail.specs.Mail.{posted}
 use Rattle.ct_world.proofs.lines.told.Given as goal
 

@@ -1,5 +1,5 @@
 use Rattle.std.proofs.Common.{◌≡◌, ◌≤◌, map}
-use Rattle.ct_cluster.specs.Cluster.{numbers}
+use Rattle.ct_rules_cluster.specs.Cluster.{numbers}
 use Rattle.ct_world.specs.World.{opened}
 use Rattle.ct_world.proofs.world.opened.Given as goal
 

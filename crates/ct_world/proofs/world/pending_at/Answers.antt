@@ -1,7 +1,7 @@
 use Rattle.std.proofs.Common.{◌≡◌, ◌∙◌, ◌+◌, ◌++◌, List, [], ap, append-nil, sym, arith, refl}
 use Rattle.std.specs.Prelude.{drop}
-use Rattle.ct_cluster.specs.Cluster.{pending_from, pending_in}
-use Rattle.ct_cluster.specs.declared.step.PendingCall.{PendingCall}
+use Rattle.ct_rules_cluster.specs.Cluster.{pending_from, pending_in}
+use Rattle.ct_rules_cluster.specs.declared.step.PendingCall.{PendingCall}
 use Rattle.ct_rules_node.specs.Numbered.{by_number}
 use Rattle.ct_world.specs.World.{states_of}
 use Rattle.ct_world.proofs.Given.{calls_done, calls_more, got_item}

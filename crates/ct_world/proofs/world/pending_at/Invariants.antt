@@ -1,5 +1,5 @@
 use Rattle.std.proofs.Common.{◌≡◌, ◌++◌, drop}
-use Rattle.ct_cluster.specs.Cluster.{pending_from}
+use Rattle.ct_rules_cluster.specs.Cluster.{pending_from}
 use Rattle.ct_world.specs.World.{states_of}
 use Rattle.ct_world.proofs.world.pending_at.Given as goal
 

@@ -1,5 +1,5 @@
 use Rattle.std.proofs.Common.{◌≡◌, true, List, sym, ◌∙◌, subst, arith}
-use Rattle.ct_cluster.specs.Cluster.{Sent, is_waiting}
+use Rattle.ct_rules_cluster.specs.Cluster.{Sent, is_waiting}
 use Rattle.ct_mail.specs.Mail.{fate_of, numbered}
 use Rattle.ct_mail.proofs.Waiting.{ended_later}
 use Rattle.ct_mail.proofs.mail.Mail.end.Goals as goal

@@ -1,11 +1,11 @@
 use Rattle.std.proofs.Common.{◌≡◌, ◌+◌, ℕ, Err, Ok, ap, subst, sym}
-use Rattle.ct_planned.specs.Changes.{changed_by}
+use Rattle.ct_node_plan.specs.Changes.{changed_by}
 use Rattle.ct_world.specs.Feeding.{TellsAll}
 use Rattle.ct_world.specs.World.{AreSeated}
 use Rattle.ct_world.specs.declared.parts.Parts.{Parts}
 use Rattle.std.specs.Prelude.{Vec}
 use Rattle.std.specs.declared.alloc.Global.{Global}
-use Rattle.ct_cluster.specs.declared.step.Line.{Line}
+use Rattle.ct_rules_cluster.specs.declared.step.Line.{Line}
 use Rattle.ct_world.proofs.Fed.{all_done, has_item, seated_set, told_refused}
 use Rattle.ct_world.proofs.Given.{handed_on}
 use Rattle.ct_world.proofs.parts.Parts.carry_out.Goals as goal

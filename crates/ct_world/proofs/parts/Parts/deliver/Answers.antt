@@ -1,5 +1,5 @@
 use Rattle.std.proofs.Common.{◌≡◌, ◌∙◌, refl, sym}
-use Rattle.ct_cluster.specs.Cluster.{sent_at}
+use Rattle.ct_rules_cluster.specs.Cluster.{sent_at}
 use Rattle.ct_world.specs.World.{cluster_of}
 use Rattle.ct_world.proofs.Asked.{deliver_waits}
 use Rattle.ct_world.proofs.Given.{no_frame, none_waits, up_as}

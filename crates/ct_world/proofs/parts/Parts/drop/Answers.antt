@@ -2,13 +2,13 @@ use Rattle.std.proofs.Common.{◌≡◌, ◌∙◌, [], List, Ok, ap, refl, subs
 use Rattle.std.specs.Prelude.{Vec}
 use Rattle.std.specs.declared.alloc.Global.{Global}
 use Rattle.ct_call.specs.Shown.{rules_of}
-use Rattle.ct_cluster.specs.Steps.{fed, steps}
-use Rattle.ct_cluster.specs.declared.step.Line.{Line}
-use Rattle.ct_cluster.specs.declared.step.Line.TheVariants as line
+use Rattle.ct_rules_cluster.specs.Steps.{fed, steps}
+use Rattle.ct_rules_cluster.specs.declared.step.Line.{Line}
+use Rattle.ct_rules_cluster.specs.declared.step.Line.TheVariants as line
 use Rattle.ct_frame.specs.declared.event.Event.{Event}
 use Rattle.ct_frame.specs.declared.event.Event.TheVariants as event
 use Rattle.ct_world.specs.World.{Applies, cluster_of, world_of}
-use Rattle.ct_cluster.specs.Cluster.{is_waiting, sent_at}
+use Rattle.ct_rules_cluster.specs.Cluster.{is_waiting, sent_at}
 use Rattle.ct_world.proofs.Asked.{drop_waits, is_sent}
 use Rattle.ct_world.proofs.Messages.{dropped}
 use Rattle.ct_world.proofs.Numbers.{numbered_so}

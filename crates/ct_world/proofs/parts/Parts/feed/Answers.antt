@@ -4,7 +4,7 @@ use Rattle.ct_call.specs.Shown.{rules_of}
 use Rattle.ct_core.specs.Core.{Core}
 use Rattle.ct_world.proofs.Asked.{few_sent}
 use Rattle.std.specs.declared.alloc.Global.{Global}
-use Rattle.ct_cluster.specs.declared.step.Line.{Line}
+use Rattle.ct_rules_cluster.specs.declared.step.Line.{Line}
 use Rattle.ct_world.proofs.Fed.{books_refused, comes_there, has_item, is_there, plan_refused}
 use Rattle.ct_world.proofs.Given.{handed_on}
 use Rattle.ct_world.proofs.parts.Parts.feed.Goals as goal

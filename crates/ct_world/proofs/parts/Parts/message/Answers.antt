@@ -1,5 +1,5 @@
 use Rattle.std.proofs.Common.{◌≡◌, ◌∙◌, sym, subst, Option, Some, None}
-use Rattle.ct_cluster.specs.Cluster.{Sent, sent_at}
+use Rattle.ct_rules_cluster.specs.Cluster.{Sent, sent_at}
 use Rattle.ct_frame.specs.declared.frame.Frame.{Frame}
 use Rattle.ct_world.specs.World.{cluster_of}
 use Rattle.ct_world.proofs.Numbers.{numbered_so}

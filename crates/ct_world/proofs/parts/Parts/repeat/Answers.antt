@@ -2,14 +2,14 @@ use Rattle.std.proofs.Common.{◌≡◌, ◌∙◌, ◌∷◌, [], List, Ok, ap,
 use Rattle.std.specs.Prelude.{Vec}
 use Rattle.std.specs.declared.alloc.Global.{Global}
 use Rattle.ct_call.specs.Shown.{rules_of}
-use Rattle.ct_cluster.specs.Steps.{fed, steps}
-use Rattle.ct_cluster.specs.declared.step.Line.{Line}
-use Rattle.ct_cluster.specs.declared.step.Line.TheVariants as line
+use Rattle.ct_rules_cluster.specs.Steps.{fed, steps}
+use Rattle.ct_rules_cluster.specs.declared.step.Line.{Line}
+use Rattle.ct_rules_cluster.specs.declared.step.Line.TheVariants as line
 use Rattle.ct_frame.specs.declared.event.Event.{Event}
 use Rattle.ct_frame.specs.declared.event.Event.TheVariants as event
 use Rattle.ct_world.specs.World.{Applies, cluster_of, world_of}
-use Rattle.ct_cluster.specs.Cluster.{is_delivered, sent_at}
-use Rattle.ct_cluster.specs.Steps.{repeat}
+use Rattle.ct_rules_cluster.specs.Cluster.{is_delivered, sent_at}
+use Rattle.ct_rules_cluster.specs.Steps.{repeat}
 use Rattle.ct_world.proofs.Asked.{message_comes, message_node, repeat_delivered}
 use Rattle.ct_world.proofs.Given.{at_frame, no_frame, none_delivered, rule_as, up_as}
 use Rattle.ct_world.proofs.Messages.{again, again_lost}

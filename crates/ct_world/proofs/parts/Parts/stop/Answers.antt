@@ -1,6 +1,6 @@
 use Rattle.std.proofs.Common.{◌≡◌, ◌∙◌, ◌<◌, List, length, arith, ap, refl, subst, sym, Some}
 use Rattle.std.specs.Prelude.{slice_get}
-use Rattle.ct_cluster.specs.Steps.{steps}
+use Rattle.ct_rules_cluster.specs.Steps.{steps}
 use Rattle.ct_core.specs.Core.{Core}
 use Rattle.ct_world.proofs.Asked.{stop_node}
 use Rattle.ct_world.proofs.Fed.{has_item, is_there}

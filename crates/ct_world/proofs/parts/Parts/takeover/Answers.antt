@@ -2,14 +2,14 @@ use Rattle.std.proofs.Common.{◌≡◌, ◌∙◌, [], Bool, List, ℕ, true, a
 use Rattle.std.specs.Prelude.{Vec}
 use Rattle.std.specs.declared.alloc.Global.{Global}
 use Rattle.ct_call.specs.Shown.{rules_of}
-use Rattle.ct_cluster.specs.Steps.{fed, steps}
-use Rattle.ct_cluster.specs.declared.step.Line.{Line}
-use Rattle.ct_cluster.specs.declared.step.Line.TheVariants as line
+use Rattle.ct_rules_cluster.specs.Steps.{fed, steps}
+use Rattle.ct_rules_cluster.specs.declared.step.Line.{Line}
+use Rattle.ct_rules_cluster.specs.declared.step.Line.TheVariants as line
 use Rattle.ct_frame.specs.declared.event.Event.{Event}
 use Rattle.ct_frame.specs.declared.event.Event.TheVariants as event
 use Rattle.ct_rules_node.specs.Coming.{may_come}
 use Rattle.ct_world.specs.World.{Applies, cluster_of, world_of}
-use Rattle.ct_cluster.specs.Cluster.{able_from, node_at}
+use Rattle.ct_rules_cluster.specs.Cluster.{able_from, node_at}
 use Rattle.ct_world.proofs.Asked.{takeover_comes, takeover_node}
 use Rattle.ct_world.proofs.Given.{fed_as}
 use Rattle.ct_world.proofs.parts.Parts.takeover.Goals as goal

@@ -2,9 +2,9 @@ use Rattle.std.proofs.Common.{[], refl}
 use Rattle.std.specs.Prelude.{Vec}
 use Rattle.std.specs.declared.alloc.Global.{Global}
 use Rattle.ct_call.specs.Shown.{rules_of}
-use Rattle.ct_cluster.specs.Steps.{fed, steps}
-use Rattle.ct_cluster.specs.declared.step.Line.{Line}
-use Rattle.ct_cluster.specs.declared.step.Line.TheVariants as line
+use Rattle.ct_rules_cluster.specs.Steps.{fed, steps}
+use Rattle.ct_rules_cluster.specs.declared.step.Line.{Line}
+use Rattle.ct_rules_cluster.specs.declared.step.Line.TheVariants as line
 use Rattle.ct_frame.specs.declared.event.Event.{Event}
 use Rattle.ct_frame.specs.declared.event.Event.TheVariants as event
 use Rattle.ct_rules_node.specs.Coming.{may_come}

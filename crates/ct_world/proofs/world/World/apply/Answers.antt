@@ -2,7 +2,7 @@ use Rattle.std.proofs.Common.{sym}
 use Rattle.std.specs.Prelude.{Vec}
 use Rattle.std.specs.declared.alloc.Global.{Global}
 use Rattle.ct_call.specs.Shown.{rules_of}
-use Rattle.ct_cluster.specs.declared.step.Line.{Line}
+use Rattle.ct_rules_cluster.specs.declared.step.Line.{Line}
 use Rattle.ct_world.proofs.Kept.{is_refused}
 use Rattle.ct_world.proofs.world.World.apply.Goals as goal
 

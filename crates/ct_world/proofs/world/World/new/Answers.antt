@@ -1,5 +1,5 @@
 use Rattle.std.proofs.Common.{List, None, subst, sym}
-use Rattle.ct_cluster.specs.Cluster.{Sent}
+use Rattle.ct_rules_cluster.specs.Cluster.{Sent}
 use Rattle.ct_world.specs.World.{WorldInForm, states_of}
 use Rattle.ct_world.proofs.Opened.{opens}
 use Rattle.ct_world.proofs.world.World.new.Goals as goal

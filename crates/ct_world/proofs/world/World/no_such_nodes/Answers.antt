@@ -1,5 +1,5 @@
 use Rattle.std.proofs.Common.{◌≡◌, ◌∙◌, ℕ, suc, ◌+◌, drop, ap, sym, arith}
-use Rattle.ct_cluster.specs.Faults.{no_such_nodes}
+use Rattle.ct_rules_cluster.specs.Faults.{no_such_nodes}
 use Rattle.ct_world.proofs.Missing.{missing_here, there_here}
 use Rattle.ct_world.proofs.world.World.no_such_nodes.Goals as goal
 

@@ -1,5 +1,5 @@
 use Rattle.std.proofs.Common.{◌≡◌, drop}
-use Rattle.ct_cluster.specs.Faults.{no_such_nodes}
+use Rattle.ct_rules_cluster.specs.Faults.{no_such_nodes}
 use Rattle.ct_world.proofs.world.World.no_such_nodes.Given as goal
 
 -- what is left tells what the whole does

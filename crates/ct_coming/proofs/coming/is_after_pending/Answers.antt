@@ -1,5 +1,0 @@
-use Rattle.ct_coming.proofs.Waiting.{before_all}
-use Rattle.ct_coming.proofs.coming.is_after_pending.Goals as goal
-
-pub returns : goal.returns
-returns c = before_all c.args.call c.args.core.now.pnn c.args.core.now.node c.in_ok-calls.calls.items c.as_slice.result.now c.are_before.result c.in_ok-calls.ensures c.as_slice.ensures.value c.are_before.ensures

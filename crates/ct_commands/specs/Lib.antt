@@ -1,4 +1,0 @@
-pub mod Lists
-pub mod Status
-pub mod Dumps
-pub mod Command

@@ -1,0 +1,9 @@
+pub mod Leading
+pub mod Freezing
+pub mod Pulling
+pub mod Gathering
+pub mod Pushing
+pub mod WholeRounds
+pub mod Takeovers
+pub mod WholeSteps
+pub mod Opening

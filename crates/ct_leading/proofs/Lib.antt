@@ -1,4 +1,0 @@
-pub mod Acks
-pub mod Begins
-pub mod Planned
-pub mod Replies

@@ -1,0 +1,4 @@
+pub mod Keys
+pub mod Beside
+pub mod Lengths
+pub mod Sending

@@ -1,0 +1,115 @@
+//! Plans that send, by what they change: nothing, all but the databases, or all of a node.
+ghost use Rattle.std.specs.Prelude.{◌≡◌, ◌++◌, ◌∷◌, [], OnOk};
+ghost use Rattle.ct_rules_node.specs.Turn.{begins, notes, posts, posts_all, with_lead};
+ghost use Rattle.ct_node_plan.specs.Changes.{IsPlanned, Plans};
+ghost use Rattle.ct_node_plan.specs.declared.change.Change.TheVariants as change;
+
+use crate::change::{Change, Planned};
+use crate::turn::{CoreFault, Turn};
+use ct_frame::event::{Note, Out};
+use ct_frame::frame::{Frame, Msg};
+use ct_lead::lead::Lead;
+use ct_node_state::node::Node;
+use ct_values::items::Items;
+use ct_values::memory::NoMemory;
+
+/// This is done after all else.
+fn add(outs: &mut Items<Out>, out: Out) -> Result<(), NoMemory>
+    ensures { OnOk result (outs.new ≡ outs.old ++ out ∷ []) }
+{
+    outs.push(out)?;
+    Ok(())
+}
+
+/// Nothing changes, and a message of a generation is sent.
+#[tactic(auto, unfolding(ct_rules_node::specs::Turn::posts, ct_rules_node::specs::Turn::does, crate::specs::Changes::changed_by))]
+pub fn posts(
+    node: &Node,
+    generation: u64,
+    me: u32,
+    receiver: u32,
+    msg: Msg,
+) -> Result<Planned, CoreFault>
+    ensures { Plans result (posts generation me receiver msg (begins node.now)) node.now }
+{
+    let mut outs = Items::empty(node.alloc);
+    add(
+        &mut outs,
+        Out::Send(Frame {
+            generation,
+            sender: me,
+            receiver,
+            msg,
+        }),
+    )?;
+    Ok(Planned {
+        change: Change::Nothing,
+        outs,
+    })
+}
+
+/// What a step makes of the node, and what it does.
+#[tactic(auto, unfolding(crate::specs::Changes::changed_by))]
+pub fn whole(turn: Turn, node: &Node) -> Planned
+    ensures { IsPlanned result turn node.now }
+{
+    let _next = node.next;
+    Planned {
+        change: Change::Whole(turn.node),
+        outs: turn.outs,
+    }
+}
+
+/// What a step makes of all but the databases, and what it does.
+pub fn beside(turn: Turn) -> Planned
+    ensures { result ≡ record { change = change.Beside turn.node; outs = turn.outs } }
+{
+    Planned {
+        change: Change::Beside(turn.node),
+        outs: turn.outs,
+    }
+}
+
+/// The node leads this from now on.
+#[tactic(auto, using(crate::proofs::Beside::planned_beside), unfolding(ct_rules_node::specs::Turn::with_lead))]
+pub fn leads(node: &Node, lead: Lead) -> Result<Planned, CoreFault>
+    ensures { Plans result (with_lead lead (begins node.now)) node.now }
+{
+    let turn = Turn::begins(node.leading(lead)?);
+    Ok(beside(turn))
+}
+
+/// The node leads this from now on, and the same message of a generation is sent to several nodes, in order.
+pub fn leads_and_posts(
+    node: &Node,
+    lead: Lead,
+    generation: u64,
+    me: u32,
+    nodes: &[u32],
+    msg: &Msg,
+) -> Result<Planned, CoreFault>
+    ensures { Plans result (posts_all generation me nodes.now msg.now (with_lead lead (begins node.now))) node.now }
+{
+    let mut turn = Turn::begins(node.leading(lead)?);
+    turn.posts_all(generation, me, nodes, msg)?;
+    Ok(beside(turn))
+}
+
+/// The node leads this from now on and notes something, and the same message of a generation is sent to several nodes, in
+/// order.
+pub fn leads_notes_and_posts(
+    node: &Node,
+    lead: Lead,
+    note: Note,
+    generation: u64,
+    me: u32,
+    nodes: &[u32],
+    msg: &Msg,
+) -> Result<Planned, CoreFault>
+    ensures { Plans result (posts_all generation me nodes.now msg.now (notes note (with_lead lead (begins node.now)))) node.now }
+{
+    let mut turn = Turn::begins(node.leading(lead)?);
+    turn.notes(note)?;
+    turn.posts_all(generation, me, nodes, msg)?;
+    Ok(beside(turn))
+}

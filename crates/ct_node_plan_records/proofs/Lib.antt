@@ -1,0 +1,9 @@
+pub mod Updates
+pub mod Writing
+pub mod Releasing
+pub mod Serving
+pub mod Left
+pub mod Records
+pub mod Taking
+pub mod Keys
+pub mod Walking

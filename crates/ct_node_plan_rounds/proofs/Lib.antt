@@ -1,0 +1,10 @@
+pub mod Kept
+pub mod Filling
+pub mod Made
+pub mod Pushed
+pub mod Acks
+pub mod Begins
+pub mod Planned
+pub mod Replies
+pub mod Counting
+pub mod Thawed

@@ -1,0 +1,7 @@
+pub mod Leads
+pub mod Records
+pub mod Retried
+pub mod Acks
+pub mod Begins
+pub mod Follows
+pub mod Planned

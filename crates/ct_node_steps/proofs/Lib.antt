@@ -1,3 +1,0 @@
-pub mod Takeovers
-pub mod Whole
-pub mod Opening

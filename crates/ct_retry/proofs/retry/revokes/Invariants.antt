@@ -1,7 +1,0 @@
-use Rattle.std.proofs.Common.{◌≡◌, ◌++◌, drop}
-use Rattle.ct_retry.specs.Again.{all_revoked}
-use Rattle.ct_retry.proofs.retry.revokes.Given as goal
-
--- the Revokes so far and of the databases that are left
-abbrev pub invariant-loop-i : goal.invariant-loop-i
-invariant-loop-i l = l.outs ++ all_revoked l.generation l.me l.i (drop l.i l.node.dbs) ≡ l.initial.outs ++ all_revoked l.generation l.me 0 l.node.dbs

@@ -1,5 +1,0 @@
-use Rattle.ct_takeover.proofs.Places.{share_is_own}
-use Rattle.ct_takeover.proofs.laws.shares_own.Goals as goal
-
-pub returns : goal.returns
-returns c = share_is_own

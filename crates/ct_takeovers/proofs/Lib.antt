@@ -1,4 +1,0 @@
-pub mod Acks
-pub mod Begins
-pub mod Follows
-pub mod Planned

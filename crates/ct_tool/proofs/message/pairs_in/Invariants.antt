@@ -1,6 +1,0 @@
-use Rattle.std.proofs.Common.{◌≡◌, ◌+◌, drop}
-use Rattle.ct_tool.specs.Message.{pairs_in}
-use Rattle.ct_tool.proofs.message.pairs_in.Given as goal
-
-abbrev pub invariant-loop-table : goal.invariant-loop-table
-invariant-loop-table l = l.pairs + pairs_in (drop l.table-index l.tables) ≡ pairs_in l.tables

@@ -1,4 +1,0 @@
-pub mod Words
-pub mod Answer
-pub mod Message
-pub mod Line

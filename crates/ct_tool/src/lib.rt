@@ -1,8 +1,0 @@
-//! The text of what a cluster prints.
-#![tactic(auto)]
-
-pub mod answer;
-pub mod line;
-pub mod message;
-pub mod note;
-pub mod words;

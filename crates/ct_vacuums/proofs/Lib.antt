@@ -1,5 +1,0 @@
-pub mod Left
-pub mod Records
-pub mod Taking
-pub mod Keys
-pub mod Walking

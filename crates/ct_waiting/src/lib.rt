@@ -1,4 +1,0 @@
-//! The calls that wait for records at a node.
-#![tactic(auto)]
-
-pub mod waiting;
