@@ -2,7 +2,7 @@
 use Rattle.std.proofs.Common.{◌≡◌, ◌≢◌, ℕ, ◌+◌, ◌≤◌, Bool, true, false, cond, List, [], ◌∷◌, ◌++◌, length, map, Option, None, Some, refl, sym, ap, ◌∙◌, subst, arith, inl, inr, ⊎_elim}
 use Rattle.std.specs.Prelude.{◌⊎◌, nat_eq, ◌||◌}
 use Rattle.std.specs.List.{AllByRecursion, list_any}
-use Rattle.ct_msg.specs.declared.client.Answer.{Answer}
+use Rattle.ct_values.specs.declared.client.Answer.{Answer}
 use Rattle.ct_frame.specs.declared.event.Note.{Note}
 use Rattle.ct_frame.specs.declared.event.Note.TheVariants as note
 use Rattle.ct_frame.specs.declared.event.Out.{Out}
@@ -11,14 +11,14 @@ use Rattle.ct_frame.specs.declared.frame.Frame.{Frame}
 use Rattle.ct_frame.specs.declared.frame.Msg.{Msg}
 use Rattle.ct_frame.specs.declared.frame.Msg.TheVariants as msg
 use Rattle.ct_merge.proofs.Among.{In}
-use Rattle.ct_cluster.specs.Cluster.{Sent}
-use Rattle.ct_cluster.specs.Labels.{Label, Answered, Unasked, Begun, Noted, Ticket, Yielded, Stopped, Started, Pushed, Takeover, Taken}
-use Rattle.ct_cluster.specs.Steps.{frames_of}
-use Rattle.ct_cluster.specs.Traces.{sent_label}
-use Rattle.ct_cluster.specs.declared.step.PendingCall.{PendingCall}
-use Rattle.ct_law_shown.specs.Shown.{labels_of}
-use Rattle.ct_law_shown.specs.Waiting.{answered}
-use Rattle.ct_law_steady.proofs.Steady.{IsOwn}
+use Rattle.ct_rules_cluster.specs.Cluster.{Sent}
+use Rattle.ct_rules_cluster.specs.Labels.{Label, Answered, Unasked, Begun, Noted, Ticket, Yielded, Stopped, Started, Pushed, Takeover, Taken}
+use Rattle.ct_rules_cluster.specs.Steps.{frames_of}
+use Rattle.ct_rules_cluster.specs.Traces.{sent_label}
+use Rattle.ct_rules_cluster.specs.declared.step.PendingCall.{PendingCall}
+use Rattle.ct_law_generation_node.specs.Shown.{labels_of}
+use Rattle.ct_law_generation_node.specs.Waiting.{answered}
+use Rattle.ct_law_plain.proofs.Steady.{IsOwn}
 use Rattle.ct_law_acts.proofs.Steps.{is_note}
 
 -- ---- rounds

@@ -1,3 +1,13 @@
 pub mod Steps
 pub mod Counted
 pub mod Numbers
+pub mod Waiting
+pub mod Whole
+pub mod Known
+pub mod Calling
+pub mod CallerSteps
+pub mod Reached
+pub mod Telling
+pub mod Asked
+pub mod Parts
+pub mod Walk

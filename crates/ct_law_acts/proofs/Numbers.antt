@@ -1,20 +1,20 @@
 -- A step counts a client's call, and no other.
 use Rattle.std.proofs.Common.{◌≡◌, ℕ, zero, suc, ◌+◌, true, false, cond, Bool, List, [], ◌∷◌, set, Option, None, Some, refl, sym, ap, ◌∙◌, subst}
 use Rattle.std.specs.Prelude.{Ok}
-use Rattle.ct_msg.specs.declared.config.Config.{Config}
+use Rattle.ct_values.specs.declared.config.Config.{Config}
 use Rattle.ct_frame.specs.declared.event.Event.{Event}
 use Rattle.ct_frame.specs.declared.event.Event.TheVariants as event
 use Rattle.ct_call.specs.Rules.{Rules}
-use Rattle.ct_cluster.specs.Cluster.{Cluster, Sent, Fate, Delivered, Dropped, is_up, node_at, sent_at, able_from}
-use Rattle.ct_cluster.specs.Faults.{fault_of}
-use Rattle.ct_cluster.specs.Steps.{Stepped, with_node, put, fed, done, with_fate, deliver, drop, repeat, stop, recover, steps, steps_or, applied}
-use Rattle.ct_cluster.specs.declared.step.Line.{Line}
-use Rattle.ct_cluster.specs.declared.step.Line.TheVariants as line
-use Rattle.ct_cluster.specs.declared.step.Step.{Step}
-use Rattle.ct_cluster.specs.declared.step.Step.TheVariants as step
-use Rattle.ct_cluster.specs.declared.step.StepFault.{StepFault}
-use Rattle.ct_law_cluster.proofs.Fed.{fed_is}
-use Rattle.ct_law_callers.proofs.Steps.{is_client}
+use Rattle.ct_rules_cluster.specs.Cluster.{Cluster, Sent, Fate, Delivered, Dropped, is_up, node_at, sent_at, able_from}
+use Rattle.ct_rules_cluster.specs.Faults.{fault_of}
+use Rattle.ct_rules_cluster.specs.Steps.{Stepped, with_node, put, fed, done, with_fate, deliver, drop, repeat, stop, recover, steps, steps_or, applied}
+use Rattle.ct_rules_cluster.specs.declared.step.Line.{Line}
+use Rattle.ct_rules_cluster.specs.declared.step.Line.TheVariants as line
+use Rattle.ct_rules_cluster.specs.declared.step.Step.{Step}
+use Rattle.ct_rules_cluster.specs.declared.step.Step.TheVariants as step
+use Rattle.ct_rules_cluster.specs.declared.step.StepFault.{StepFault}
+use Rattle.ct_law_generation_cluster.proofs.Fed.{fed_is}
+use Rattle.ct_law_acts.proofs.CallerSteps.{is_client}
 
 fed_calls : (c : Config) (rules : Rules) (n : ℕ) (e : Event) (own : List Line) (v : Cluster) (x : Stepped) → fed c rules n e own v ≡ Ok x → x.cluster.calls ≡ v.calls
 unfolding put with_node

@@ -2,9 +2,9 @@
 use Rattle.std.proofs.Common.{◌≡◌, ◌≢◌, ℕ, ◌+◌, ◌<◌, Bool, true, false, cond, List, [], ◌∷◌, ◌++◌, length, map, set, Option, None, Some, refl, sym, ap, ◌∙◌, subst, arith, inl, inr}
 use Rattle.std.specs.Prelude.{◌⊎◌, Ok, slice_get}
 use Rattle.std.specs.List.{list_any}
-use Rattle.ct_msg.specs.declared.client.ClientOp.{ClientOp}
-use Rattle.ct_msg.specs.declared.client.ClientOp.TheVariants as op
-use Rattle.ct_msg.specs.declared.config.Config.{Config}
+use Rattle.ct_values.specs.declared.client.ClientOp.{ClientOp}
+use Rattle.ct_values.specs.declared.client.ClientOp.TheVariants as op
+use Rattle.ct_values.specs.declared.config.Config.{Config}
 use Rattle.ct_frame.specs.declared.event.Event.{Event}
 use Rattle.ct_frame.specs.declared.event.Event.TheVariants as event
 use Rattle.ct_frame.specs.declared.frame.Frame.{Frame}
@@ -12,24 +12,24 @@ use Rattle.ct_call.specs.Rules.{Rules}
 use Rattle.ct_rules_node.specs.Node.{Node, restarted}
 use Rattle.ct_rules_node.specs.Turn.{Turn, begins}
 use Rattle.ct_rules_node.specs.Steps.{happens}
-use Rattle.ct_cluster.specs.Cluster.{Cluster, Sent, Delivered, Dropped, is_up, node_at, or_absent, sent_at, pending, pending_at, able_from}
-use Rattle.ct_cluster.specs.Faults.{fault_of}
-use Rattle.ct_cluster.specs.Labels.{Label, Begun, Noted, Ticket, Yielded, Stopped, Started, Takeover}
-use Rattle.ct_cluster.specs.Steps.{Stepped, frames_of, lines_of, with_node, put, fed, done, with_fate, deliver, drop, repeat, without_holder, gone, stop, recover, steps, steps_or, applied}
-use Rattle.ct_cluster.specs.Traces.{own_labels, begun_by, is_refused, members_of}
-use Rattle.ct_cluster.specs.declared.step.Line.{Line}
-use Rattle.ct_cluster.specs.declared.step.Line.TheVariants as line
-use Rattle.ct_cluster.specs.declared.step.PendingCall.{PendingCall}
-use Rattle.ct_cluster.specs.declared.step.Step.{Step}
-use Rattle.ct_cluster.specs.declared.step.Step.TheVariants as step
-use Rattle.ct_cluster.specs.declared.step.StepFault.{StepFault}
-use Rattle.ct_law_shown.specs.Shown.{labels_of}
-use Rattle.ct_law_shown.specs.Waiting.{answerable, told_line, told_lines, told_step}
-use Rattle.ct_law_shown.proofs.Hearing.{labels_are}
-use Rattle.ct_law_node.proofs.Putting.{own_node, other_node}
-use Rattle.ct_law_cluster.proofs.Fed.{fed_is}
-use Rattle.ct_law_cluster.proofs.Faulting.{runs}
-use Rattle.ct_law_walk.proofs.Parts.{fate_frames, fate_nodes, sent_more}
+use Rattle.ct_rules_cluster.specs.Cluster.{Cluster, Sent, Delivered, Dropped, is_up, node_at, or_absent, sent_at, pending, pending_at, able_from}
+use Rattle.ct_rules_cluster.specs.Faults.{fault_of}
+use Rattle.ct_rules_cluster.specs.Labels.{Label, Begun, Noted, Ticket, Yielded, Stopped, Started, Takeover}
+use Rattle.ct_rules_cluster.specs.Steps.{Stepped, frames_of, lines_of, with_node, put, fed, done, with_fate, deliver, drop, repeat, without_holder, gone, stop, recover, steps, steps_or, applied}
+use Rattle.ct_rules_cluster.specs.Traces.{own_labels, begun_by, is_refused, members_of}
+use Rattle.ct_rules_cluster.specs.declared.step.Line.{Line}
+use Rattle.ct_rules_cluster.specs.declared.step.Line.TheVariants as line
+use Rattle.ct_rules_cluster.specs.declared.step.PendingCall.{PendingCall}
+use Rattle.ct_rules_cluster.specs.declared.step.Step.{Step}
+use Rattle.ct_rules_cluster.specs.declared.step.Step.TheVariants as step
+use Rattle.ct_rules_cluster.specs.declared.step.StepFault.{StepFault}
+use Rattle.ct_law_generation_node.specs.Shown.{labels_of}
+use Rattle.ct_law_generation_node.specs.Waiting.{answerable, told_line, told_lines, told_step}
+use Rattle.ct_law_generation_node.proofs.Hearing.{labels_are}
+use Rattle.ct_law_generation_node.proofs.Putting.{own_node, other_node}
+use Rattle.ct_law_generation_cluster.proofs.Fed.{fed_is}
+use Rattle.ct_law_generation_cluster.proofs.Faulting.{runs}
+use Rattle.ct_law_acts.proofs.Parts.{fate_frames, fate_nodes, sent_more}
 
 -- is the label a node's note, or that it stopped?
 unfoldable pub is_note : Label → Bool

@@ -3,29 +3,29 @@
 use Rattle.std.proofs.Common.{◌≡◌, ◌≢◌, ℕ, Bool, true, false, cond, List, [], ◌∷◌, refl, sym, ap, ◌∙◌, subst, arith, ⊎_elim}
 use Rattle.std.specs.Prelude.{Result, Ok, Err}
 use Rattle.std.proofs.lemmas.Bool.{cases_eq}
-use Rattle.ct_bytes.specs.declared.address.Address.{Address}
-use Rattle.ct_msg.specs.declared.config.Config.{Config}
+use Rattle.ct_values.specs.declared.address.Address.{Address}
+use Rattle.ct_values.specs.declared.config.Config.{Config}
 use Rattle.ct_frame.specs.declared.event.Note.{Note}
 use Rattle.ct_frame.specs.declared.event.Note.TheVariants as note
 use Rattle.ct_call.specs.Rules.{Rules}
-use Rattle.ct_cluster.specs.Cluster.{Cluster, opening}
-use Rattle.ct_cluster.specs.Faults.{is_allowed}
-use Rattle.ct_cluster.specs.Labels.{Label, Answered, Unasked, Begun, Noted, Ticket, Yielded, Stopped, Started, Pushed, Takeover, Taken}
-use Rattle.ct_cluster.specs.Steps.{Stepped, applied}
-use Rattle.ct_cluster.specs.declared.step.Step.{Step}
-use Rattle.ct_cluster.specs.declared.step.StepFault.{StepFault}
+use Rattle.ct_rules_cluster.specs.Cluster.{Cluster, opening}
+use Rattle.ct_rules_cluster.specs.Faults.{is_allowed}
+use Rattle.ct_rules_cluster.specs.Labels.{Label, Answered, Unasked, Begun, Noted, Ticket, Yielded, Stopped, Started, Pushed, Takeover, Taken}
+use Rattle.ct_rules_cluster.specs.Steps.{Stepped, applied}
+use Rattle.ct_rules_cluster.specs.declared.step.Step.{Step}
+use Rattle.ct_rules_cluster.specs.declared.step.StepFault.{StepFault}
 use Rattle.ct_register.proofs.Places.{at_same, at_other}
 use Rattle.ct_register.specs.Lines
 use Rattle.ct_promise.specs.Promises.{IsConfig}
-use Rattle.ct_law_shown.specs.Waiting.{Outcome, unchanged, came_of, outcome}
-use Rattle.ct_law_line.proofs.Lives.{Lives}
-use Rattle.ct_law_parts.proofs.Parts.{Choice, goes, goes_on, note_goes, PlacesNeed, AllNeed}
-use Rattle.ct_law_parts.proofs.Rounds.{RoundsNeed}
-use Rattle.ct_law_stores.proofs.Places.{Turns}
-use Rattle.ct_law_places.proofs.Aside.{IsAside, answer_aside}
-use Rattle.ct_law_places.proofs.Facts.{Spots, spots, RoundsHold, MailStands, Holds}
-use Rattle.ct_law_walk.proofs.Parts.{nodes_of, frames_in}
-use Rattle.ct_law_assigned.proofs.Law.{Before, StepHolds, step_holds}
+use Rattle.ct_law_generation_node.specs.Waiting.{Outcome, unchanged, came_of, outcome}
+use Rattle.ct_law_run_lines.proofs.Lives.{Lives}
+use Rattle.ct_law_registers.proofs.Parts.{Choice, goes, goes_on, note_goes, PlacesNeed, AllNeed}
+use Rattle.ct_law_registers.proofs.Rounds.{RoundsNeed}
+use Rattle.ct_law_registers.proofs.Places.{Turns}
+use Rattle.ct_law_addresses_kept.proofs.Aside.{IsAside, answer_aside}
+use Rattle.ct_law_addresses_kept.proofs.Facts.{Spots, spots, RoundsHold, MailStands, Holds}
+use Rattle.ct_law_acts.proofs.Parts.{nodes_of, frames_in}
+use Rattle.ct_law_addresses.proofs.AddressLaw.{Before, StepHolds, step_holds}
 use Rattle.ct_law_addresses.specs.Addresses.{AddressesStand}
 use Rattle.ct_law_addresses.proofs.Given.{rounds_given, before_given}
 use Rattle.ct_law_addresses.proofs.Stood.{addresses_stand, opened_holds, opened_mail, opened_nowhere}

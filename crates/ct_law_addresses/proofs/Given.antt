@@ -2,24 +2,24 @@
 use Rattle.std.proofs.Common.{◌≡◌, ◌≢◌, ℕ, ◌<◌, Bool, true, false, List, refl, sym, ◌∙◌, subst, arith, ⊎_elim}
 use Rattle.std.specs.Prelude.{nat_lt}
 use Rattle.std.proofs.lemmas.Bool.{cases_Bool, eqb-true, ltb-true}
-use Rattle.ct_msg.specs.declared.config.Config.{Config}
+use Rattle.ct_values.specs.declared.config.Config.{Config}
 use Rattle.ct_frame.specs.declared.frame.Msg.{Msg}
 use Rattle.ct_frame.specs.declared.frame.Msg.TheVariants as msg
 use Rattle.ct_call.specs.Rules.{Rules}
 use Rattle.ct_rules_node.specs.Node.{Node, Phase, Serving, Installed, Frozen, Lead, Nothing, Freezes, Pulls, Installs, Completed, is_present, is_frozen_in}
-use Rattle.ct_cluster.specs.Cluster.{Cluster, absent, node_at}
+use Rattle.ct_rules_cluster.specs.Cluster.{Cluster, absent, node_at}
 use Rattle.ct_register.specs.Lines.{Lines}
 use Rattle.ct_promise.specs.Promises.{IsConfig}
-use Rattle.ct_law_node.proofs.Pending.{Callers}
-use Rattle.ct_law_line.proofs.Ages.{Ages}
-use Rattle.ct_law_line.proofs.Lives as lives
-use Rattle.ct_law_line.proofs.Lives.{Lives, PhaseSays, RoundSays, MailSays, IsTicket}
-use Rattle.ct_law_line.proofs.Lined.{beyond}
-use Rattle.ct_law_freeze.proofs.Turning.{was_said}
-use Rattle.ct_law_stores.proofs.Places.{Turns}
-use Rattle.ct_law_places.proofs.Facts.{spots, Spots, IsThere, IsLeader, LeadSays, PushSays, RoundsHold, MailStands, Holds}
-use Rattle.ct_law_walk.proofs.Parts.{nodes_of, frames_in}
-use Rattle.ct_law_assigned.proofs.Law.{Before}
+use Rattle.ct_law_generation_node.proofs.Pending.{Callers}
+use Rattle.ct_law_run_lines.proofs.Ages.{Ages}
+use Rattle.ct_law_run_lines.proofs.Lives as lives
+use Rattle.ct_law_run_lines.proofs.Lives.{Lives, PhaseSays, RoundSays, MailSays, IsTicket}
+use Rattle.ct_law_run_lines.proofs.Lined.{beyond}
+use Rattle.ct_law_run_lead.proofs.Turning.{was_said}
+use Rattle.ct_law_registers.proofs.Places.{Turns}
+use Rattle.ct_law_addresses_kept.proofs.Facts.{spots, Spots, IsThere, IsLeader, LeadSays, PushSays, RoundsHold, MailStands, Holds}
+use Rattle.ct_law_acts.proofs.Parts.{nodes_of, frames_in}
+use Rattle.ct_law_addresses.proofs.AddressLaw.{Before}
 use Rattle.ct_law_addresses.proofs.Together.{placed_as}
 
 -- ---- by phase

@@ -1,13 +1,13 @@
 -- The law of records, of generations and of addresses: over every list of steps, and the promise that follows.
 use Rattle.std.proofs.Common.{◌≡◌, ℕ, Bool, false, not, ◌||◌, List, [], ◌∷◌, refl, sym, subst}
-use Rattle.ct_bytes.specs.declared.address.Address.{Address}
-use Rattle.ct_msg.specs.declared.config.Config.{Config}
+use Rattle.ct_values.specs.declared.address.Address.{Address}
+use Rattle.ct_values.specs.declared.config.Config.{Config}
 use Rattle.ct_call.specs.Rules.{Rules}
-use Rattle.ct_cluster.specs.Cluster.{Cluster, opening}
-use Rattle.ct_cluster.specs.Labels.{Label, Noted}
-use Rattle.ct_cluster.specs.Traces
-use Rattle.ct_cluster.specs.Traces.{OpenCall, ran, ran_one}
-use Rattle.ct_cluster.specs.declared.step.Step.{Step}
+use Rattle.ct_rules_cluster.specs.Cluster.{Cluster, opening}
+use Rattle.ct_rules_cluster.specs.Labels.{Label, Noted}
+use Rattle.ct_rules_cluster.specs.Traces
+use Rattle.ct_rules_cluster.specs.Traces.{OpenCall, ran, ran_one}
+use Rattle.ct_rules_cluster.specs.declared.step.Step.{Step}
 use Rattle.ct_register.specs.Lines
 use Rattle.ct_register.specs.Legal.{AcceptsLabels}
 use Rattle.ct_register.specs.Marks.{MarksStep}
@@ -17,22 +17,22 @@ use Rattle.ct_promise.specs.Marked.{AllMarks, MarksHold, MarksHoldIn, is_removal
 use Rattle.ct_promise.specs.Promises.{IsConfig, CallsStand}
 use Rattle.ct_promise.proofs.Follows.{both_accepted, filter_more}
 use Rattle.ct_promise.proofs.Opened.{opening_calls}
-use Rattle.ct_law_shown.specs.Waiting.{Outcome, outcome, outcome_of}
-use Rattle.ct_law_entry.proofs.AtHome.{AllAtHome, step_home}
-use Rattle.ct_law_calls.proofs.Clusters.{Calls}
-use Rattle.ct_law_calls.proofs.Telling.{by_log, calls_stand}
-use Rattle.ct_law_calls.proofs.Running.{one_logs, opened_calls}
-use Rattle.ct_law_line.specs.Records.{GenerationsStand}
-use Rattle.ct_law_line.proofs.Lives.{Lives}
-use Rattle.ct_law_line.proofs.Faces.{After, marks_in_all}
-use Rattle.ct_law_line.proofs.Lined.{lives_stand, generations_stand}
-use Rattle.ct_law_line.proofs.Opened.{opened_lives}
-use Rattle.ct_law_whole.proofs.Ending.{all_home, entries_home}
-use Rattle.ct_law_whole.proofs.Owed.{all_owed}
-use Rattle.ct_law_whole.proofs.Stepping.{owed_turned, step_lives}
-use Rattle.ct_law_parts.proofs.Parts.{Choice, goes_on}
-use Rattle.ct_law_places.proofs.Facts.{Spots, MailStands, Holds}
-use Rattle.ct_law_walk.proofs.Parts.{nodes_of, frames_in}
+use Rattle.ct_law_generation_node.specs.Waiting.{Outcome, outcome, outcome_of}
+use Rattle.ct_law_generation_entries.proofs.AtHome.{AllAtHome, step_home}
+use Rattle.ct_law_generation_calls.proofs.Clusters.{Calls}
+use Rattle.ct_law_generation_calls.proofs.Telling.{by_log, calls_stand}
+use Rattle.ct_law_generation_calls.proofs.Running.{one_logs, opened_calls}
+use Rattle.ct_law_run_lines.specs.Records.{GenerationsStand}
+use Rattle.ct_law_run_lines.proofs.Lives.{Lives}
+use Rattle.ct_law_run_lines.proofs.Faces.{After, marks_in_all}
+use Rattle.ct_law_run_lines.proofs.Lined.{lives_stand, generations_stand}
+use Rattle.ct_law_run_lines.proofs.Opened.{opened_lives}
+use Rattle.ct_law_run.proofs.Ending.{all_home, entries_home}
+use Rattle.ct_law_run.proofs.Owed.{all_owed}
+use Rattle.ct_law_run.proofs.Stepping.{owed_turned, step_lives}
+use Rattle.ct_law_registers.proofs.Parts.{Choice, goes_on}
+use Rattle.ct_law_addresses_kept.proofs.Facts.{Spots, MailStands, Holds}
+use Rattle.ct_law_acts.proofs.Parts.{nodes_of, frames_in}
 use Rattle.ct_law_addresses.specs.Addresses.{speaks_of_databases, other_labels, AddressesStand, AddressesRun, LawOfAddresses, KeepsAddresses, PromiseOfAddresses}
 use Rattle.ct_law_addresses.proofs.Beside.{PlacesCarried, places_stand, opened_places, outcome_holds}
 use Rattle.ct_law_addresses.proofs.Given.{before_given}

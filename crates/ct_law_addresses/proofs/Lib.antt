@@ -4,3 +4,5 @@ pub mod Stood
 pub mod Beside
 pub mod Law
 pub mod Holders
+pub mod Arrivals
+pub mod AddressLaw

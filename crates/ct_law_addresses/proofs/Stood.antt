@@ -2,23 +2,23 @@
 use Rattle.std.proofs.Common.{◌≡◌, ◌≢◌, ℕ, true, false, List, [], refl, sym, ap, ◌∙◌, subst, arith, ⊎_elim}
 use Rattle.std.specs.List.{list_any}
 use Rattle.std.proofs.lemmas.Bool.{cases_eq}
-use Rattle.ct_bytes.specs.Address.{same_address}
-use Rattle.ct_bytes.specs.declared.address.Address.{Address}
-use Rattle.ct_msg.specs.declared.config.Config.{Config}
+use Rattle.ct_values.specs.Address.{same_address}
+use Rattle.ct_values.specs.declared.address.Address.{Address}
+use Rattle.ct_values.specs.declared.config.Config.{Config}
 use Rattle.ct_frame.specs.declared.frame.Msg.{Msg}
 use Rattle.ct_frame.specs.declared.frame.Msg.TheVariants as msg
 use Rattle.ct_rules_node.specs.Node as node
 use Rattle.ct_rules_node.specs.Node.{Node, Lead, Nothing, Freezes, Pulls, Installs, Completed, Run, NoRun, Releasing, Taking, is_among}
 use Rattle.ct_rules_node.specs.Takeovers.{has_address}
-use Rattle.ct_cluster.specs.Cluster as cluster
-use Rattle.ct_cluster.specs.Cluster.{Cluster, Sent, is_up, node_at, sent_at}
+use Rattle.ct_rules_cluster.specs.Cluster as cluster
+use Rattle.ct_rules_cluster.specs.Cluster.{Cluster, Sent, is_up, node_at, sent_at}
 use Rattle.ct_register.proofs.Opened.{one_of_all}
 use Rattle.ct_register.specs.Lines
 use Rattle.ct_register.specs.Lines.{Lines}
-use Rattle.ct_law_stores.proofs.Places.{Turns, PlacesHold, Places, Leads, LeadsRuns}
-use Rattle.ct_law_stores.proofs.Stand.{assigned_stand, one_holds}
-use Rattle.ct_law_places.proofs.Facts.{spots, Stands, MailStands, RunStands, LeadStands, Holds}
-use Rattle.ct_law_walk.proofs.Parts.{nodes_of, frames_in, sent_in}
+use Rattle.ct_law_registers.proofs.Places.{Turns, PlacesHold, Places, Leads, LeadsRuns}
+use Rattle.ct_law_registers.proofs.Stand.{assigned_stand, one_holds}
+use Rattle.ct_law_addresses_kept.proofs.Facts.{spots, Stands, MailStands, RunStands, LeadStands, Holds}
+use Rattle.ct_law_acts.proofs.Parts.{nodes_of, frames_in, sent_in}
 use Rattle.ct_law_addresses.proofs.Together.{Nowhere}
 use Rattle.ct_law_addresses.specs.Addresses.{AddressesStand}
 

@@ -2,21 +2,21 @@
 use Rattle.std.proofs.Common.{◌≡◌, ◌≢◌, ℕ, Bool, true, false, cond, List, [], ◌∷◌, Option, None, Some, refl, sym, ap, ◌∙◌, subst, arith, inl, ⊎_elim}
 use Rattle.std.specs.Prelude.{not}
 use Rattle.std.proofs.lemmas.Bool.{cases_eq}
-use Rattle.ct_bytes.specs.declared.address.Address.{Address}
-use Rattle.ct_msg.specs.Client.{db_of, key_of}
-use Rattle.ct_msg.specs.declared.client.Answer.{Answer}
-use Rattle.ct_msg.specs.declared.client.Answer.TheVariants as answer
-use Rattle.ct_msg.specs.declared.client.ClientOp.{ClientOp}
-use Rattle.ct_msg.specs.declared.client.ClientOp.TheVariants as op
-use Rattle.ct_msg.specs.declared.client.Why.TheVariants as why
-use Rattle.ct_msg.specs.declared.config.Config.{Config}
-use Rattle.ct_msg.specs.declared.config.DbKind.{DbKind}
-use Rattle.ct_msg.specs.declared.config.DbKind.TheVariants.{Persistent}
+use Rattle.ct_values.specs.declared.address.Address.{Address}
+use Rattle.ct_values.specs.Client.{db_of, key_of}
+use Rattle.ct_values.specs.declared.client.Answer.{Answer}
+use Rattle.ct_values.specs.declared.client.Answer.TheVariants as answer
+use Rattle.ct_values.specs.declared.client.ClientOp.{ClientOp}
+use Rattle.ct_values.specs.declared.client.ClientOp.TheVariants as op
+use Rattle.ct_values.specs.declared.client.Why.TheVariants as why
+use Rattle.ct_values.specs.declared.config.Config.{Config}
+use Rattle.ct_values.specs.declared.config.DbKind.{DbKind}
+use Rattle.ct_values.specs.declared.config.DbKind.TheVariants.{Persistent}
 use Rattle.ct_frame.specs.declared.event.Note.{Note}
 use Rattle.ct_frame.specs.declared.event.Note.TheVariants as note
 use Rattle.ct_call.specs.Rules.{Rules}
 use Rattle.ct_rules_node.specs.Node.{is_persistent, kind_at}
-use Rattle.ct_cluster.specs.Labels.{Label, Answered, Unasked, Begun, Noted, Ticket, Yielded, Stopped, Started, Pushed, Takeover, Taken}
+use Rattle.ct_rules_cluster.specs.Labels.{Label, Answered, Unasked, Begun, Noted, Ticket, Yielded, Stopped, Started, Pushed, Takeover, Taken}
 use Rattle.ct_register.proofs.Places.{at_same, at_other}
 use Rattle.ct_register.specs.Births.{Birth, PersistentBirth, birth_list}
 use Rattle.ct_register.specs.Database
@@ -28,10 +28,10 @@ use Rattle.ct_register.specs.Register
 use Rattle.ct_register.specs.Register.{Register}
 use Rattle.ct_register.specs.Words.{at, at_address}
 use Rattle.ct_promise.specs.Generation.{is_note_of_records, speaks_of_records, record_labels}
-use Rattle.ct_law_parts.proofs.Accepted.{took_accepted, released_accepted, pushed_accepted, taken_accepted, takeover_accepted}
-use Rattle.ct_law_parts.proofs.Parts.{Choice, goes, goes_on, note_goes, began, PlacesNeed, AllNeed}
-use Rattle.ct_law_places.proofs.Aside.{IsAside, answer_aside, begun_aside}
-use Rattle.ct_law_places.proofs.Facts.{Spots, spots}
+use Rattle.ct_law_registers.proofs.Accepted.{took_accepted, released_accepted, pushed_accepted, taken_accepted, takeover_accepted}
+use Rattle.ct_law_registers.proofs.Parts.{Choice, goes, goes_on, note_goes, began, PlacesNeed, AllNeed}
+use Rattle.ct_law_addresses_kept.proofs.Aside.{IsAside, answer_aside, begun_aside}
+use Rattle.ct_law_addresses_kept.proofs.Facts.{Spots, spots}
 use Rattle.ct_law_addresses.specs.Addresses.{speaks_of_databases, other_labels}
 
 -- these registers, with what others say of addresses

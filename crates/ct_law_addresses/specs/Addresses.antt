@@ -1,16 +1,16 @@
 -- What is promised through every list of steps of records, of generations and of addresses: of all but persistent databases.
 use Rattle.std.specs.Prelude.{◌≡◌, ◌≢◌, ◌↔◌, ℕ, Bool, true, false, not, List, [], ◌∷◌, Some}
 use Rattle.std.specs.List.{filter}
-use Rattle.ct_bytes.specs.declared.address.Address.{Address}
-use Rattle.ct_msg.specs.Client.{db_of}
-use Rattle.ct_msg.specs.declared.config.Config.{Config}
+use Rattle.ct_values.specs.declared.address.Address.{Address}
+use Rattle.ct_values.specs.Client.{db_of}
+use Rattle.ct_values.specs.declared.config.Config.{Config}
 use Rattle.ct_frame.specs.declared.frame.Assigned.{Assigned}
 use Rattle.ct_call.specs.Rules.{Rules}
 use Rattle.ct_rules_node.specs.Node.{is_persistent, kind_at, holder_in}
-use Rattle.ct_cluster.specs.Cluster.{Cluster, opening, is_up}
-use Rattle.ct_cluster.specs.Labels.{Label, Answered, Begun}
-use Rattle.ct_cluster.specs.Traces.{OpenCall, Ran, ran, ran_one}
-use Rattle.ct_cluster.specs.declared.step.Step.{Step}
+use Rattle.ct_rules_cluster.specs.Cluster.{Cluster, opening, is_up}
+use Rattle.ct_rules_cluster.specs.Labels.{Label, Answered, Begun}
+use Rattle.ct_rules_cluster.specs.Traces.{OpenCall, Ran, ran, ran_one}
+use Rattle.ct_rules_cluster.specs.declared.step.Step.{Step}
 use Rattle.ct_register.specs.Lines
 use Rattle.ct_register.specs.Lines.{Lines}
 use Rattle.ct_register.specs.Legal.{AcceptsLabels}
@@ -18,7 +18,7 @@ use Rattle.ct_register.specs.Placing.{given_placement}
 use Rattle.ct_register.specs.Stands.{HoldsAddress, RecordsStand}
 use Rattle.ct_promise.specs.Promises.{IsConfig, CallsStand}
 use Rattle.ct_promise.specs.Marked.{AllMarks, no_marks, MarksHold, MarksGoOn}
-use Rattle.ct_law_line.specs.Records.{GenerationsStand}
+use Rattle.ct_law_run_lines.specs.Records.{GenerationsStand}
 
 -- does the label speak of a persistent database: of a commit that begins, or of an answer to a call on one?
 unfoldable pub speaks_of_databases : Config → Label → Bool

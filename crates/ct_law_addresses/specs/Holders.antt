@@ -1,14 +1,14 @@
 -- What is promised of addresses, said of the cluster and of what its run told alone.
 use Rattle.std.specs.Prelude.{◌≡◌, ◌≢◌, ℕ, true, List, [], Some, Contains}
-use Rattle.ct_bytes.specs.declared.address.Address.{Address}
-use Rattle.ct_msg.specs.declared.config.Config.{Config}
+use Rattle.ct_values.specs.declared.address.Address.{Address}
+use Rattle.ct_values.specs.declared.config.Config.{Config}
 use Rattle.ct_frame.specs.declared.frame.Assigned.{Assigned}
 use Rattle.ct_call.specs.Rules.{Rules}
 use Rattle.ct_rules_node.specs.Node.{holder_in}
-use Rattle.ct_cluster.specs.Cluster.{Cluster, opening, is_up, node_at}
-use Rattle.ct_cluster.specs.Labels.{Label, Pushed, Taken}
-use Rattle.ct_cluster.specs.Traces.{ran}
-use Rattle.ct_cluster.specs.declared.step.Step.{Step}
+use Rattle.ct_rules_cluster.specs.Cluster.{Cluster, opening, is_up, node_at}
+use Rattle.ct_rules_cluster.specs.Labels.{Label, Pushed, Taken}
+use Rattle.ct_rules_cluster.specs.Traces.{ran}
+use Rattle.ct_rules_cluster.specs.declared.step.Step.{Step}
 use Rattle.ct_register.specs.Stands.{HoldsAddress}
 use Rattle.ct_promise.specs.Promises.{IsConfig}
 

@@ -5,29 +5,29 @@ use Rattle.std.specs.Prelude.{◌⊎◌, nat_eq, bytes_eq, ◌&&◌, ◌||◌}
 use Rattle.std.specs.List.{list_any}
 use Rattle.std.proofs.lemmas.Bool.{and_parts, and_from, eq-eqb}
 use Rattle.std.proofs.lemmas.Slice.Eq.{bytes_eq-Decides}
-use Rattle.ct_bytes.specs.declared.address.Address.{Address}
-use Rattle.ct_msg.specs.declared.config.Config.{Config}
+use Rattle.ct_values.specs.declared.address.Address.{Address}
+use Rattle.ct_values.specs.declared.config.Config.{Config}
 use Rattle.ct_frame.specs.declared.event.Note.TheVariants as note
 use Rattle.ct_call.specs.Rules.{Rules}
 use Rattle.ct_merge.proofs.Among.{In}
 use Rattle.ct_rules_node.specs.Node.{name_of}
-use Rattle.ct_cluster.specs.Cluster.{Cluster, node_at}
-use Rattle.ct_cluster.specs.Labels.{Label, Noted, Stopped}
+use Rattle.ct_rules_cluster.specs.Cluster.{Cluster, node_at}
+use Rattle.ct_rules_cluster.specs.Labels.{Label, Noted, Stopped}
 use Rattle.ct_register.specs.Database.{Database}
 use Rattle.ct_register.specs.Lines.{Lines}
 use Rattle.ct_register.specs.Placing.{Placing}
-use Rattle.ct_law_line.proofs.Ages.{Ages}
-use Rattle.ct_law_line.proofs.Lives.{Lives}
-use Rattle.ct_law_line.proofs.Later.{Rest}
-use Rattle.ct_law_stores.proofs.Facts.{Gone, bases, owners}
-use Rattle.ct_law_kept.proofs.Law.{LockLaw, LocksEnd}
-use Rattle.ct_law_given.proofs.Ordered.{IsOrdered}
-use Rattle.ct_law_given.proofs.Locks.{lock_owned, owner_in, none_locked}
-use Rattle.ct_law_joined.proofs.Like.{with_others}
-use Rattle.ct_law_gone.proofs.Later.{GoesLater}
-use Rattle.ct_law_gone.proofs.Turns.{Froze_under, Step_does}
-use Rattle.ct_law_gone.proofs.Lost.{Lost, lost_unowned, lost_stays}
-use Rattle.ct_law_gone.proofs.Losing.{froze_lost, stop_lost, first_or, second_or}
+use Rattle.ct_law_run_lines.proofs.Ages.{Ages}
+use Rattle.ct_law_run_lines.proofs.Lives.{Lives}
+use Rattle.ct_law_run_lines.proofs.Later.{Rest}
+use Rattle.ct_law_registers.proofs.Facts.{Gone, bases, owners}
+use Rattle.ct_law_databases_kept.proofs.Law.{LockLaw, LocksEnd}
+use Rattle.ct_law_databases_join.proofs.Ordered.{IsOrdered}
+use Rattle.ct_law_databases_join.proofs.Locks.{lock_owned, owner_in, none_locked}
+use Rattle.ct_law_databases_join.proofs.Like.{with_others}
+use Rattle.ct_law_databases_join.proofs.Later.{GoesLater}
+use Rattle.ct_law_databases_join.proofs.Turns.{Froze_under, Step_does}
+use Rattle.ct_law_databases_join.proofs.Lost.{Lost, lost_unowned, lost_stays}
+use Rattle.ct_law_databases_join.proofs.Losing.{froze_lost, stop_lost, first_or, second_or}
 
 -- does this node own the record?
 unfoldable pub is_owner : ℕ → Option ℕ → Bool

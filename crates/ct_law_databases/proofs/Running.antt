@@ -1,13 +1,13 @@
 -- The law of records and of persistent databases through every list of steps, and the promise that follows from it.
 use Rattle.std.proofs.Common.{◌≡◌, ℕ, List, [], ◌∷◌, refl, sym, ap, ◌∙◌, subst}
-use Rattle.ct_msg.specs.declared.config.Config.{Config}
+use Rattle.ct_values.specs.declared.config.Config.{Config}
 use Rattle.ct_call.specs.Rules.{Rules}
 use Rattle.std.specs.Prelude.{not}
-use Rattle.ct_cluster.specs.Cluster.{Cluster, opening}
-use Rattle.ct_cluster.specs.Labels.{Label}
-use Rattle.ct_cluster.specs.Traces
-use Rattle.ct_cluster.specs.Traces.{OpenCall, ran, ran_one}
-use Rattle.ct_cluster.specs.declared.step.Step.{Step}
+use Rattle.ct_rules_cluster.specs.Cluster.{Cluster, opening}
+use Rattle.ct_rules_cluster.specs.Labels.{Label}
+use Rattle.ct_rules_cluster.specs.Traces
+use Rattle.ct_rules_cluster.specs.Traces.{OpenCall, ran, ran_one}
+use Rattle.ct_rules_cluster.specs.declared.step.Step.{Step}
 use Rattle.ct_register.specs.Legal.{AcceptsLabels}
 use Rattle.ct_register.specs.Lines
 use Rattle.ct_register.specs.Lines.{Lines}
@@ -15,15 +15,15 @@ use Rattle.ct_promise.specs.Promises.{IsConfig, CallsStand}
 use Rattle.ct_promise.specs.Marked.{AllMarks}
 use Rattle.ct_promise.proofs.Follows.{both_accepted, filter_more}
 use Rattle.ct_promise.proofs.Opened.{opening_calls}
-use Rattle.ct_law_shown.specs.Waiting.{Outcome, outcome_of}
-use Rattle.ct_law_calls.proofs.Clusters.{Calls}
-use Rattle.ct_law_calls.proofs.Telling.{by_log, calls_stand}
-use Rattle.ct_law_calls.proofs.Running.{one_logs}
-use Rattle.ct_law_line.proofs.Lives.{Lives}
-use Rattle.ct_law_line.proofs.Faces.{marks_in_all}
-use Rattle.ct_law_line.proofs.Opened.{opened_lives}
-use Rattle.ct_law_joined.specs.Placeless.{speaks_of_places, placeless}
-use Rattle.ct_law_joined.proofs.Placeless.{IsBut, but_same, placeless_accept}
+use Rattle.ct_law_generation_node.specs.Waiting.{Outcome, outcome_of}
+use Rattle.ct_law_generation_calls.proofs.Clusters.{Calls}
+use Rattle.ct_law_generation_calls.proofs.Telling.{by_log, calls_stand}
+use Rattle.ct_law_generation_calls.proofs.Running.{one_logs}
+use Rattle.ct_law_run_lines.proofs.Lives.{Lives}
+use Rattle.ct_law_run_lines.proofs.Faces.{marks_in_all}
+use Rattle.ct_law_run_lines.proofs.Opened.{opened_lives}
+use Rattle.ct_law_databases_join.specs.Placeless.{speaks_of_places, placeless}
+use Rattle.ct_law_databases_join.proofs.Placeless.{IsBut, but_same, placeless_accept}
 use Rattle.ct_law_databases.specs.Databases.{DatabasesStand, DatabasesMarked, LawOfDatabases, KeepsDatabases, PromiseOfDatabases}
 use Rattle.ct_law_databases.proofs.Whole.{Whole, stands_but, marks_but, opened_whole}
 use Rattle.ct_law_databases.proofs.Stepping.{Stepped_whole, marks_same, step_whole}

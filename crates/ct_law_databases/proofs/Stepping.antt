@@ -3,56 +3,56 @@ use Rattle.std.proofs.Common.{◌≡◌, ◌≢◌, ℕ, ◌+◌, ◌<◌, ◌�
 use Rattle.std.specs.Prelude.{◌⊎◌, nat_lt, ◌||◌}
 use Rattle.std.specs.List.{list_any}
 use Rattle.std.proofs.lemmas.Bool.{cases_eq, ltb-true}
-use Rattle.ct_msg.specs.declared.config.Config.{Config}
-use Rattle.ct_msg.specs.declared.config.DbDecl.{DbDecl}
+use Rattle.ct_values.specs.declared.config.Config.{Config}
+use Rattle.ct_values.specs.declared.config.DbDecl.{DbDecl}
 use Rattle.ct_frame.specs.declared.frame.Frame.{Frame}
 use Rattle.ct_call.specs.Rules.{Rules}
 use Rattle.ct_merge.proofs.Among.{In}
-use Rattle.ct_rules_node.specs.Laws.{NodeAscends}
+use Rattle.ct_law_rules_node.specs.NodeLaws.{NodeAscends}
 use Rattle.ct_rules_node.specs.Node.{Node, name_of}
-use Rattle.ct_cluster.specs.Cluster.{Cluster, is_up, node_at}
-use Rattle.ct_cluster.specs.Faults.{is_allowed}
-use Rattle.ct_cluster.specs.Labels.{Label, Noted}
-use Rattle.ct_cluster.specs.Steps.{Stepped, applied}
-use Rattle.ct_cluster.specs.Traces.{OpenCall}
-use Rattle.ct_cluster.specs.declared.step.Step.{Step}
-use Rattle.ct_cluster.specs.declared.step.Step.TheVariants as step
-use Rattle.ct_cluster.specs.declared.step.StepFault.{StepFault}
+use Rattle.ct_rules_cluster.specs.Cluster.{Cluster, is_up, node_at}
+use Rattle.ct_rules_cluster.specs.Faults.{is_allowed}
+use Rattle.ct_rules_cluster.specs.Labels.{Label, Noted}
+use Rattle.ct_rules_cluster.specs.Steps.{Stepped, applied}
+use Rattle.ct_rules_cluster.specs.Traces.{OpenCall}
+use Rattle.ct_rules_cluster.specs.declared.step.Step.{Step}
+use Rattle.ct_rules_cluster.specs.declared.step.Step.TheVariants as step
+use Rattle.ct_rules_cluster.specs.declared.step.StepFault.{StepFault}
 use Rattle.ct_register.specs.Legal.{lock_owner}
 use Rattle.ct_register.specs.Lines.{Lines}
 use Rattle.ct_register.specs.Marks.{MarksStep}
 use Rattle.ct_promise.specs.Generation.{record_labels}
 use Rattle.ct_promise.specs.Marked.{AllMarks, is_removal, is_removed, MarksGoOn}
 use Rattle.ct_promise.specs.Promises.{IsConfig}
-use Rattle.ct_law_shown.specs.Waiting.{Outcome, unchanged, came_of, outcome, told_step}
-use Rattle.ct_law_node.proofs.Pending.{Callers}
-use Rattle.ct_law_calls.proofs.Clusters.{Calls}
-use Rattle.ct_law_calls.proofs.Telling.{by_log}
-use Rattle.ct_law_entry.proofs.AtHome.{AllAtHome, step_home}
-use Rattle.ct_law_line.proofs.Lives.{Lives}
-use Rattle.ct_law_line.proofs.Faces.{marks_in_all, After}
-use Rattle.ct_law_parts.proofs.Parts.{Choice, goes_on, DatabasesNeed, AllNeed}
-use Rattle.ct_law_parts.proofs.Rounds.{RoundsNeed}
-use Rattle.ct_law_parts.proofs.Whole.{RecordsNeed}
-use Rattle.ct_law_callers.proofs.Calling.{called}
-use Rattle.ct_law_callers.proofs.Steps.{is_client}
-use Rattle.ct_law_callers.proofs.Reached.{AllKnown, call_known, step_known}
-use Rattle.ct_law_stores.proofs.Facts.{Has, Gone, bases, owners, Settled, StoresHold, WaitsIn}
-use Rattle.ct_law_kept.proofs.Law.{LockLaw, LockStep, LocksEnd}
-use Rattle.ct_law_stored.proofs.Steps.{nodes_of}
-use Rattle.ct_law_stored.proofs.Law.{StepHolds, Keeps, step_holds}
-use Rattle.ct_law_whole.proofs.Stepping.{owed_turned, step_lives}
-use Rattle.ct_law_whole.proofs.Owed.{all_owed}
-use Rattle.ct_law_given.proofs.Ordered.{IsOrdered, labels_ordered}
-use Rattle.ct_law_given.proofs.Rounds.{SendersThere}
+use Rattle.ct_law_generation_node.specs.Waiting.{Outcome, unchanged, came_of, outcome, told_step}
+use Rattle.ct_law_generation_node.proofs.Pending.{Callers}
+use Rattle.ct_law_generation_calls.proofs.Clusters.{Calls}
+use Rattle.ct_law_generation_calls.proofs.Telling.{by_log}
+use Rattle.ct_law_generation_entries.proofs.AtHome.{AllAtHome, step_home}
+use Rattle.ct_law_run_lines.proofs.Lives.{Lives}
+use Rattle.ct_law_run_lines.proofs.Faces.{marks_in_all, After}
+use Rattle.ct_law_registers.proofs.Parts.{Choice, goes_on, DatabasesNeed, AllNeed}
+use Rattle.ct_law_registers.proofs.Rounds.{RoundsNeed}
+use Rattle.ct_law_registers.proofs.Whole.{RecordsNeed}
+use Rattle.ct_law_acts.proofs.Calling.{called}
+use Rattle.ct_law_acts.proofs.CallerSteps.{is_client}
+use Rattle.ct_law_acts.proofs.Reached.{AllKnown, call_known, step_known}
+use Rattle.ct_law_registers.proofs.Facts.{Has, Gone, bases, owners, Settled, StoresHold, WaitsIn}
+use Rattle.ct_law_databases_kept.proofs.Law.{LockLaw, LockStep, LocksEnd}
+use Rattle.ct_law_databases_step.proofs.Steps.{nodes_of}
+use Rattle.ct_law_databases_step.proofs.Law.{StepHolds, Keeps, step_holds}
+use Rattle.ct_law_run.proofs.Stepping.{owed_turned, step_lives}
+use Rattle.ct_law_run.proofs.Owed.{all_owed}
+use Rattle.ct_law_databases_join.proofs.Ordered.{IsOrdered, labels_ordered}
+use Rattle.ct_law_databases_join.proofs.Rounds.{SendersThere}
 use Rattle.ct_law_acts.proofs.Steps.{frames_in, Acts, step_acts}
 use Rattle.ct_law_acts.proofs.Numbers.{step_calls}
-use Rattle.ct_law_joined.proofs.Like.{with_others, IsLike}
-use Rattle.ct_law_joined.proofs.Labels.{AllParts, SomeCounts, one_parts}
-use Rattle.ct_law_gone.proofs.Later.{GoesLater, labels_later}
-use Rattle.ct_law_gone.proofs.Turns.{Step_does, acts_do}
-use Rattle.ct_law_gone.proofs.Lost.{Lost}
-use Rattle.ct_law_gone.proofs.Losing.{owner_once}
+use Rattle.ct_law_databases_join.proofs.Like.{with_others, IsLike}
+use Rattle.ct_law_databases_join.proofs.Labels.{AllParts, SomeCounts, one_parts}
+use Rattle.ct_law_databases_join.proofs.Later.{GoesLater, labels_later}
+use Rattle.ct_law_databases_join.proofs.Turns.{Step_does, acts_do}
+use Rattle.ct_law_databases_join.proofs.Lost.{Lost}
+use Rattle.ct_law_databases_join.proofs.Losing.{owner_once}
 use Rattle.ct_law_databases.proofs.Locking.{ends_there, gone_after, locks_end, gone_lost, lock_law}
 use Rattle.ct_law_databases.proofs.Whole.{Whole, before}
 

@@ -2,40 +2,40 @@
 use Rattle.std.proofs.Common.{◌≡◌, ◌≢◌, ℕ, ◌<◌, true, false, List, [], length, map, refl, sym, ap, ◌∙◌, subst, arith, ⊎_elim}
 use Rattle.std.specs.Prelude.{nat_lt}
 use Rattle.std.proofs.lemmas.Bool.{cases_Bool, ltb-true}
-use Rattle.ct_msg.specs.declared.client.ClientOp.TheVariants as op
-use Rattle.ct_msg.specs.declared.config.Config.{Config}
+use Rattle.ct_values.specs.declared.client.ClientOp.TheVariants as op
+use Rattle.ct_values.specs.declared.config.Config.{Config}
 use Rattle.ct_call.specs.Rules.{Rules}
 use Rattle.ct_rules_node.specs.Node.{is_among}
-use Rattle.ct_cluster.specs.Cluster as cluster
-use Rattle.ct_cluster.specs.Cluster.{Cluster, is_up, node_at}
-use Rattle.ct_cluster.specs.Traces.{OpenCall}
+use Rattle.ct_rules_cluster.specs.Cluster as cluster
+use Rattle.ct_rules_cluster.specs.Cluster.{Cluster, is_up, node_at}
+use Rattle.ct_rules_cluster.specs.Traces.{OpenCall}
 use Rattle.ct_register.specs.Lines
 use Rattle.ct_register.specs.Lines.{Lines}
 use Rattle.ct_register.specs.Stands.{RecordsStand}
 use Rattle.ct_promise.specs.Marked.{AllMarks, MarksHold}
 use Rattle.ct_promise.specs.Promises.{IsConfig}
-use Rattle.ct_law_node.proofs.Pending.{Callers}
-use Rattle.ct_law_calls.proofs.Clusters.{Calls}
-use Rattle.ct_law_calls.proofs.Telling.{by_log}
-use Rattle.ct_law_calls.proofs.Running.{opened_calls}
-use Rattle.ct_law_entry.proofs.AtHome.{AllAtHome}
-use Rattle.ct_law_line.specs.Records.{GenerationsStand}
-use Rattle.ct_law_line.proofs.Lives.{Lives}
-use Rattle.ct_law_line.proofs.Faces.{marks_in_all}
-use Rattle.ct_law_line.proofs.Lined.{lives_stand, generations_stand}
-use Rattle.ct_law_line.proofs.Opened.{opened_lives}
-use Rattle.ct_law_callers.proofs.Reached.{AllKnown, opening_known}
-use Rattle.ct_law_stores.proofs.Facts.{Has, Gone, Bases, bases, owners, StoresHold}
-use Rattle.ct_law_stores.proofs.Opening.{stores_open}
-use Rattle.ct_law_stores.proofs.Stand.{stores_stand}
-use Rattle.ct_law_kept.proofs.Law.{RoundsHold, LockLaw}
-use Rattle.ct_law_stored.proofs.Steps.{ClusterBefore, nodes_of, frames_in}
-use Rattle.ct_law_whole.proofs.Ending.{entries_home, all_home}
-use Rattle.ct_law_given.proofs.Ordered.{IsOrdered, opening_ordered}
-use Rattle.ct_law_given.proofs.Rounds.{SendersThere, rounds_hold, all_locked}
-use Rattle.ct_law_joined.proofs.Like.{with_others, IsLike}
-use Rattle.ct_law_joined.proofs.Placeless.{IsBut}
-use Rattle.ct_law_gone.proofs.Lost.{Lost}
+use Rattle.ct_law_generation_node.proofs.Pending.{Callers}
+use Rattle.ct_law_generation_calls.proofs.Clusters.{Calls}
+use Rattle.ct_law_generation_calls.proofs.Telling.{by_log}
+use Rattle.ct_law_generation_calls.proofs.Running.{opened_calls}
+use Rattle.ct_law_generation_entries.proofs.AtHome.{AllAtHome}
+use Rattle.ct_law_run_lines.specs.Records.{GenerationsStand}
+use Rattle.ct_law_run_lines.proofs.Lives.{Lives}
+use Rattle.ct_law_run_lines.proofs.Faces.{marks_in_all}
+use Rattle.ct_law_run_lines.proofs.Lined.{lives_stand, generations_stand}
+use Rattle.ct_law_run_lines.proofs.Opened.{opened_lives}
+use Rattle.ct_law_acts.proofs.Reached.{AllKnown, opening_known}
+use Rattle.ct_law_registers.proofs.Facts.{Has, Gone, Bases, bases, owners, StoresHold}
+use Rattle.ct_law_registers.proofs.Opening.{stores_open}
+use Rattle.ct_law_registers.proofs.Stand.{stores_stand}
+use Rattle.ct_law_databases_kept.proofs.Law.{RoundsHold, LockLaw}
+use Rattle.ct_law_databases_step.proofs.Steps.{ClusterBefore, nodes_of, frames_in}
+use Rattle.ct_law_run.proofs.Ending.{entries_home, all_home}
+use Rattle.ct_law_databases_join.proofs.Ordered.{IsOrdered, opening_ordered}
+use Rattle.ct_law_databases_join.proofs.Rounds.{SendersThere, rounds_hold, all_locked}
+use Rattle.ct_law_databases_join.proofs.Like.{with_others, IsLike}
+use Rattle.ct_law_databases_join.proofs.Placeless.{IsBut}
+use Rattle.ct_law_databases_join.proofs.Lost.{Lost}
 use Rattle.ct_law_databases.specs.Databases.{DatabasesStand}
 use Rattle.ct_law_databases.proofs.Locking.{lock_law}
 

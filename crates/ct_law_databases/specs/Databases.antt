@@ -1,20 +1,20 @@
 -- What is promised of records and of persistent databases through every list of steps: all that is promised but what is told of addresses.
 use Rattle.std.specs.Prelude.{◌≡◌, ◌≢◌, ℕ, nat_lt, true, List, [], ◌∷◌, Some}
-use Rattle.ct_msg.specs.declared.config.Config.{Config}
-use Rattle.ct_msg.specs.declared.config.DbKind.TheVariants.{Persistent}
+use Rattle.ct_values.specs.declared.config.Config.{Config}
+use Rattle.ct_values.specs.declared.config.DbKind.TheVariants.{Persistent}
 use Rattle.ct_call.specs.Rules.{Rules}
 use Rattle.ct_rules_node.specs.Node.{kind_at, db_at}
-use Rattle.ct_cluster.specs.Cluster.{Cluster, opening, node_at}
-use Rattle.ct_cluster.specs.Traces.{OpenCall, Ran, ran, ran_one}
-use Rattle.ct_cluster.specs.declared.step.Step.{Step}
+use Rattle.ct_rules_cluster.specs.Cluster.{Cluster, opening, node_at}
+use Rattle.ct_rules_cluster.specs.Traces.{OpenCall, Ran, ran, ran_one}
+use Rattle.ct_rules_cluster.specs.declared.step.Step.{Step}
 use Rattle.ct_register.specs.Lines
 use Rattle.ct_register.specs.Lines.{Lines}
 use Rattle.ct_register.specs.Legal.{AcceptsLabels}
 use Rattle.ct_register.specs.Stands.{IsAfter, RecordsStand}
 use Rattle.ct_promise.specs.Promises.{IsConfig, CallsStand}
 use Rattle.ct_promise.specs.Marked.{AllMarks, no_marks, MarksHold, MarksGoOn}
-use Rattle.ct_law_line.specs.Records.{GenerationsStand}
-use Rattle.ct_law_joined.specs.Placeless.{placeless}
+use Rattle.ct_law_run_lines.specs.Records.{GenerationsStand}
+use Rattle.ct_law_databases_join.specs.Placeless.{placeless}
 
 -- the cluster stands for the registers in all but addresses: all that StandsFor says but of those
 pub record DatabasesStand (config : Config) (w : Cluster) (r : Lines) : Type 0 where

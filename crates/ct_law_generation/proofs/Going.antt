@@ -1,13 +1,13 @@
 -- What holds of all records of a cluster in a generation goes on through a step that is a schedule of the world of each.
 use Rattle.std.proofs.Common.{◌≡◌, ℕ, ◌≤◌, Bool, true, false, List, [], None, refl, sym, ap, ◌∙◌, arith, subst}
 use Rattle.std.specs.List.{list_all, AllByRecursion}
-use Rattle.ct_msg.specs.declared.config.Config.{Config}
+use Rattle.ct_values.specs.declared.config.Config.{Config}
 use Rattle.ct_frame.specs.Fields.{is_node}
 use Rattle.ct_call.specs.Rules.{Rules}
 use Rattle.ct_rules_node.specs.Node.{master_of, state_at}
-use Rattle.ct_cluster.specs.Cluster.{Cluster, is_up, node_at}
-use Rattle.ct_law_shown.specs.Waiting.{Outcome, outcome}
-use Rattle.ct_cluster.specs.declared.step.Step.{Step}
+use Rattle.ct_rules_cluster.specs.Cluster.{Cluster, is_up, node_at}
+use Rattle.ct_law_generation_node.specs.Waiting.{Outcome, outcome}
+use Rattle.ct_rules_cluster.specs.declared.step.Step.{Step}
 use Rattle.ct_register.specs.Register.{Register}
 use Rattle.ct_register.specs.Lines.{Lines}
 use Rattle.ct_register.specs.Legal.{AcceptsLabels}
@@ -15,21 +15,21 @@ use Rattle.ct_register.specs.Marks.{Marks, MarksStep}
 use Rattle.ct_promise.specs.Generation.{record_labels}
 use Rattle.ct_promise.specs.Marked.{LineMarks, MarksGoOnIn, is_removed}
 use Rattle.ct_promise.specs.Kept.{RecordsHold}
-use Rattle.ct_law_world.specs.Labels.{AcceptsAll}
-use Rattle.ct_law_world.specs.Labels as law
-use Rattle.ct_law_world.specs.World.{Scene, World, Event, trace, last}
-use Rattle.ct_law_world.specs.Marked as law_marked
-use Rattle.ct_law_fact.proofs.Rule
-use Rattle.ct_law_fact.proofs.Invariant.{Ghost}
+use Rattle.ct_law_record_facts.specs.Labels.{AcceptsAll}
+use Rattle.ct_law_record_facts.specs.Labels as law
+use Rattle.ct_law_record_facts.specs.World.{Scene, World, Event, trace, last}
+use Rattle.ct_law_record_facts.specs.Marked as law_marked
+use Rattle.ct_law_record_facts.proofs.Rule
+use Rattle.ct_law_record_facts.proofs.Invariant.{Ghost}
 use Rattle.ct_law_record.proofs.Worlds.{WorldInv, nodes_at}
 use Rattle.ct_law_record.proofs.Law
 use Rattle.ct_law_record.proofs.MarkedRun.{Through, marks_of, marks_hold, unmarked, run_marks}
-use Rattle.ct_law_shown.specs.Shown.{Era, scene, project, IsOfLine, Schedules}
-use Rattle.ct_law_shown.proofs.Weave.{weave}
-use Rattle.ct_law_shown.proofs.Hearing.{accepts_heard}
-use Rattle.ct_law_cluster.proofs.Holding.{Lined, SeenWithin, records_hold}
-use Rattle.ct_law_removal.proofs.Removing.{removed_as_told, removed_in_records, removed_heard}
-use Rattle.ct_law_removal.proofs.Clearing.{AllAscend, step_clears}
+use Rattle.ct_law_generation_node.specs.Shown.{Era, scene, project, IsOfLine, Schedules}
+use Rattle.ct_law_generation_node.proofs.Weave.{weave}
+use Rattle.ct_law_generation_node.proofs.Hearing.{accepts_heard}
+use Rattle.ct_law_generation_cluster.proofs.Holding.{Lined, SeenWithin, records_hold}
+use Rattle.ct_law_generation_entries.proofs.Removing.{removed_as_told, removed_in_records, removed_heard}
+use Rattle.ct_law_generation_entries.proofs.Clearing.{AllAscend, step_clears}
 
 -- ---- one record
 

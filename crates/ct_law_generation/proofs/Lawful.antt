@@ -1,11 +1,11 @@
 -- The law of one generation, from the opening and from one that began with rows, and the promises that follow from it.
 use Rattle.std.proofs.Common.{◌≡◌, ℕ, true, cond, List, [], None, refl, sym, ap, arith, subst}
-use Rattle.ct_msg.specs.declared.client.ClientOp.TheVariants as op
-use Rattle.ct_msg.specs.declared.config.Config.{Config}
+use Rattle.ct_values.specs.declared.client.ClientOp.TheVariants as op
+use Rattle.ct_values.specs.declared.config.Config.{Config}
 use Rattle.ct_call.specs.Rules.{Rules}
 use Rattle.ct_rules_node.specs.Node.{master_of, is_among}
 use Rattle.ct_rules_node.specs.Rounds.{row_master, or_nobody}
-use Rattle.ct_cluster.specs.Cluster.{Cluster, everyone, opening, pending}
+use Rattle.ct_rules_cluster.specs.Cluster.{Cluster, everyone, opening, pending}
 use Rattle.ct_register.specs.Register.{newborn}
 use Rattle.ct_register.specs.Lines
 use Rattle.ct_promise.specs.Promises.{IsConfig}
@@ -14,25 +14,25 @@ use Rattle.ct_promise.specs.Marked.{LineMarks}
 use Rattle.ct_promise.specs.Kept.{RunsFrom, LawOfOneGeneration, LawFromRows}
 use Rattle.ct_promise.specs.Generation.{PromiseOfOneGeneration}
 use Rattle.ct_promise.proofs.Follows.{one_generation_follows, rows_follow}
-use Rattle.ct_law_world.specs.World.{World}
-use Rattle.ct_law_fact.proofs.Invariant.{Ghost}
+use Rattle.ct_law_record_facts.specs.World.{World}
+use Rattle.ct_law_record_facts.proofs.Invariant.{Ghost}
 use Rattle.ct_law_record.proofs.Worlds.{WorldInv}
 use Rattle.ct_law_record.proofs.Law.{bare_ghost, bare_holds}
 use Rattle.ct_law_record.proofs.Births.{born_ghost, born_holds}
 use Rattle.ct_law_record.proofs.MarkedLaw.{bare_marks}
-use Rattle.ct_law_shown.specs.Shown.{scene, project}
-use Rattle.ct_law_node.proofs.Pending.{Callers}
-use Rattle.ct_law_cluster.proofs.Clusters.{all_known}
-use Rattle.ct_law_cluster.proofs.Configured.{all_real, all_small}
-use Rattle.ct_law_cluster.proofs.Opening.{first_era, first_is_era, below_everyone, opened_world, opened_stays}
-use Rattle.ct_law_birth.proofs.BornWorlds.{era_from}
-use Rattle.ct_law_birth.proofs.BornStarts.{born_real, each_begins, born_line, born_installed, born_holder}
-use Rattle.ct_law_birth.proofs.BornCalls.{callers_in}
-use Rattle.ct_law_birth.proofs.BornStays.{born_stays}
-use Rattle.ct_law_calls.proofs.Running.{opened_calls}
-use Rattle.ct_law_calls.proofs.Born.{born_calls}
+use Rattle.ct_law_generation_node.specs.Shown.{scene, project}
+use Rattle.ct_law_generation_node.proofs.Pending.{Callers}
+use Rattle.ct_law_generation_cluster.proofs.Clusters.{all_known}
+use Rattle.ct_law_generation_cluster.proofs.Configured.{all_real, all_small}
+use Rattle.ct_law_generation_cluster.proofs.Opening.{first_era, first_is_era, below_everyone, opened_world, opened_stays}
+use Rattle.ct_law_generation_births.proofs.BornWorlds.{era_from}
+use Rattle.ct_law_generation_births.proofs.BornStarts.{born_real, each_begins, born_line, born_installed, born_holder}
+use Rattle.ct_law_generation_births.proofs.BornCalls.{callers_in}
+use Rattle.ct_law_generation_births.proofs.BornStays.{born_stays}
+use Rattle.ct_law_generation_calls.proofs.Running.{opened_calls}
+use Rattle.ct_law_generation_calls.proofs.Born.{born_calls}
 use Rattle.ct_law_generation.proofs.Going.{Ghosts, marks_of_all, Followed}
-use Rattle.ct_law_entry.proofs.Entries.{opening_home, born_home}
+use Rattle.ct_law_generation_entries.proofs.Entries.{opening_home, born_home}
 use Rattle.ct_law_generation.proofs.Running.{IsGeneration, Lives, restart, runs_from}
 
 -- ---- from the opening

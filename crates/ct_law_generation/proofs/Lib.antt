@@ -1,3 +1,12 @@
 pub mod Going
 pub mod Running
 pub mod Lawful
+pub mod Assembled
+pub mod Kept
+pub mod Joined
+pub mod Keeping
+pub mod Silent
+pub mod Passing
+pub mod Thawing
+pub mod Messages
+pub mod Stepping

@@ -3,25 +3,25 @@ use Rattle.std.proofs.Common.{◌≡◌, ℕ, zero, suc, ◌+◌, ◌<◌, ◌�
 use Rattle.std.specs.Prelude.{nat_lt, Result, Ok, Err}
 use Rattle.std.specs.List.{list_all}
 use Rattle.std.proofs.lemmas.Bool.{cond_both, and_parts, cases_Bool}
-use Rattle.ct_msg.specs.declared.config.Config.{Config}
+use Rattle.ct_values.specs.declared.config.Config.{Config}
 use Rattle.ct_frame.specs.Fields.{is_node, is_db, ascends}
 use Rattle.ct_frame.specs.declared.event.Event.{Event}
 use Rattle.ct_frame.specs.declared.event.Event.TheVariants as event
 use Rattle.ct_call.specs.Rules.{Rules}
 use Rattle.ct_rules_node.specs.Node.{Node, is_among}
-use Rattle.ct_cluster.specs.Cluster.{Cluster, Sent, Fate, Delivered, Dropped, is_up, node_at, sent_at, able_from}
-use Rattle.ct_cluster.specs.Faults.{fault_of, is_allowed}
-use Rattle.ct_cluster.specs.Steps.{Stepped, with_node, put, fed, done, with_fate, deliver, drop, repeat, steps, steps_or, applied}
-use Rattle.ct_cluster.specs.Traces.{OpenCall, ran_one}
-use Rattle.ct_law_shown.specs.Waiting.{Outcome, unchanged, came_of, outcome, outcome_of}
-use Rattle.ct_law_calls.proofs.Clusters.{Calls}
-use Rattle.ct_law_calls.proofs.Telling.{by_log, calls_stand}
-use Rattle.ct_law_calls.proofs.Running.{one_logs}
-use Rattle.ct_cluster.specs.declared.step.Line.{Line}
-use Rattle.ct_cluster.specs.declared.step.Line.TheVariants as line
-use Rattle.ct_cluster.specs.declared.step.Step.{Step}
-use Rattle.ct_cluster.specs.declared.step.Step.TheVariants as step
-use Rattle.ct_cluster.specs.declared.step.StepFault.{StepFault}
+use Rattle.ct_rules_cluster.specs.Cluster.{Cluster, Sent, Fate, Delivered, Dropped, is_up, node_at, sent_at, able_from}
+use Rattle.ct_rules_cluster.specs.Faults.{fault_of, is_allowed}
+use Rattle.ct_rules_cluster.specs.Steps.{Stepped, with_node, put, fed, done, with_fate, deliver, drop, repeat, steps, steps_or, applied}
+use Rattle.ct_rules_cluster.specs.Traces.{OpenCall, ran_one}
+use Rattle.ct_law_generation_node.specs.Waiting.{Outcome, unchanged, came_of, outcome, outcome_of}
+use Rattle.ct_law_generation_calls.proofs.Clusters.{Calls}
+use Rattle.ct_law_generation_calls.proofs.Telling.{by_log, calls_stand}
+use Rattle.ct_law_generation_calls.proofs.Running.{one_logs}
+use Rattle.ct_rules_cluster.specs.declared.step.Line.{Line}
+use Rattle.ct_rules_cluster.specs.declared.step.Line.TheVariants as line
+use Rattle.ct_rules_cluster.specs.declared.step.Step.{Step}
+use Rattle.ct_rules_cluster.specs.declared.step.Step.TheVariants as step
+use Rattle.ct_rules_cluster.specs.declared.step.StepFault.{StepFault}
 use Rattle.ct_register.specs.Register.{Register}
 use Rattle.ct_register.specs.Lines.{Lines}
 use Rattle.ct_register.specs.Legal.{AcceptsLabels}
@@ -29,25 +29,25 @@ use Rattle.ct_register.specs.Marks.{Mark, Marks, GoOn, AreFrom, MarksStep}
 use Rattle.ct_promise.specs.Generation.{is_of_one_generation, speaks_of_records, record_labels}
 use Rattle.ct_promise.specs.Marked.{MarksGoOnIn, is_removal}
 use Rattle.ct_promise.specs.Kept.{RecordsHold, RecordsRun, RunsFrom}
-use Rattle.ct_law_world.specs.World as law
-use Rattle.ct_law_world.specs.World.{Scene, World, LeadsTo}
-use Rattle.ct_law_fact.proofs.Invariant.{Ghost}
+use Rattle.ct_law_record_facts.specs.World as law
+use Rattle.ct_law_record_facts.specs.World.{Scene, World, LeadsTo}
+use Rattle.ct_law_record_facts.proofs.Invariant.{Ghost}
 use Rattle.ct_law_record.proofs.Worlds.{WorldInv}
 use Rattle.ct_law_record.proofs.Law.{leads}
 use Rattle.ct_law_record.proofs.MarkLists.{marks_stay}
 use Rattle.ct_law_record.proofs.MarkedRun.{marks_of}
-use Rattle.ct_law_shown.specs.Shown.{Era, scene, project, AllInstalled, heard, told_by_all, Schedules}
-use Rattle.ct_law_node.proofs.Pending.{Callers}
-use Rattle.ct_law_node.proofs.Staying.{NodeStays}
-use Rattle.ct_law_cluster.proofs.Clusters.{ClusterStays}
-use Rattle.ct_law_node.proofs.Following.{asks_by_law}
-use Rattle.ct_law_cluster.proofs.Fed.{fed_is}
-use Rattle.ct_law_step.proofs.Assembled.{Run_goes, Starts}
-use Rattle.ct_law_step.proofs.Stepping.{is_yield, step_goes_on}
-use Rattle.ct_law_beside.proofs.Yielding.{yielded, yields, yield_runs, yield_accepted}
+use Rattle.ct_law_generation_node.specs.Shown.{Era, scene, project, AllInstalled, heard, told_by_all, Schedules}
+use Rattle.ct_law_generation_node.proofs.Pending.{Callers}
+use Rattle.ct_law_generation_node.proofs.Staying.{NodeStays}
+use Rattle.ct_law_generation_cluster.proofs.Clusters.{ClusterStays}
+use Rattle.ct_law_generation_node.proofs.Following.{asks_by_law}
+use Rattle.ct_law_generation_cluster.proofs.Fed.{fed_is}
+use Rattle.ct_law_generation.proofs.Assembled.{Run_goes, Starts}
+use Rattle.ct_law_generation.proofs.Stepping.{is_yield, step_goes_on}
+use Rattle.ct_law_generation_beside.proofs.Yielding.{yielded, yields, yield_runs, yield_accepted}
 use Rattle.ct_law_generation.proofs.Going.{Ghosts, marks_of_all, Followed, followed_hold, era_from, step_goes}
-use Rattle.ct_law_entry.proofs.AtHome.{AllAtHome, step_home}
-use Rattle.ct_law_entry.proofs.Entries.{lined}
+use Rattle.ct_law_generation_entries.proofs.AtHome.{AllAtHome, step_home}
+use Rattle.ct_law_generation_entries.proofs.Entries.{lined}
 
 -- ---- the recovery lock stays where it is
 

@@ -1,12 +1,12 @@
 -- Which events are plain: a call that is no commit, a message of a record, a vacuum, and what Retry and Thaw do of records.
 use Rattle.std.proofs.Common.{◌≡◌, ℕ, ◌+◌, Bool, false, List, [], ◌∷◌, Option, Some, None, refl}
 use Rattle.std.specs.Prelude.{◌&&◌}
-use Rattle.ct_bytes.specs.Words.{others}
-use Rattle.ct_msg.specs.declared.client.Answer.{Answer}
-use Rattle.ct_msg.specs.declared.client.ClientOp.{ClientOp}
-use Rattle.ct_msg.specs.declared.client.ClientOp.TheVariants as op
-use Rattle.ct_msg.specs.declared.client.Why.{Why}
-use Rattle.ct_msg.specs.declared.config.Config.{Config}
+use Rattle.ct_values.specs.Words.{others}
+use Rattle.ct_values.specs.declared.client.Answer.{Answer}
+use Rattle.ct_values.specs.declared.client.ClientOp.{ClientOp}
+use Rattle.ct_values.specs.declared.client.ClientOp.TheVariants as op
+use Rattle.ct_values.specs.declared.client.Why.{Why}
+use Rattle.ct_values.specs.declared.config.Config.{Config}
 use Rattle.ct_call.specs.Rules.{Rules}
 use Rattle.ct_store.specs.Map.{Pairs}
 use Rattle.ct_rules.specs.Parts.{Moving, keeps, want}
@@ -22,7 +22,7 @@ use Rattle.ct_rules_node.specs.Clients.{is_commit, is_unlock, refusal, unlocks, 
 use Rattle.ct_rules_node.specs.Rounds.{Called, want_again_of, want_again, want_all}
 use Rattle.ct_rules_node.specs.Retries.{call_all, revoke_all, revoke_in}
 use Rattle.ct_rules_node.specs.Steps.{vacuum_all, vacuums}
-use Rattle.ct_law_shown.proofs.Speaking.{Told, want_told, store_told, unlock_told, vacuum_told, call_again_told, revoke_again_told}
+use Rattle.ct_law_generation_node.proofs.Speaking.{Told, want_told, store_told, unlock_told, vacuum_told, call_again_told, revoke_again_told}
 use Rattle.ct_law_plain.proofs.Plainly.{IsOfRecord, Speaks, SamePlain, plain_same, plain_after, either_plain, at_record_plain}
 
 -- ---- small words

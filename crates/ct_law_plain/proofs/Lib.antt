@@ -5,3 +5,6 @@ pub mod Locked
 pub mod Asides
 pub mod Whole
 pub mod Names
+pub mod Steady
+pub mod Parts
+pub mod SteadyEvents

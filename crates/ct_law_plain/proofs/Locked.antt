@@ -2,7 +2,7 @@
 use Rattle.std.proofs.Common.{◌≡◌, ◌≢◌, ℕ, zero, suc, Bool, true, false, cond, List, [], ◌∷◌, set, Option, Some, None, refl, sym, ap, ◌∙◌, subst, arith, inl, inr, ⊎_elim}
 use Rattle.std.specs.Prelude.{◌⊎◌, slice_get, is_some, bytes_eq}
 use Rattle.std.proofs.lemmas.Slice.Eq.{bytes_eq-Decides}
-use Rattle.ct_msg.specs.declared.config.Config.{Config}
+use Rattle.ct_values.specs.declared.config.Config.{Config}
 use Rattle.ct_store.specs.Map.{Pairs, look, write, erase}
 use Rattle.ct_store.proofs.Maps.{written}
 use Rattle.ct_rules.specs.State.{is_blank}
@@ -13,7 +13,7 @@ use Rattle.ct_rules_node.specs.Node.{Node, Phase, Database, is_present, is_persi
 use Rattle.ct_rules_node.specs.Turn.{Turn}
 use Rattle.ct_rules_node.specs.Records.{kept, view, put_back, acted, at_record}
 use Rattle.ct_rules_node.specs.Clients.{is_locked, is_committing}
-use Rattle.ct_rules_node.proofs.Keys.{kept_others}
+use Rattle.ct_law_rules_node.proofs.Keys.{kept_others}
 use Rattle.ct_law_plain.proofs.Plainly.{like_set}
 use Rattle.ct_law_plain.proofs.Locking.{KeepsLock}
 

@@ -4,12 +4,12 @@ use Rattle.std.specs.Prelude.{slice_get, nat_lt, option_map, Ok}
 use Rattle.std.specs.List.{list_any}
 use Rattle.std.proofs.lemmas.Bool.{cases_eq, ltb-true, ltb-false, or_right}
 use Rattle.std.proofs.lemmas.Slice.Eq.{bytes_eq-Decides}
-use Rattle.ct_bytes.specs.declared.address.Address.{Address}
-use Rattle.ct_msg.specs.Config.{Configures, config_fault, repeat_from, repeated_name, repeated_address, first_place, same_name, lock_db}
-use Rattle.ct_msg.specs.declared.config.Config.{Config}
-use Rattle.ct_msg.specs.declared.config.ConfigFault.{ConfigFault}
-use Rattle.ct_msg.specs.declared.config.ConfigFault.TheVariants.{Repeated}
-use Rattle.ct_msg.specs.declared.config.DbDecl.{DbDecl}
+use Rattle.ct_values.specs.declared.address.Address.{Address}
+use Rattle.ct_values.specs.Config.{Configures, config_fault, repeat_from, repeated_name, repeated_address, first_place, same_name, lock_db}
+use Rattle.ct_values.specs.declared.config.Config.{Config}
+use Rattle.ct_values.specs.declared.config.ConfigFault.{ConfigFault}
+use Rattle.ct_values.specs.declared.config.ConfigFault.TheVariants.{Repeated}
+use Rattle.ct_values.specs.declared.config.DbDecl.{DbDecl}
 use Rattle.ct_rules_node.specs.Node.{name_of, name_in}
 
 any_at : (f : DbDecl → Bool) (ys : List DbDecl) (k : ℕ) (y : DbDecl) → slice_get ys k ≡ Some y → f y ≡ true → list_any f ys ≡ true

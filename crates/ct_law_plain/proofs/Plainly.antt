@@ -4,7 +4,7 @@ use Rattle.std.proofs.Common.{◌≡◌, ℕ, zero, suc, Bool, true, false, cond
 use Rattle.std.specs.Prelude.{slice_get}
 use Rattle.std.specs.List.{AllByRecursion}
 use Rattle.std.proofs.lemmas.List.{length-set}
-use Rattle.ct_msg.specs.declared.config.Config.{Config}
+use Rattle.ct_values.specs.declared.config.Config.{Config}
 use Rattle.ct_frame.specs.declared.event.Note.TheVariants as note
 use Rattle.ct_frame.specs.declared.event.Out.{Out}
 use Rattle.ct_frame.specs.declared.event.Out.TheVariants as out
@@ -17,7 +17,7 @@ use Rattle.ct_rules_node.specs.Node.{Database, or_untouched, db_at, with_db}
 use Rattle.ct_rules_node.specs.Turn.{Turn}
 use Rattle.ct_rules_node.specs.Records.{out_of, place_of, view, put_back, acted, at_record}
 use Rattle.ct_rules_node.specs.Admission.{record_in}
-use Rattle.ct_law_shown.proofs.Speaking.{About, Told}
+use Rattle.ct_law_generation_node.proofs.Speaking.{About, Told}
 
 -- a message of a record, of node me in generation g; an answer; or the note that a record was vacuumed
 unfoldable pub IsOfRecord : ℕ → ℕ → Out → Type 0

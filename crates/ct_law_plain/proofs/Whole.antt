@@ -4,13 +4,13 @@ use Rattle.std.specs.Prelude.{◌&&◌, ◌||◌, slice_get, is_some, nat_eq, na
 use Rattle.std.specs.Cmp.Lexicographic.{pointwise}
 use Rattle.std.proofs.lemmas.Bool.{eq-eqb}
 use Rattle.std.proofs.lemmas.Slice.Eq.{bytes_eq-Decides}
-use Rattle.ct_bytes.specs.Words.{others}
-use Rattle.ct_msg.specs.Client.{db_of, is_read, key_of}
-use Rattle.ct_msg.specs.declared.client.ClientOp.{ClientOp}
-use Rattle.ct_msg.specs.declared.client.ClientOp.TheVariants as op
-use Rattle.ct_msg.specs.declared.client.Pair.{Pair}
-use Rattle.ct_msg.specs.declared.client.Why.{Why}
-use Rattle.ct_msg.specs.declared.config.Config.{Config}
+use Rattle.ct_values.specs.Words.{others}
+use Rattle.ct_values.specs.Client.{db_of, is_read, key_of}
+use Rattle.ct_values.specs.declared.client.ClientOp.{ClientOp}
+use Rattle.ct_values.specs.declared.client.ClientOp.TheVariants as op
+use Rattle.ct_values.specs.declared.client.Pair.{Pair}
+use Rattle.ct_values.specs.declared.client.Why.{Why}
+use Rattle.ct_values.specs.declared.config.Config.{Config}
 use Rattle.ct_frame.specs.declared.event.Event.{Event}
 use Rattle.ct_frame.specs.declared.event.Event.TheVariants as event
 use Rattle.ct_frame.specs.declared.frame.Assigned.{Assigned}
@@ -35,7 +35,7 @@ use Rattle.ct_rules_node.specs.Rounds.{Called, want_again, want_all, thaws, pend
 use Rattle.ct_rules_node.specs.Retries.{call_all, revoke_all, revoke_in, retry_records, retry}
 use Rattle.ct_rules_node.specs.Steps.{on_record_of, if_persistent, if_sound, if_taken_over, arrives, vacuum_all, vacuums, happens}
 use Rattle.ct_rules_node.specs.Admission.{record_in}
-use Rattle.ct_rules_node.proofs.Refusals.{first_none, not_refused, required}
+use Rattle.ct_law_rules_node.proofs.Refusals.{first_none, not_refused, required}
 use Rattle.ct_law_plain.proofs.Plainly.{like_set}
 use Rattle.ct_law_plain.proofs.Locking.{want_held, want_again_held, store_held, vacuum_held, arrive_held, call_again_held, revoke_again_held}
 use Rattle.ct_law_plain.proofs.Locked.{waits_in, locked_in, UnderLock, Locked, CommitLocked, KeepsCommits, keeps_same, keeps_after, either_keeps, locked_kept, locked_none, none_waits, waits_begun, lock_at_record, waits_at_record, phase_at_record, at_record_keeps}

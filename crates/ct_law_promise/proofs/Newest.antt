@@ -2,10 +2,10 @@
 use Rattle.std.proofs.Common.{◌≡◌, ℕ, true, List, [], Some, sym, ◌∙◌, ap, subst, ⊎_elim}
 use Rattle.ct_frame.specs.Header.{for_reading}
 use Rattle.ct_frame.specs.declared.header.RecCopy.{RecCopy}
-use Rattle.ct_msg.specs.declared.config.Config.{Config}
+use Rattle.ct_values.specs.declared.config.Config.{Config}
 use Rattle.ct_rules_node.specs.Clients.{is_locked}
-use Rattle.ct_cluster.specs.Cluster.{Cluster, is_up, node_at, opening}
-use Rattle.ct_cluster.specs.Traces.{ran}
+use Rattle.ct_rules_cluster.specs.Cluster.{Cluster, is_up, node_at, opening}
+use Rattle.ct_rules_cluster.specs.Traces.{ran}
 use Rattle.ct_register.specs.Lines.{Lines}
 use Rattle.ct_register.specs.Register.{reading}
 use Rattle.ct_register.specs.Stands.{HasCopy, StandsFor}

@@ -1,24 +1,24 @@
 -- The law of marks and the promise, whole: of every list of steps.
 use Rattle.std.proofs.Common.{◌≡◌, ℕ, List, [], ◌∷◌, refl, sym, ap, ◌∙◌, subst}
-use Rattle.ct_msg.specs.declared.config.Config.{Config}
+use Rattle.ct_values.specs.declared.config.Config.{Config}
 use Rattle.ct_call.specs.Rules.{Rules}
-use Rattle.ct_cluster.specs.Cluster.{Cluster, opening}
-use Rattle.ct_cluster.specs.Traces.{OpenCall, ran_one}
-use Rattle.ct_cluster.specs.declared.step.Step.{Step}
+use Rattle.ct_rules_cluster.specs.Cluster.{Cluster, opening}
+use Rattle.ct_rules_cluster.specs.Traces.{OpenCall, ran_one}
+use Rattle.ct_rules_cluster.specs.declared.step.Step.{Step}
 use Rattle.ct_register.specs.Lines
 use Rattle.ct_register.specs.Lines.{Lines}
 use Rattle.ct_promise.specs.Promises.{IsConfig, Promise}
 use Rattle.ct_promise.specs.Marked.{AllMarks, MarksRun, LawOfMarks}
 use Rattle.ct_promise.proofs.Follows.{promise_follows}
-use Rattle.ct_law_shown.specs.Waiting.{Outcome, outcome_of}
-use Rattle.ct_law_calls.proofs.Clusters.{Calls}
-use Rattle.ct_law_calls.proofs.Telling.{by_log, calls_stand}
-use Rattle.ct_law_calls.proofs.Running.{one_logs}
-use Rattle.ct_law_line.proofs.Lives.{Lives}
-use Rattle.ct_law_line.proofs.Faces.{marks_in_all}
-use Rattle.ct_law_line.proofs.Opened.{opened_lives}
-use Rattle.ct_law_parts.proofs.Parts.{goes_on}
-use Rattle.ct_law_joined.proofs.Placeless.{but_same}
+use Rattle.ct_law_generation_node.specs.Waiting.{Outcome, outcome_of}
+use Rattle.ct_law_generation_calls.proofs.Clusters.{Calls}
+use Rattle.ct_law_generation_calls.proofs.Telling.{by_log, calls_stand}
+use Rattle.ct_law_generation_calls.proofs.Running.{one_logs}
+use Rattle.ct_law_run_lines.proofs.Lives.{Lives}
+use Rattle.ct_law_run_lines.proofs.Faces.{marks_in_all}
+use Rattle.ct_law_run_lines.proofs.Opened.{opened_lives}
+use Rattle.ct_law_registers.proofs.Parts.{goes_on}
+use Rattle.ct_law_databases_join.proofs.Placeless.{but_same}
 use Rattle.ct_law_databases.proofs.Whole.{Whole, marks_but, opened_whole}
 use Rattle.ct_law_databases.proofs.Stepping.{marks_same}
 use Rattle.ct_law_promise.proofs.Together.{Placed, Stepped_all, stands_whole, step_all, opened_placed}

@@ -1,39 +1,39 @@
 -- Records, databases and addresses together: each step keeps what holds of all, and the registers accept all that it tells.
 use Rattle.std.proofs.Common.{◌≡◌, ◌≢◌, ℕ, Bool, true, false, cond, List, [], ◌∷◌, refl, sym, ap, ◌∙◌, subst, inl, inr}
 use Rattle.std.specs.Prelude.{◌⊎◌, Result, Ok, Err}
-use Rattle.ct_msg.specs.declared.config.Config.{Config}
+use Rattle.ct_values.specs.declared.config.Config.{Config}
 use Rattle.ct_call.specs.Rules.{Rules}
-use Rattle.ct_cluster.specs.Cluster as cluster
-use Rattle.ct_cluster.specs.Cluster.{Cluster}
-use Rattle.ct_cluster.specs.Faults.{is_allowed}
-use Rattle.ct_cluster.specs.Labels.{Label}
-use Rattle.ct_cluster.specs.Steps.{Stepped, applied}
-use Rattle.ct_cluster.specs.Traces.{OpenCall}
-use Rattle.ct_cluster.specs.declared.step.Step.{Step}
-use Rattle.ct_cluster.specs.declared.step.StepFault.{StepFault}
+use Rattle.ct_rules_cluster.specs.Cluster as cluster
+use Rattle.ct_rules_cluster.specs.Cluster.{Cluster}
+use Rattle.ct_rules_cluster.specs.Faults.{is_allowed}
+use Rattle.ct_rules_cluster.specs.Labels.{Label}
+use Rattle.ct_rules_cluster.specs.Steps.{Stepped, applied}
+use Rattle.ct_rules_cluster.specs.Traces.{OpenCall}
+use Rattle.ct_rules_cluster.specs.declared.step.Step.{Step}
+use Rattle.ct_rules_cluster.specs.declared.step.StepFault.{StepFault}
 use Rattle.ct_register.specs.Legal.{AcceptsLabels}
 use Rattle.ct_register.specs.Lines
 use Rattle.ct_register.specs.Lines.{Lines}
 use Rattle.ct_register.specs.Stands.{StandsFor}
 use Rattle.ct_promise.specs.Promises.{IsConfig}
-use Rattle.ct_law_shown.specs.Waiting.{Outcome, unchanged, came_of, outcome}
-use Rattle.ct_law_calls.proofs.Clusters.{Calls}
-use Rattle.ct_law_calls.proofs.Telling.{by_log}
-use Rattle.ct_law_line.proofs.Lives.{Lives}
-use Rattle.ct_law_line.proofs.Opened.{opened_lives}
-use Rattle.ct_law_parts.proofs.Parts.{Choice, goes_on, PlacesNeed, AllNeed}
-use Rattle.ct_law_parts.proofs.Whole.{all_accept}
-use Rattle.ct_law_stores.proofs.Places.{Turns}
-use Rattle.ct_law_places.proofs.Facts.{Spots, spots, MailStands, Holds}
-use Rattle.ct_law_places.proofs.Kept.{Ready}
-use Rattle.ct_law_walk.proofs.Parts.{nodes_of, frames_in}
-use Rattle.ct_law_assigned.proofs.Law.{Before, StepHolds, step_holds}
+use Rattle.ct_law_generation_node.specs.Waiting.{Outcome, unchanged, came_of, outcome}
+use Rattle.ct_law_generation_calls.proofs.Clusters.{Calls}
+use Rattle.ct_law_generation_calls.proofs.Telling.{by_log}
+use Rattle.ct_law_run_lines.proofs.Lives.{Lives}
+use Rattle.ct_law_run_lines.proofs.Opened.{opened_lives}
+use Rattle.ct_law_registers.proofs.Parts.{Choice, goes_on, PlacesNeed, AllNeed}
+use Rattle.ct_law_registers.proofs.Whole.{all_accept}
+use Rattle.ct_law_registers.proofs.Places.{Turns}
+use Rattle.ct_law_addresses_kept.proofs.Facts.{Spots, spots, MailStands, Holds}
+use Rattle.ct_law_addresses_kept.proofs.Kept.{Ready}
+use Rattle.ct_law_acts.proofs.Parts.{nodes_of, frames_in}
+use Rattle.ct_law_addresses.proofs.AddressLaw.{Before, StepHolds, step_holds}
 use Rattle.ct_law_addresses.proofs.Given.{before_given}
 use Rattle.ct_law_addresses.proofs.Stood.{addresses_stand, opened_holds, opened_mail}
-use Rattle.ct_law_joined.proofs.Like.{with_others, IsLike}
+use Rattle.ct_law_databases_join.proofs.Like.{with_others, IsLike}
 use Rattle.ct_law_databases.proofs.Whole.{Whole, stands_but, opened_whole}
 use Rattle.ct_law_databases.proofs.Stepping.{Stepped_whole, step_whole}
-use Rattle.ct_law_joined.proofs.Placeless.{but_same}
+use Rattle.ct_law_databases_join.proofs.Placeless.{but_same}
 use Rattle.ct_law_promise.proofs.Nowhere.{NowhereHeld, labels_held}
 
 -- what holds of addresses, of the cluster and the whole registers

@@ -1,1 +1,3 @@
+pub mod Merges
+pub mod Small
 pub mod Phrases

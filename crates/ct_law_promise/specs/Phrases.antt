@@ -2,18 +2,18 @@
 use Rattle.std.specs.Prelude.{◌≡◌, ◌≢◌, ◌⊎◌, ℕ, ◌≤◌, nat_lt, true, List, [], ◌∷◌, ◌++◌, Some}
 use Rattle.ct_frame.specs.Header.{for_reading}
 use Rattle.ct_frame.specs.declared.header.RecCopy.{RecCopy}
-use Rattle.ct_msg.specs.declared.client.Answer.TheVariants as answer
-use Rattle.ct_msg.specs.declared.client.ClientOp.TheVariants as op
-use Rattle.ct_msg.specs.declared.client.Pair.{Pair}
-use Rattle.ct_msg.specs.declared.config.Config.{Config}
-use Rattle.ct_msg.specs.declared.config.DbKind.TheVariants.{Persistent}
+use Rattle.ct_values.specs.declared.client.Answer.TheVariants as answer
+use Rattle.ct_values.specs.declared.client.ClientOp.TheVariants as op
+use Rattle.ct_values.specs.declared.client.Pair.{Pair}
+use Rattle.ct_values.specs.declared.config.Config.{Config}
+use Rattle.ct_values.specs.declared.config.DbKind.TheVariants.{Persistent}
 use Rattle.ct_call.specs.Rules.{Rules}
 use Rattle.ct_rules_node.specs.Clients.{is_locked}
 use Rattle.ct_rules_node.specs.Node.{db_at, kind_at}
-use Rattle.ct_cluster.specs.Cluster.{Cluster, opening, is_up, node_at}
-use Rattle.ct_cluster.specs.Labels.{Label, Answered}
-use Rattle.ct_cluster.specs.Traces.{Ran, ran}
-use Rattle.ct_cluster.specs.declared.step.Step.{Step}
+use Rattle.ct_rules_cluster.specs.Cluster.{Cluster, opening, is_up, node_at}
+use Rattle.ct_rules_cluster.specs.Labels.{Label, Answered}
+use Rattle.ct_rules_cluster.specs.Traces.{Ran, ran}
+use Rattle.ct_rules_cluster.specs.declared.step.Step.{Step}
 use Rattle.ct_register.specs.Legal.{Legal}
 use Rattle.ct_register.specs.Lines.{Lines}
 use Rattle.ct_register.specs.Register.{reading}

@@ -1,12 +1,12 @@
 //! What is promised of every run, phrase by phrase.
 ghost use Rattle.ct_law_addresses.specs.Holders.{HeldWhereAssigned, OneHolder};
-ghost use Rattle.ct_law_calls.specs.Law.{PromiseOfCalls};
-ghost use Rattle.ct_law_merges.specs.Merges.{NothingSeenIsLost, NothingVacuumedReturns};
+ghost use Rattle.ct_law_generation_calls.specs.Law.{PromiseOfCalls};
+ghost use Rattle.ct_law_promise.specs.Merges.{NothingSeenIsLost, NothingVacuumedReturns};
 ghost use Rattle.ct_law_promise.specs.Phrases.{AcknowledgedStays, MembersAgree, NewestVersion, OneLockOwner, OneValue};
 
+use crate::merge_laws::{loses_nothing_seen, returns_nothing_vacuumed};
 use ct_law_addresses::laws::{held_by_one, held_where_assigned};
-use ct_law_calls::laws::keeps_calls_of_runs;
-use ct_law_merges::laws::{loses_nothing_seen, returns_nothing_vacuumed};
+use ct_law_generation_calls::laws::keeps_calls_of_runs;
 
 /// Each call is answered at most once: no answer is to a call that is not open. And the calls that wait are exactly the open
 /// ones, so none is forgotten.

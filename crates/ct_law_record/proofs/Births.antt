@@ -3,18 +3,18 @@ use Rattle.std.proofs.Common.{◌&&◌, not, ◌≡◌, ◌≢◌, ℕ, ◌+◌,
 use Rattle.ct_frame.specs.Header.{nobody, plain}
 use Rattle.ct_rules.specs.State.{a_copy, nothing_kept}
 use Rattle.ct_rules.specs.declared.state.Wish.{Wish}
-use Rattle.ct_law_fact.proofs.Rule
-use Rattle.ct_law_fact.proofs.Rule.{Copy}
-use Rattle.ct_law_like.proofs.SeenNode.{copy_of, frames_of, kind_at, node_of}
-use Rattle.ct_law_fact.proofs.Invariant.{Past, Marking, Sent, Ghost, Asked, Waits, Emptied, readers_of, is_revoking, Facts, MasterFacts, NodeInv}
+use Rattle.ct_law_record_facts.proofs.Rule
+use Rattle.ct_law_record_facts.proofs.Rule.{Copy}
+use Rattle.ct_law_record_wishes.proofs.SeenNode.{copy_of, frames_of, kind_at, node_of}
+use Rattle.ct_law_record_facts.proofs.Invariant.{Past, Marking, Sent, Ghost, Asked, Waits, Emptied, readers_of, is_revoking, Facts, MasterFacts, NodeInv}
 use Rattle.std.specs.List.{list_all}
 use Rattle.ct_frame.specs.Fields.{is_node}
 use Rattle.ct_register.specs.Register.{reading, newborn}
-use Rattle.ct_law_world.specs.World.{Scene, AreDrawn, waiting_call, opening, bare, born_state, born, SeesAtMost}
-use Rattle.ct_law_world.specs.Calls.{log_of, AreWanting, OpensAsOneRegister, BeginsAsOneRegister, IsBornAsOneRegister}
+use Rattle.ct_law_record_facts.specs.World.{Scene, AreDrawn, waiting_call, opening, bare, born_state, born, SeesAtMost}
+use Rattle.ct_law_record_facts.specs.Calls.{log_of, AreWanting, OpensAsOneRegister, BeginsAsOneRegister, IsBornAsOneRegister}
 use Rattle.ct_law_record.proofs.Logged.{AllWant}
 use Rattle.ct_law_record.proofs.LoggedRun.{leads_on}
-use Rattle.ct_law_fact.proofs.Nodes.{past_top, past_none}
+use Rattle.ct_law_record_facts.proofs.Nodes.{past_top, past_none}
 use Rattle.ct_law_record.proofs.Worlds.{WorldInv, member_real}
 use Rattle.ct_law_record.proofs.Law.{drawn_low, bare_ghost, bare_holds}
 use Rattle.ct_rules_node.specs.Rounds.{installed_state, copy_from, row_master, or_nobody, entry_from}

@@ -3,9 +3,9 @@ use Rattle.std.proofs.Common.{arith, ◌≡◌, ◌≢◌, ℕ, Bool, true, fals
 use Rattle.std.specs.Prelude.{◌⊎◌, nat_eq, not, is_none, is_some, slice_get}
 use Rattle.std.specs.List.{list_all}
 use Rattle.std.proofs.lemmas.Bool.{cases_eq, ne_eqb}
-use Rattle.ct_msg.specs.Client.{wants_record}
-use Rattle.ct_msg.specs.declared.client.ClientOp.{ClientOp}
-use Rattle.ct_msg.specs.declared.client.ClientOp.TheVariants as op
+use Rattle.ct_values.specs.Client.{wants_record}
+use Rattle.ct_values.specs.declared.client.ClientOp.{ClientOp}
+use Rattle.ct_values.specs.declared.client.ClientOp.TheVariants as op
 use Rattle.ct_frame.specs.Fields.{is_node}
 use Rattle.ct_rules.specs.Messages.{greater}
 use Rattle.ct_rules.specs.Moves.{move, release, begins}
@@ -15,14 +15,14 @@ use Rattle.ct_rules.specs.declared.state.RecState.{RecState}
 use Rattle.ct_rules.specs.declared.state.Wish.{Wish}
 use Rattle.ct_rules_node.specs.Node.{is_among}
 use Rattle.ct_register.specs.Register.{Register}
-use Rattle.ct_law_world.specs.Labels.{Label, Joined, AcceptsAll}
-use Rattle.ct_law_world.specs.World as world
-use Rattle.ct_law_world.specs.World.{Scene, View, Mail, World, Event, Wants, Stores, Unlocks, Releases, Comes, Vacuums, Resends, Thaws, Ends, Leaves, Joins, Rises, place, starts, peers, may_want, own_call, waiting_call, told, sent, view_of, unlocked}
-use Rattle.ct_law_world.specs.Calls.{Log, with_call, closed_by_all, CallsStand, told_by, Logged, put, happens, stays, calls, comes_logged}
-use Rattle.ct_law_fact.proofs.Invariant.{Ghost}
-use Rattle.ct_law_wish.proofs.Wishing.{Wishful, want_wish, store_wish, release_wish, unlock_wish, arrive_wish, vacuum_wish, want_again_wish, call_again_wish, revoke_again_wish}
-use Rattle.ct_law_wish.proofs.Even.{answers_in, Even, number_of, even_is, want_even, store_even, release_even, unlock_even, arrive_even, vacuum_even, want_again_even, call_again_even, revoke_again_even}
-use Rattle.ct_law_wish.proofs.Calls.{closed_calls, closed_at, others_stay, same_call, other_call, other_node, Tells, told_same, accepts_asked, waiting_tells, own_tells, own_self, own_other}
+use Rattle.ct_law_record_facts.specs.Labels.{Label, Joined, AcceptsAll}
+use Rattle.ct_law_record_facts.specs.World as world
+use Rattle.ct_law_record_facts.specs.World.{Scene, View, Mail, World, Event, Wants, Stores, Unlocks, Releases, Comes, Vacuums, Resends, Thaws, Ends, Leaves, Joins, Rises, place, starts, peers, may_want, own_call, waiting_call, told, sent, view_of, unlocked}
+use Rattle.ct_law_record_facts.specs.Calls.{Log, with_call, closed_by_all, CallsStand, told_by, Logged, put, happens, stays, calls, comes_logged}
+use Rattle.ct_law_record_facts.proofs.Invariant.{Ghost}
+use Rattle.ct_law_record_wishes.proofs.Wishing.{Wishful, want_wish, store_wish, release_wish, unlock_wish, arrive_wish, vacuum_wish, want_again_wish, call_again_wish, revoke_again_wish}
+use Rattle.ct_law_record_wishes.proofs.Even.{answers_in, Even, number_of, even_is, want_even, store_even, release_even, unlock_even, arrive_even, vacuum_even, want_again_even, call_again_even, revoke_again_even}
+use Rattle.ct_law_record_wishes.proofs.Calls.{closed_calls, closed_at, others_stay, same_call, other_call, other_node, Tells, told_same, accepts_asked, waiting_tells, own_tells, own_self, own_other}
 use Rattle.ct_law_record.proofs.Events.{none_none, may_parts}
 use Rattle.ct_law_record.proofs.Worlds.{WorldInv, Leads, step_holds}
 

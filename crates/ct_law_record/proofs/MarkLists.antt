@@ -2,7 +2,7 @@
 use Rattle.std.proofs.Common.{◌≡◌, ◌≢◌, ℕ, zero, suc, ◌+◌, ◌-◌, ◌<◌, ◌≤◌, Bool, true, false, Some, List, [], ◌∷◌, refl, sym, ap, ◌∙◌, ⊎_elim, arith, subst, nat_lt, cond}
 use Rattle.std.proofs.lemmas.Bool.{cases_eq, eq-eqb, ne_eqb, cond_both, ltb-true, lt-ltb, cases_lt}
 use Rattle.ct_register.specs.Marks.{Mark, Marks, Rises, RisesAfter, EndsAt, AreBelow, AreFrom, GoOn, place_of, place_below_from, MarksStep}
-use Rattle.ct_law_fact.proofs.Invariant.{Span, Grows, Goes}
+use Rattle.ct_law_record_facts.proofs.Invariant.{Span, Grows, Goes}
 
 -- so many marks from an RSN on
 unfoldable pub dense : (from count : ℕ) (mark : ℕ → ℕ) → List Mark

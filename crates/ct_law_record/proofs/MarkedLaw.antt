@@ -5,9 +5,9 @@ use Rattle.ct_frame.specs.declared.frame.TableRow.{TableRow}
 use Rattle.ct_rules_node.specs.Rounds.{row_master, or_nobody}
 use Rattle.ct_rules_node.specs.Node.{is_among}
 use Rattle.ct_register.specs.Register.{newborn}
-use Rattle.ct_law_world.specs.Marked.{OpensWithMarks, BeginsWithMarks, IsBornWithMarks}
-use Rattle.ct_law_world.specs.World.{waiting_call, opening, bare, born}
-use Rattle.ct_law_world.specs.Calls.{log_of}
+use Rattle.ct_law_record_facts.specs.Marked.{OpensWithMarks, BeginsWithMarks, IsBornWithMarks}
+use Rattle.ct_law_record_facts.specs.World.{waiting_call, opening, bare, born}
+use Rattle.ct_law_record_facts.specs.Calls.{log_of}
 use Rattle.ct_law_record.proofs.LoggedRun.{runs_from}
 use Rattle.ct_law_record.proofs.Law.{bare_ghost, bare_holds}
 use Rattle.ct_law_record.proofs.Births.{born_ghost, born_holds, born_want}

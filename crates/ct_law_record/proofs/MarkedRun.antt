@@ -6,13 +6,13 @@ use Rattle.ct_frame.specs.declared.header.RecCopy.{RecCopy}
 use Rattle.ct_rules.specs.declared.state.Entry.{Entry}
 use Rattle.ct_register.specs.Register.{Register, reading}
 use Rattle.ct_register.specs.Marks.{Marks, AreMarks, EndsAt, AreFrom, MarksStep, IsCopyAt, IsEntryAt, place_below_from}
-use Rattle.ct_law_world.specs.Labels.{AcceptsAll}
-use Rattle.ct_law_world.specs.Marked.{is_removed, MarksHold}
-use Rattle.ct_law_world.specs.World.{Scene, World, Event, HasCopy, happens, trace, last}
-use Rattle.ct_law_fact.proofs.Rule
-use Rattle.ct_law_like.proofs.SeenNode.{copy_of}
-use Rattle.ct_law_fact.proofs.Invariant.{Ghost, Span, span_of, Past, Marking}
-use Rattle.ct_law_change.proofs.Markings.{mark_within, RunsOn}
+use Rattle.ct_law_record_facts.specs.Labels.{AcceptsAll}
+use Rattle.ct_law_record_facts.specs.Marked.{is_removed, MarksHold}
+use Rattle.ct_law_record_facts.specs.World.{Scene, World, Event, HasCopy, happens, trace, last}
+use Rattle.ct_law_record_facts.proofs.Rule
+use Rattle.ct_law_record_wishes.proofs.SeenNode.{copy_of}
+use Rattle.ct_law_record_facts.proofs.Invariant.{Ghost, Span, span_of, Past, Marking}
+use Rattle.ct_law_record_events.proofs.Markings.{mark_within, RunsOn}
 use Rattle.ct_law_record.proofs.MarkLists.{dense, marks_in, dense_rises, dense_below, dense_ends, dense_has, dense_low, dense_high, none_in, marks_go, marks_grow, marks_from}
 use Rattle.ct_law_record.proofs.Worlds.{WorldInv, nodes_at, step_holds, run_holds}
 

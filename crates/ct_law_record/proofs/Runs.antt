@@ -1,18 +1,18 @@
 -- Two schedules, computed: the definitions are not empty words. Node 0 is the location master, node 1 the other member.
 use Rattle.std.proofs.Common.{◌≡◌, ℕ, Bool, true, false, List, [], ◌∷◌, None, refl}
-use Rattle.ct_msg.specs.Client.{is_read, wants_record}
-use Rattle.ct_msg.specs.declared.client.Answer.TheVariants as answer
-use Rattle.ct_msg.specs.declared.client.ClientOp.{ClientOp}
-use Rattle.ct_msg.specs.declared.client.ClientOp.TheVariants as op
+use Rattle.ct_values.specs.Client.{is_read, wants_record}
+use Rattle.ct_values.specs.declared.client.Answer.TheVariants as answer
+use Rattle.ct_values.specs.declared.client.ClientOp.{ClientOp}
+use Rattle.ct_values.specs.declared.client.ClientOp.TheVariants as op
 use Rattle.ct_rules.specs.State
 use Rattle.ct_rules.specs.Parts
 use Rattle.ct_rules.specs.Messages
 use Rattle.ct_rules.specs.Moves
 use Rattle.ct_rules_node.specs.Node.{is_among}
-use Rattle.ct_law_world.specs.Labels.{Told, Vacuumed}
-use Rattle.ct_law_world.specs.World
-use Rattle.ct_law_world.specs.Calls
-use Rattle.ct_law_world.specs.World.{Scene, Event, Wants, Stores, Unlocks, Comes, Vacuums, opening}
+use Rattle.ct_law_record_facts.specs.Labels.{Told, Vacuumed}
+use Rattle.ct_law_record_facts.specs.World
+use Rattle.ct_law_record_facts.specs.Calls
+use Rattle.ct_law_record_facts.specs.World.{Scene, Event, Wants, Stores, Unlocks, Comes, Vacuums, opening}
 
 -- a record, without functions
 abbrev scene : Bool → Scene

@@ -2,37 +2,37 @@
 use Rattle.std.proofs.Common.{length, Bool, ◌≡◌, ◌≢◌, ℕ, true, false, Option, Some, None, List, [], ◌∷◌, ◌++◌, refl, sym, ap, ◌∙◌, arith, append-nil, not, ◌&&◌, eqb-true, subst, inl, inr, eq-eqb, ◌⊎◌, ⊎_elim, slice_get, zero, suc}
 use Rattle.std.proofs.lemmas.Bool.{cond_both, and_parts, ne_eqb, eqb-false}
 use Rattle.std.specs.Prelude.{is_some, nat_eq}
-use Rattle.ct_bytes.specs.Words.{others}
-use Rattle.ct_msg.specs.declared.client.ClientOp.{ClientOp}
-use Rattle.ct_msg.specs.declared.client.ClientOp.TheVariants as op
+use Rattle.ct_values.specs.Words.{others}
+use Rattle.ct_values.specs.declared.client.ClientOp.{ClientOp}
+use Rattle.ct_values.specs.declared.client.ClientOp.TheVariants as op
 use Rattle.ct_frame.specs.Header.{nobody}
 use Rattle.ct_call.specs.Rules.{Rules}
 use Rattle.ct_rules.specs.Parts.{Moving}
 use Rattle.ct_rules.specs.declared.event.Act.{Act}
 use Rattle.ct_rules.specs.declared.event.Act.TheVariants as act
-use Rattle.ct_law_world.specs.Labels.{Label, AcceptsAll}
-use Rattle.ct_law_world.specs.World.{Mail, told, sent, own_call, waiting_call, may_want, View, starts, sends, Scene, World, Event, Wants, Stores, Unlocks, Releases, Comes, Vacuums, Resends, Thaws, Ends, Leaves, Joins, Rises, place, peers, Stepped, view_of, steps, joins, unlocked, put, comes, happens, trace, last}
-use Rattle.ct_law_world.specs.Labels as label
-use Rattle.ct_law_event.proofs.LocksEnd.{end_holds, leave_holds}
-use Rattle.ct_law_fact.proofs.Rule
-use Rattle.ct_law_fact.proofs.Rule.{Node, Frame}
-use Rattle.ct_law_like.proofs.SeenNode.{copy_of, node_of, out_of, frame_of, frames_of, frames_append}
+use Rattle.ct_law_record_facts.specs.Labels.{Label, AcceptsAll}
+use Rattle.ct_law_record_facts.specs.World.{Mail, told, sent, own_call, waiting_call, may_want, View, starts, sends, Scene, World, Event, Wants, Stores, Unlocks, Releases, Comes, Vacuums, Resends, Thaws, Ends, Leaves, Joins, Rises, place, peers, Stepped, view_of, steps, joins, unlocked, put, comes, happens, trace, last}
+use Rattle.ct_law_record_facts.specs.Labels as label
+use Rattle.ct_law_record_events.proofs.LocksEnd.{end_holds, leave_holds}
+use Rattle.ct_law_record_facts.proofs.Rule
+use Rattle.ct_law_record_facts.proofs.Rule.{Node, Frame}
+use Rattle.ct_law_record_wishes.proofs.SeenNode.{copy_of, node_of, out_of, frame_of, frames_of, frames_append}
 use Rattle.ct_rules.specs.Messages
 use Rattle.ct_rules.specs.Moves
 use Rattle.ct_rules_node.specs.Rounds
 use Rattle.ct_rules_node.specs.Node.{is_among}
 use Rattle.ct_register.specs.Register.{Register, joined_by}
-use Rattle.ct_law_fact.proofs.Nodes.{seeing, NodeInv-seeing}
-use Rattle.ct_law_change.proofs.Small.{changed_other}
-use Rattle.ct_law_fact.proofs.Invariant.{Start, span_of, Goes, Sent, Ghost, NodeInv, Holds, Kept, MasterInv, GlobalInv}
-use Rattle.ct_law_event.proofs.Vacuuming.{Apart}
-use Rattle.ct_law_world.specs.Marked.{is_removed}
-use Rattle.ct_law_change.proofs.Markings.{RunsOn, goes_stays, goes_joined, runs_then, runs_none}
+use Rattle.ct_law_record_facts.proofs.Nodes.{seeing, NodeInv-seeing}
+use Rattle.ct_law_record_events.proofs.Small.{changed_other}
+use Rattle.ct_law_record_facts.proofs.Invariant.{Start, span_of, Goes, Sent, Ghost, NodeInv, Holds, Kept, MasterInv, GlobalInv}
+use Rattle.ct_law_record_events.proofs.Vacuuming.{Apart}
+use Rattle.ct_law_record_facts.specs.Marked.{is_removed}
+use Rattle.ct_law_record_events.proofs.Markings.{RunsOn, goes_stays, goes_joined, runs_then, runs_none}
 use Rattle.std.specs.List.{list_all}
 use Rattle.ct_frame.specs.Fields.{is_node}
 use Rattle.ct_register.specs.Words.{at as changed_seen}
 use Rattle.ct_law_record.proofs.Events.{arrive_holds, wants_holds, stores_holds, unlocks_holds, releases_holds, vacuums_holds, resends_holds, thaws_holds, rises_holds, none_none, none_unlocked, waiting_is, may_parts}
-use Rattle.ct_law_wish.proofs.Calls.{own_self}
+use Rattle.ct_law_record_wishes.proofs.Calls.{own_self}
 
 -- the nodes, as the law sees them
 abbrev pub node_at : Scene → ℕ → Bool → View → Node

@@ -1,4 +1,0 @@
-pub mod Asking
-pub mod Dropped
-pub mod Absent
-pub mod Handed

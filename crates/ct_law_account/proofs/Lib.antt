@@ -1,6 +1,0 @@
-pub mod Opened
-pub mod Accounts
-pub mod Records
-pub mod Turns
-pub mod Clients
-pub mod Events

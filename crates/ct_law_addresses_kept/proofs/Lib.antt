@@ -1,0 +1,16 @@
+pub mod Leads
+pub mod Born
+pub mod Joined
+pub mod Left
+pub mod Ticketed
+pub mod Again
+pub mod Lists
+pub mod Facts
+pub mod Aside
+pub mod Asides
+pub mod Later
+pub mod Kept
+pub mod Touched
+pub mod Handing
+pub mod Placed
+pub mod Leading

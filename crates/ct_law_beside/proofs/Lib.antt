@@ -1,4 +1,0 @@
-pub mod Committed
-pub mod Asides
-pub mod Rounding
-pub mod Yielding

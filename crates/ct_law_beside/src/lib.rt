@@ -1,2 +1,0 @@
-//! What a node does beside the records of its generation: commits, rounds, takeover runs, and the recovery lock given back.
-#![tactic(auto)]

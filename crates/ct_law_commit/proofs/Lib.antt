@@ -1,4 +1,0 @@
-pub mod Commit
-pub mod Update
-pub mod Ack
-pub mod Freeze

@@ -1,0 +1,10 @@
+pub mod Ordered
+pub mod Rounds
+pub mod Locks
+pub mod Later
+pub mod Turns
+pub mod Lost
+pub mod Losing
+pub mod Like
+pub mod Labels
+pub mod Placeless

@@ -1,0 +1,13 @@
+pub mod Commit
+pub mod Update
+pub mod Ack
+pub mod Freeze
+pub mod Changes
+pub mod Quiet
+pub mod Law
+pub mod Kept
+pub mod Lists
+pub mod Settling
+pub mod One
+pub mod Databases
+pub mod Outs

@@ -1,0 +1,16 @@
+pub mod Alike
+pub mod Read
+pub mod Stop
+pub mod Install
+pub mod Ticket
+pub mod Choose
+pub mod Round
+pub mod Parts
+pub mod Rounds
+pub mod Records
+pub mod Before
+pub mod Arrivals
+pub mod Clients
+pub mod Turns
+pub mod Steps
+pub mod Law

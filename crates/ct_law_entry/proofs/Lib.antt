@@ -1,4 +1,0 @@
-pub mod Homing
-pub mod Leaving
-pub mod AtHome
-pub mod Entries

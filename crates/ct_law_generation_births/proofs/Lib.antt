@@ -1,0 +1,12 @@
+pub mod Opened
+pub mod Accounts
+pub mod Records
+pub mod Turns
+pub mod Clients
+pub mod Events
+pub mod BornWorlds
+pub mod BornStarts
+pub mod BornCalls
+pub mod BornForms
+pub mod BornNodes
+pub mod BornStays

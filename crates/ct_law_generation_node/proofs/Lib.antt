@@ -1,0 +1,16 @@
+pub mod Forming
+pub mod Pending
+pub mod Plain
+pub mod Staying
+pub mod Following
+pub mod Delivering
+pub mod Calling
+pub mod Putting
+pub mod Events
+pub mod Lining
+pub mod Weave
+pub mod Standing
+pub mod Speaking
+pub mod Hearing
+pub mod Telling
+pub mod Amid

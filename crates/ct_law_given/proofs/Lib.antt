@@ -1,3 +1,0 @@
-pub mod Ordered
-pub mod Rounds
-pub mod Locks

@@ -1,4 +1,0 @@
-pub mod Later
-pub mod Turns
-pub mod Lost
-pub mod Losing

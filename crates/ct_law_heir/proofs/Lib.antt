@@ -1,4 +1,0 @@
-pub mod Drawn
-pub mod Low
-pub mod Newly
-pub mod Last

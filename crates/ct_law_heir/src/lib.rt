@@ -1,2 +1,0 @@
-//! The last reply of a round: its line is born, and every node lives on.
-#![tactic(auto)]

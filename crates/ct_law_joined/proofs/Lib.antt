@@ -1,3 +1,0 @@
-pub mod Like
-pub mod Labels
-pub mod Placeless

@@ -1,9 +1,0 @@
-pub mod Changes
-pub mod Quiet
-pub mod Law
-pub mod Kept
-pub mod Lists
-pub mod Settling
-pub mod One
-pub mod Databases
-pub mod Outs

@@ -1,4 +1,0 @@
-pub mod SeenNode
-pub mod SameParts
-pub mod SameRequests
-pub mod SameEvents

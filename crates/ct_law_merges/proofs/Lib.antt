@@ -1,3 +1,0 @@
-pub mod Merging
-pub mod Reached
-pub mod Small

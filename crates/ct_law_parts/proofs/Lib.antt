@@ -1,5 +1,0 @@
-pub mod Parts
-pub mod Accepted
-pub mod Rounds
-pub mod Answers
-pub mod Whole

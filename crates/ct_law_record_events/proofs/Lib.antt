@@ -1,0 +1,13 @@
+pub mod Markings
+pub mod Holder
+pub mod Parts
+pub mod Small
+pub mod Acts
+pub mod Revoking
+pub mod Calls
+pub mod Messages
+pub mod Finish
+pub mod Floor
+pub mod Phases
+pub mod Vacuuming
+pub mod LocksEnd

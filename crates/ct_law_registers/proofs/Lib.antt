@@ -1,0 +1,16 @@
+pub mod Parts
+pub mod Accepted
+pub mod Rounds
+pub mod Answers
+pub mod Whole
+pub mod Facts
+pub mod Stores
+pub mod Places
+pub mod Stand
+pub mod Opening
+pub mod Shares
+pub mod Taking
+pub mod Births
+pub mod Pulls
+pub mod Merged
+pub mod Merges

@@ -1,4 +1,0 @@
-pub mod Retried
-pub mod Resending
-pub mod Retrying
-pub mod Thawed

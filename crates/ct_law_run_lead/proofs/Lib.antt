@@ -1,0 +1,12 @@
+pub mod Ends
+pub mod Freed
+pub mod Telling
+pub mod Froze
+pub mod Stood
+pub mod Freezing
+pub mod Turning
+pub mod Leading
+pub mod Rounding
+pub mod Arriving
+pub mod Again
+pub mod Gathering

@@ -1,4 +1,0 @@
-//! What a cluster shows of each record of a generation: the world of the record, and what the cluster's labels tell of it.
-//! Where the register of each record accepts what is told of it, the registers accept all labels; and in the middle of a
-//! node's step, a step at one record is one event in the world of that record, and raised numbers in every other.
-#![tactic(auto)]

@@ -1,3 +1,0 @@
-pub mod Steady
-pub mod Parts
-pub mod Events

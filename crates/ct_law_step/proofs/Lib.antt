@@ -1,9 +1,0 @@
-pub mod Assembled
-pub mod Kept
-pub mod Joined
-pub mod Keeping
-pub mod Silent
-pub mod Passing
-pub mod Thawing
-pub mod Messages
-pub mod Stepping

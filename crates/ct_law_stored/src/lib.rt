@@ -1,2 +1,0 @@
-//! Every step keeps what holds of persistent databases, and all that it tells of them is accepted.
-#![tactic(auto)]

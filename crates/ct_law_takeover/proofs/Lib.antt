@@ -1,4 +1,0 @@
-pub mod Touched
-pub mod Handing
-pub mod Placed
-pub mod Leading

@@ -1,2 +1,0 @@
-//! Every step of the cluster that is taken: what it owes a law that speaks of nodes, labels and messages.
-#![tactic(auto)]

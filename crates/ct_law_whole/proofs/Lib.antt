@@ -1,4 +1,0 @@
-pub mod Ending
-pub mod Stepping
-pub mod Owed
-pub mod Handed

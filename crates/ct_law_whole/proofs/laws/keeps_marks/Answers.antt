@@ -1,5 +1,0 @@
-use Rattle.ct_law_whole.proofs.Owed.{law_of_records}
-use Rattle.ct_law_whole.proofs.laws.keeps_marks.Goals as goal
-
-pub returns : goal.returns
-returns c = law_of_records

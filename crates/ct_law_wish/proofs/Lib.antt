@@ -1,3 +1,0 @@
-pub mod Wishing
-pub mod Even
-pub mod Calls
