@@ -8,10 +8,10 @@ use Rattle.ct_frame.specs.Fields.{ascends}
 use Rattle.ct_frame.specs.declared.event.Event.{Event}
 use Rattle.ct_frame.specs.declared.event.Event.TheVariants as event
 use Rattle.ct_frame.specs.declared.event.Out.TheVariants as out
-use Rattle.ct_msg.specs.declared.client.Answer.TheVariants as answer
-use Rattle.ct_msg.specs.declared.client.ClientOp.TheVariants as op
-use Rattle.ct_bytes.specs.Words.{is_this_node, or_empty}
-use Rattle.ct_msg.specs.Client.{is_read, wants_record}
+use Rattle.ct_values.specs.declared.client.Answer.TheVariants as answer
+use Rattle.ct_values.specs.declared.client.ClientOp.TheVariants as op
+use Rattle.ct_values.specs.Words.{is_this_node, or_empty}
+use Rattle.ct_values.specs.Client.{is_read, wants_record}
 use Rattle.ct_rules.specs.State.{rank, rsn_of, value_of, is_mastered, is_given, is_for_reading, with_value, with_flags, risen, given, is_quiet, is_free, is_read_kind, same_kind, kind_of, is_wished}
 use Rattle.ct_rules.specs.Parts.{performs, send, send_all, reply, keeps, reaches, open_of, opened, end_vacuum, applies, satisfy, revoke, give, read_here, delegate, grant, yield_record, drain, drained, satisfy_own, raise, end_revocation, next_of, next, keep, call_for, wait_for_copies, want_of, opened_at_home, want}
 use Rattle.ct_rules.specs.Messages.{is_misplaced, pass_again, is_request, enqueue, on_call_of, called, on_call, same_recall, wait, handle, recalled, on_recall, hand_on, on_give_of, on_give, satisfy_wish, becomes, accept, refuse, on_pass, on_refuse_of, on_refuse, read_granted, on_grant, on_done_of, on_done, called_in, acknowledge, renew, on_revoke_of, on_revoke, acknowledged, on_revokeack, stored_copy, deleted_copy, on_vstore, on_vdelete, greater, finish, on_vstored_of, on_vstored, on_vdeleted_of, on_vdeleted}
@@ -29,10 +29,10 @@ use Rattle.ct_rules_node.specs.Rounds.{begin_round, frozen_state, changed, froze
 use Rattle.ct_rules_node.specs.Steps.{on_record_of, if_persistent, if_sound, if_taken_over, arrives, vacuum_all, vacuums, happens}
 use Rattle.ct_rules_node.specs.Takeovers.{share, assigned_in, send_releases, runs, begin_takeover, has_address, on_release, all_released, released_by, on_releaseack, held_with, takes, on_take}
 use Rattle.ct_rules_node.specs.Turn.{begins, does, with_node, with_lead, with_phase, makes as turn_makes, answers, notes, posts, posts_all}
-use Rattle.ct_cluster.specs.Cluster.{numbers, everyone, opening as cluster_opening, is_true, is_up, absent, or_absent, node_at, sent_at, is_waiting_fate, is_waiting, is_delivered_fate, is_delivered, able_from, wished, wished_in, committing, pending_in, pending_at, pending_from, pending}
-use Rattle.ct_cluster.specs.Faults.{no_such_node, no_such_nodes, node_down, node_up, no_such_db as faults_no_such_db, wrong_kind as faults_wrong_kind, not_serving as faults_not_serving, leads, not_leader, not_member, lock_held, not_holder, not_waiting, not_delivered, fault_of, is_allowed}
-use Rattle.ct_cluster.specs.Steps.{frames_of, lines_of, with_node as steps_with_node, put, is_counted, if_counted, fed_of, fed, done, with_fate, deliver, drop as steps_drop, repeat, without_holder, gone, stop, recover, steps, steps_or, applied}
-use Rattle.ct_cluster.specs.Traces.{asked_in, closed, opened as traces_opened, closed_by, closed_by_all, answer_label, sent_label, members_of, label_of, line_labels, is_refusal, is_refused, begun_by, own_labels, labels, idle, taken, ran_one, after, ran}
+use Rattle.ct_rules_cluster.specs.Cluster.{numbers, everyone, opening as cluster_opening, is_true, is_up, absent, or_absent, node_at, sent_at, is_waiting_fate, is_waiting, is_delivered_fate, is_delivered, able_from, wished, wished_in, committing, pending_in, pending_at, pending_from, pending}
+use Rattle.ct_rules_cluster.specs.Faults.{no_such_node, no_such_nodes, node_down, node_up, no_such_db as faults_no_such_db, wrong_kind as faults_wrong_kind, not_serving as faults_not_serving, leads, not_leader, not_member, lock_held, not_holder, not_waiting, not_delivered, fault_of, is_allowed}
+use Rattle.ct_rules_cluster.specs.Steps.{frames_of, lines_of, with_node as steps_with_node, put, is_counted, if_counted, fed_of, fed, done, with_fate, deliver, drop as steps_drop, repeat, without_holder, gone, stop, recover, steps, steps_or, applied}
+use Rattle.ct_rules_cluster.specs.Traces.{asked_in, closed, opened as traces_opened, closed_by, closed_by_all, answer_label, sent_label, members_of, label_of, line_labels, is_refusal, is_refused, begun_by, own_labels, labels, idle, taken, ran_one, after, ran}
 use Rattle.ct_journal.specs.Order.{frames_in, frames_to, sent_to, is_from, arrived_from, numbers_of_calls, first_front, or_no_entries, entries_of, taken_of, past_of, next_entry, MayStand, ticket_after, front_after, Stand, count_sent, is_arrival, count_arrived, all_entries, AreInOrder}
 use Rattle.ct_journal.specs.Runs.{IsRun, RunsTo}
 use Rattle.ct_journal.specs.Schedules.{IsSchedule, IsRenumbered, Noted, arrival_of, given_by, outs_in, noted_of, keeps_all_up, cluster_in, after_step, with_made, none_made, made_by, made_at, why_under, answer_under, out_under, event_under, entry_under, is_call, has_call}

@@ -1,8 +1,8 @@
 -- Journals that are runs: each entry is what the rules make of its event.
 use Rattle.std.specs.Prelude.{◌≡◌, ℕ, true, false, List, [], ◌∷◌, Some}
-use Rattle.ct_msg.specs.declared.config.Config.{Config}
+use Rattle.ct_values.specs.declared.config.Config.{Config}
 use Rattle.ct_call.specs.Rules.{Rules}
-use Rattle.ct_cluster.specs.Cluster.{everyone}
+use Rattle.ct_rules_cluster.specs.Cluster.{everyone}
 use Rattle.ct_rules_node.specs.Coming.{may_come}
 use Rattle.ct_rules_node.specs.Node.{Node, opening}
 use Rattle.ct_rules_node.specs.Steps.{stepped}

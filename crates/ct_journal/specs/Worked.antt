@@ -1,10 +1,10 @@
 -- Journals that are worked out: of two nodes, each client of which writes the same record once.
 use Rattle.std.specs.Prelude.{ℕ, List, [], ◌∷◌, codes}
-use Rattle.ct_msg.specs.Config.{lock_db}
-use Rattle.ct_msg.specs.declared.config.Config.{Config}
-use Rattle.ct_msg.specs.declared.config.DbKind.TheVariants.{Volatile}
-use Rattle.ct_msg.specs.declared.client.Answer.TheVariants as answer
-use Rattle.ct_msg.specs.declared.client.ClientOp.TheVariants as op
+use Rattle.ct_values.specs.Config.{lock_db}
+use Rattle.ct_values.specs.declared.config.Config.{Config}
+use Rattle.ct_values.specs.declared.config.DbKind.TheVariants.{Volatile}
+use Rattle.ct_values.specs.declared.client.Answer.TheVariants as answer
+use Rattle.ct_values.specs.declared.client.ClientOp.TheVariants as op
 use Rattle.ct_frame.specs.declared.event.Event.{Event}
 use Rattle.ct_frame.specs.declared.event.Event.TheVariants as event
 use Rattle.ct_frame.specs.declared.event.Out.{Out}
@@ -14,8 +14,8 @@ use Rattle.ct_frame.specs.declared.frame.Frame.{Frame}
 use Rattle.ct_frame.specs.declared.frame.Msg.{Msg}
 use Rattle.ct_frame.specs.declared.frame.Msg.TheVariants as msg
 use Rattle.ct_rules_node.specs.Node.{Node}
-use Rattle.ct_cluster.specs.declared.step.Step.{Step}
-use Rattle.ct_cluster.specs.declared.step.Step.TheVariants as step
+use Rattle.ct_rules_cluster.specs.declared.step.Step.{Step}
+use Rattle.ct_rules_cluster.specs.declared.step.Step.TheVariants as step
 use Rattle.ct_journal.specs.Order.{AreInOrder}
 use Rattle.ct_journal.specs.Runs.{RunsTo}
 use Rattle.ct_journal.specs.Schedules.{IsSchedule}

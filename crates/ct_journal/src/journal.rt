@@ -1,6 +1,6 @@
 //! What a node was given and did, entry by entry.
-use ct_bytes::items::Items;
 use ct_frame::event::{Event, Out};
+use ct_values::items::Items;
 
 /// One step of a node: what came to it, and what it did then, in order.
 #[derive(Debug, Drop, PartialEq, Eq)]

@@ -4,9 +4,9 @@ use Rattle.ct_call.specs.Rules.{Rules}
 use Rattle.ct_frame.specs.declared.plan.Plan.{Plan}
 use Rattle.ct_journal.specs.Order.{AreInOrder, entries_of}
 use Rattle.ct_journal.specs.declared.journal.Journal.{Journal}
-use Rattle.ct_law_scheduled.specs.Laws.{AreRuns}
-use Rattle.ct_plan.specs.Sound.{script_of}
-use Rattle.ct_cue.specs.Cues.{IsScripted}
+use Rattle.ct_law_journal_schedule.specs.Laws.{AreRuns}
+use Rattle.ct_script.specs.Sound.{script_of}
+use Rattle.ct_script.specs.Cues.{IsScripted}
 use Rattle.ct_troupe.specs.declared.troupe.PlayFault.{PlayFault}
 use Rattle.ct_troupe.specs.declared.troupe.PlayFault.TheVariants.{Link, NoMemory}
 

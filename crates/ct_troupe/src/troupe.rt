@@ -3,13 +3,13 @@ ghost use Rattle.std.specs.Prelude.{◌≡◌, ℕ, List};
 ghost use Rattle.ct_call.specs.Shown.{rules_of};
 ghost use Rattle.ct_journal.specs.declared.journal.Journal.{Journal as Told};
 ghost use Rattle.ct_outside.specs.Told.{RisesWhere};
-ghost use Rattle.ct_plan.specs.Sound.{IsSound};
+ghost use Rattle.ct_script.specs.Sound.{IsSound};
 ghost use Rattle.ct_troupe.specs.Played.{HasPlayed, is_link_fault};
 
-use ct_bytes::memory::NoMemory;
 use ct_call::table::CallTable;
 use ct_frame::plan::Plan;
 use ct_journal::journal::Journal;
+use ct_values::memory::NoMemory;
 use std::alloc::{AllocError, Global};
 use thiserror::Error;
 

@@ -1,0 +1,5 @@
+pub mod Stepping
+pub mod Limits
+pub mod Running
+pub mod Waiting
+pub mod Seating

@@ -1,0 +1,11 @@
+use Rattle.std.proofs.Common.{◌≡◌, ◌≤◌, ◌+◌, drop, length}
+use Rattle.ct_journal.specs.Order.{frames_in}
+use Rattle.ct_law_journal_growing.specs.Growing.{posted}
+use Rattle.ct_actor.proofs.queue.post.Given as goal
+
+abbrev pub invariant-loop-out : goal.invariant-loop-out
+invariant-loop-out l = record {
+  within : l.count ≤ l.out-index;
+  rest : l.count + length (frames_in (drop l.out-index l.outs)) ≡ length (frames_in l.outs);
+  queues : posted (frames_in (drop l.out-index l.outs)) l.queues.items ≡ posted (frames_in l.outs) l.initial.queues.items;
+}

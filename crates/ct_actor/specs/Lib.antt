@@ -1,0 +1,4 @@
+pub mod Acting
+pub mod Journalled
+pub mod Queues
+pub mod Seats

@@ -1,0 +1,125 @@
+use Rattle.std.proofs.Common.{◌≡◌, ◌∙◌, ◌+◌, List, arith, ap, subst, None, Some}
+use Rattle.ct_call.specs.Shown.{rules_of}
+use Rattle.ct_script.specs.Cues.{first_cue, next_item}
+use Rattle.ct_journal.specs.declared.journal.JournalEntry.{JournalEntry}
+use Rattle.ct_actor_serving.specs.Serving.{Turned, both, of_link, of_lock}
+use Rattle.ct_actor_serving.proofs.Going.{cause_late, fell_then, goes_then, rose_more, fell_same, goes_same}
+use Rattle.ct_actor_serving.proofs.Taking.{acts_first}
+use Rattle.ct_actor_serving.specs.Outside.{outside}
+use Rattle.ct_actor_serving.proofs.Turning.{serving_first, serving_last, serving_next, turn_rest}
+use Rattle.ct_actor_serving.proofs.serve.serve_until.Goals as goal
+
+pub turn-requires-clause-acts : goal.turn-requires-clause-acts
+turn-requires-clause-acts g c =
+    let started = acts_first (rules_of c.args.table.now) c.args.script.now c.args.node.now c.first-cue.result c.requires.run (c.first-cue.ensures ∙ ap (λ (xs : List JournalEntry). first_cue xs) c.entries.ensures) in (
+      c.args.node.now.entries,
+      c.loop-number.invariant.goes_on.acting c.args.node.now.entries started,
+    )
+
+pub returns-in-Ok-true-clause-acting : goal.returns-in-Ok-true-clause-acting
+returns-in-Ok-true-clause-acting g c =
+    let started = acts_first (rules_of c.args.table.now) c.args.script.now c.args.node.now c.first-cue.result c.requires.run (c.first-cue.ensures ∙ ap (λ (xs : List JournalEntry). first_cue xs) c.entries.ensures) in
+    let link = of_link g.L.Link.faults g.L.Link.endings g.L.Link.looks in
+    let turned = subst (λ b. Turned b (link c.loop-number.link) (link c.turn.new.link) (next_item c.args.script.now c.turn.new.cue)) c.in-Ok-true.field-0-test c.in-Ok-true.ensures.turned in
+    record {
+      cue = c.turn.new.cue;
+      acting = c.turn.ensures.goes_on.acting c.args.node.now.entries (c.loop-number.invariant.goes_on.acting c.args.node.now.entries started);
+      done = turned.1.1;
+    }
+
+pub loop-number-preserved : goal.loop-number-preserved
+loop-number-preserved g c =
+    let link = of_link g.L.Link.faults g.L.Link.endings g.L.Link.looks in
+    let lock = of_lock g.R.RecLock.faults g.R.RecLock.refusals in
+    record {
+      goes_on =
+          goes_then (rules_of c.args.table.now) c.args.script.now c.args.node.now c.loop-number.node c.turn.new.node c.first-cue.result c.loop-number.cue c.turn.new.cue c.loop-number.invariant.goes_on c.turn.ensures.goes_on;
+      counts = fell_then (both (link c.args.link.now) (lock c.args.lock.now)) (both (link c.loop-number.link) (lock c.loop-number.lock)) (both (link c.turn.new.link) (lock c.turn.new.lock)) c.loop-number.invariant.counts c.turn.ensures.counts;
+      looked = rose_more c.loop-number.number (g.L.Link.looks c.args.link.now) (g.L.Link.looks c.loop-number.link) (g.L.Link.looks c.turn.new.link) c.loop-number.invariant.looked c.in-Ok-false.ensures.turned.0;
+      within = omega (arith, c.loop-number-test.true);
+      serving = serving_next (rules_of c.args.table.now) c.args.node.now c.loop-number.node c.turn.new.node (outside (g.L.Link.pieces c.args.link.now) (g.R.RecLock.state c.args.lock.now)) (outside (g.L.Link.pieces c.loop-number.link) (g.R.RecLock.state c.loop-number.lock))
+          (outside (g.L.Link.pieces c.turn.new.link) (g.R.RecLock.state c.turn.new.lock)) c.loop-number.readers c.turn.new.readers
+          c.loop-number.invariant.serving c.loop-number.invariant.goes_on.pnn c.in-Ok-false.ensures.outside;
+    }
+
+pub returns-in-Err-clause-acting : goal.returns-in-Err-clause-acting
+returns-in-Err-clause-acting g c =
+    let started = acts_first (rules_of c.args.table.now) c.args.script.now c.args.node.now c.first-cue.result c.requires.run (c.first-cue.ensures ∙ ap (λ (xs : List JournalEntry). first_cue xs) c.entries.ensures) in
+    record {
+      cue = c.turn.new.cue;
+      acting = c.turn.ensures.goes_on.acting c.args.node.now.entries (c.loop-number.invariant.goes_on.acting c.args.node.now.entries started);
+      done = tt;
+    }
+
+pub returns-in-Err-clause-cause : goal.returns-in-Err-clause-cause
+returns-in-Err-clause-cause g c =
+    let link = of_link g.L.Link.faults g.L.Link.endings g.L.Link.looks in
+    let lock = of_lock g.R.RecLock.faults g.R.RecLock.refusals in
+    cause_late (rules_of c.args.table.now) c.in-Err.fault c.turn.new.node (both (link c.args.link.now) (lock c.args.lock.now)) (both (link c.loop-number.link) (lock c.loop-number.lock)) (both (link c.turn.new.link) (lock c.turn.new.lock))
+    c.loop-number.invariant.counts c.in-Err.ensures.cause
+
+pub take_rest-requires-clause-acts : goal.take_rest-requires-clause-acts
+take_rest-requires-clause-acts g c =
+    let started = acts_first (rules_of c.args.table.now) c.args.script.now c.args.node.now c.first-cue.result c.requires.run (c.first-cue.ensures ∙ ap (λ (xs : List JournalEntry). first_cue xs) c.entries.ensures) in (
+      c.args.node.now.entries,
+      c.loop-number.invariant.goes_on.acting c.args.node.now.entries started,
+    )
+
+pub returns-in-Ok-clause-acting : goal.returns-in-Ok-clause-acting
+returns-in-Ok-clause-acting g c =
+    let started = acts_first (rules_of c.args.table.now) c.args.script.now c.args.node.now c.first-cue.result c.requires.run (c.first-cue.ensures ∙ ap (λ (xs : List JournalEntry). first_cue xs) c.entries.ensures) in
+    record {
+      cue = c.take_rest.new.cue;
+      acting = c.take_rest.ensures.goes_on.acting c.args.node.now.entries (c.loop-number.invariant.goes_on.acting c.args.node.now.entries started);
+      done = c.in-Ok.ensures.rest;
+    }
+
+pub returns-clause-acting : goal.returns-clause-acting
+returns-clause-acting g c =
+    let started = acts_first (rules_of c.args.table.now) c.args.script.now c.args.node.now c.first-cue.result c.requires.run (c.first-cue.ensures ∙ ap (λ (xs : List JournalEntry). first_cue xs) c.entries.ensures) in
+    record {
+      cue = c.take_rest.new.cue;
+      acting = c.take_rest.ensures.goes_on.acting c.args.node.now.entries (c.loop-number.invariant.goes_on.acting c.args.node.now.entries started);
+      done = tt;
+    }
+
+pub returns-clause-cause : goal.returns-clause-cause
+returns-clause-cause g c =
+    let link = of_link g.L.Link.faults g.L.Link.endings g.L.Link.looks in
+    let lock = of_lock g.R.RecLock.faults g.R.RecLock.refusals in
+    cause_late (rules_of c.args.table.now) c.in-Err-take_rest.fault c.take_rest.new.node (both (link c.args.link.now) (lock c.args.lock.now)) (both (link c.loop-number.link) (lock c.loop-number.lock)) (both (link c.take_rest.new.link) (lock c.take_rest.new.lock))
+    c.loop-number.invariant.counts c.in-Err-take_rest.ensures.cause
+
+pub loop-number-init : goal.loop-number-init
+loop-number-init g c =
+    let link = of_link g.L.Link.faults g.L.Link.endings g.L.Link.looks in
+    let lock = of_lock g.R.RecLock.faults g.R.RecLock.refusals in
+    record {
+      goes_on = goes_same (rules_of c.args.table.now) c.args.script.now c.args.node.now c.first-cue.result;
+      counts = fell_same (both (link c.args.link.now) (lock c.args.lock.now));
+      looked = omega arith;
+      within = omega arith;
+      serving = serving_first (rules_of c.args.table.now) c.args.node.now (g.L.Link.pieces c.args.link.now) (g.R.RecLock.state c.args.lock.now) c.new-readers.result c.new-readers.ensures;
+    }
+
+pub returns-in-Ok-true-clause-outside : goal.returns-in-Ok-true-clause-outside
+returns-in-Ok-true-clause-outside g c =
+    serving_last (rules_of c.args.table.now) None c.args.node.now c.loop-number.node c.turn.new.node (outside (g.L.Link.pieces c.args.link.now) (g.R.RecLock.state c.args.lock.now)) (outside (g.L.Link.pieces c.loop-number.link) (g.R.RecLock.state c.loop-number.lock))
+    (outside (g.L.Link.pieces c.turn.new.link) (g.R.RecLock.state c.turn.new.lock)) c.loop-number.readers c.turn.new.readers c.loop-number.invariant.serving c.loop-number.invariant.goes_on.pnn c.in-Ok-true.ensures.outside
+
+pub returns-in-Err-clause-outside : goal.returns-in-Err-clause-outside
+returns-in-Err-clause-outside g c =
+    serving_last (rules_of c.args.table.now) (Some c.in-Err.fault) c.args.node.now c.loop-number.node c.turn.new.node (outside (g.L.Link.pieces c.args.link.now) (g.R.RecLock.state c.args.lock.now)) (outside (g.L.Link.pieces c.loop-number.link) (g.R.RecLock.state c.loop-number.lock))
+    (outside (g.L.Link.pieces c.turn.new.link) (g.R.RecLock.state c.turn.new.lock)) c.loop-number.readers c.turn.new.readers c.loop-number.invariant.serving c.loop-number.invariant.goes_on.pnn c.in-Err.ensures.outside
+
+pub returns-in-Ok-clause-outside : goal.returns-in-Ok-clause-outside
+returns-in-Ok-clause-outside g c =
+    serving_last (rules_of c.args.table.now) None c.args.node.now c.loop-number.node c.take_rest.new.node (outside (g.L.Link.pieces c.args.link.now) (g.R.RecLock.state c.args.lock.now)) (outside (g.L.Link.pieces c.loop-number.link) (g.R.RecLock.state c.loop-number.lock))
+    (outside (g.L.Link.pieces c.take_rest.new.link) (g.R.RecLock.state c.take_rest.new.lock)) c.loop-number.readers c.loop-number.readers c.loop-number.invariant.serving c.loop-number.invariant.goes_on.pnn
+    (turn_rest (rules_of c.args.table.now) None c.loop-number.node c.take_rest.new.node (outside (g.L.Link.pieces c.loop-number.link) (g.R.RecLock.state c.loop-number.lock)) (outside (g.L.Link.pieces c.take_rest.new.link) (g.R.RecLock.state c.take_rest.new.lock)) c.loop-number.readers c.in-Ok.ensures.outside c.in-Ok.ensures.ours)
+
+pub returns-clause-outside : goal.returns-clause-outside
+returns-clause-outside g c =
+    serving_last (rules_of c.args.table.now) (Some c.in-Err-take_rest.fault) c.args.node.now c.loop-number.node c.take_rest.new.node (outside (g.L.Link.pieces c.args.link.now) (g.R.RecLock.state c.args.lock.now)) (outside (g.L.Link.pieces c.loop-number.link) (g.R.RecLock.state c.loop-number.lock))
+    (outside (g.L.Link.pieces c.take_rest.new.link) (g.R.RecLock.state c.take_rest.new.lock)) c.loop-number.readers c.loop-number.readers c.loop-number.invariant.serving c.loop-number.invariant.goes_on.pnn
+    (turn_rest (rules_of c.args.table.now) (Some c.in-Err-take_rest.fault) c.loop-number.node c.take_rest.new.node (outside (g.L.Link.pieces c.loop-number.link) (g.R.RecLock.state c.loop-number.lock)) (outside (g.L.Link.pieces c.take_rest.new.link) (g.R.RecLock.state c.take_rest.new.lock)) c.loop-number.readers c.in-Err-take_rest.ensures.outside c.in-Err-take_rest.ensures.ours)

@@ -1,0 +1,163 @@
+//! A node takes the items of its script.
+ghost use Rattle.std.specs.Prelude.{◌≡◌, ◌+◌, ◌<◌, ◌^◌, [], ℕ, true, List, Option, Some, None, IfErr, IfOk, OnOk, MatchBool, MatchOption, length};
+ghost use Rattle.ct_actor.specs.Acting.{MayAsk};
+ghost use Rattle.std.specs.List.{list_all};
+ghost use Rattle.std.specs.Result.{result_err};
+ghost use Rattle.ct_call.specs.Rules.{Rules};
+ghost use Rattle.ct_call.specs.Shown.{rules_of};
+ghost use Rattle.ct_script.specs.Cues.{next_item};
+ghost use Rattle.ct_frame.specs.declared.plan.PlanItem.{PlanItem as Item};
+ghost use Rattle.ct_actor.specs.Journalled.{Journalled, last_outs};
+ghost use Rattle.ct_outside.specs.Links.{Parcel, Pieces};
+ghost use Rattle.ct_outside.specs.Locks.{LockState};
+ghost use Rattle.ct_outside.specs.Told.{Told};
+ghost use Rattle.ct_wire_link.specs.Parcels.{frames_sent};
+ghost use Rattle.ct_script.specs.Sound.{may_be_told};
+ghost use Rattle.ct_wire_link.specs.Sending.{is_sendable};
+ghost use Rattle.ct_actor_serving.specs.Hearing.{AreForeign};
+ghost use Rattle.ct_actor_serving.specs.Outside.{NotesOne, HasNoTicket, SendsOnly, ServesOn, TakesTicket, heard, outside};
+ghost use Rattle.ct_actor_serving.specs.Serving.{Acts, GoesOn, IsCaused, NoneFell, both, fault_of, of_link, of_lock};
+
+use crate::fault::ServeFault;
+use ct_actor::acting::{take_call, take_round};
+use ct_actor::node::Node;
+use ct_call::table::CallTable;
+use ct_frame::plan::PlanItem;
+use ct_node_plan::turn::CoreFault;
+use ct_outside::fault::TakeFault;
+use ct_outside::link::Link;
+use ct_outside::lock::RecLock;
+use ct_script::cue::Cue;
+use ct_values::copies::Duplicate;
+use ct_wire_link::fault::SendFault;
+use ct_wire_link::send::send_all;
+use std::alloc::Global;
+
+/// The fault where a step is refused.
+pub(crate) fn fault_of(fault: CoreFault) -> ServeFault
+    ensures { result ≡ fault_of fault }
+{
+    match fault {
+        CoreFault::Exhausted => ServeFault::Exhausted,
+        CoreFault::NoMemory => ServeFault::NoMemory,
+    }
+}
+
+/// Sends what the node did last.
+#[tactic(auto, unfolding(crate::specs::Serving::HasCause))]
+pub(crate) fn send_last<L: Link>(alloc: Global, node: &Node, link: &mut L) -> Result<(), ServeFault>
+    requires { list_all is_sendable (last_outs node.now.entries) ≡ true }
+    ensures counts { NoneFell (of_link L.faults L.endings L.looks link.old) (of_link L.faults L.endings L.looks link.new) }
+    ensures cause { (rules : Rules) → IsCaused rules result node.now (of_link L.faults L.endings L.looks link.old) (of_link L.faults L.endings L.looks link.new) }
+    ensures sent { Told (L.pieces link.old) (L.pieces link.new) (SendsOnly (result_err result) (frames_sent (last_outs node.now.entries))) }
+    ensures free { (rules : Rules) (lock : LockState) → HasNoTicket rules (result_err result) node.now lock }
+    ensures ours { (me : ℕ) (taken : List Parcel) → AreForeign (result_err result) me taken }
+{
+    match send_all(alloc, link, node.last_outs()) {
+        Ok(()) => Ok(()),
+        Err(SendFault::Link) => Err(ServeFault::Link),
+        Err(SendFault::TooLong(size)) => Err(ServeFault::TooLong(size)),
+        Err(SendFault::NoMemory) => Err(ServeFault::NoMemory),
+    }
+}
+
+/// The next ticket for the node.
+#[tactic(auto, unfolding(crate::specs::Serving::HasCause))]
+fn next_ticket<R: RecLock>(lock: &mut R, node: u32) -> Result<u64, ServeFault>
+    ensures counts { NoneFell (of_lock R.faults R.refusals lock.old) (of_lock R.faults R.refusals lock.new) }
+    ensures cause { (rules : Rules) (x : Journalled) → IsCaused rules result x (of_lock R.faults R.refusals lock.old) (of_lock R.faults R.refusals lock.new) }
+    ensures told { Told (R.state lock.old) (R.state lock.new) (TakesTicket result node) }
+    ensures ours { (me : ℕ) (taken : List Parcel) → AreForeign (result_err result) me taken }
+{
+    match lock.take(node) {
+        Ok(ticket) => Ok(ticket),
+        Err(TakeFault::Held { holder, .. }) => Err(ServeFault::Held { holder }),
+        Err(TakeFault::Exhausted) => Err(ServeFault::Exhausted),
+        Err(TakeFault::Failed) => Err(ServeFault::Link),
+        Err(TakeFault::NoMemory) => Err(ServeFault::NoMemory),
+    }
+}
+
+/// The node takes this item of its script, which is the next one.
+fn take<R: RecLock>(
+    node: &mut Node,
+    table: &CallTable,
+    cue: &mut Cue,
+    item: &PlanItem,
+    lock: &mut R,
+) -> Result<(), ServeFault>
+    requires may { MayAsk (rules_of table.now) node.old cue.old }
+    requires told { may_be_told node.old.core.config node.old.core.pnn item.now ≡ true }
+    ensures goes_on { (script : List Item) → next_item script cue.old ≡ Some item.now → GoesOn (rules_of table.now) script node.old cue.old node.new cue.new }
+    ensures taken { OnOk result (cue.new.taken ≡ cue.old.taken + 1) }
+    ensures sendable { OnOk result (list_all is_sendable (last_outs node.new.entries) ≡ true) }
+    ensures counts { NoneFell (of_lock R.faults R.refusals lock.old) (of_lock R.faults R.refusals lock.new) }
+    ensures cause { IsCaused (rules_of table.now) result node.new (of_lock R.faults R.refusals lock.old) (of_lock R.faults R.refusals lock.new) }
+    ensures noted { OnOk result (NotesOne [] node.old node.new (R.state lock.old) (R.state lock.new)) }
+    ensures stopped { (pieces : Option Pieces) → IfErr result (λ f. ServesOn (rules_of table.now) (Some f) (heard [] []) node.old node.new (outside pieces (R.state lock.old)) (outside pieces (R.state lock.new))) }
+    ensures ours { (me : ℕ) (taken : List Parcel) → AreForeign (result_err result) me taken }
+{
+    match item {
+        PlanItem::Call(op) => match op.copy() {
+            Ok(op) => match take_call(node, table, cue, op) {
+                Ok(()) => Ok(()),
+                Err(fault) => Err(fault_of(fault)),
+            },
+            Err(_) => Err(ServeFault::NoMemory),
+        },
+        PlanItem::Round(members) => match members.duplicate() {
+            Ok(members) => match next_ticket(lock, node.core().pnn()) {
+                Ok(ticket) => match take_round(node, table, cue, ticket, members) {
+                    Ok(()) => Ok(()),
+                    Err(fault) => Err(fault_of(fault)),
+                },
+                Err(fault) => Err(fault),
+            },
+            Err(_) => Err(ServeFault::NoMemory),
+        },
+    }
+}
+
+/// The item that the node may take next.
+#[tactic(auto, using(crate::proofs::Taking::none_left))]
+fn next_of<'a>(cue: &Cue, script: &'a [PlanItem]) -> Option<&'a PlanItem>
+    ensures { MatchOption result (next_item script.now cue.now ≡ None) (λ item. (next_item script.now cue.now ≡ Some item.now) × (cue.now.taken < length script.now) × (cue.now.taken + 1 < 2 ^ 64)) }
+{
+    if cue.taken >= script.len() {
+        return None;
+    }
+    cue.next(script)
+}
+
+/// The node takes the next item of its script, if it may take one, and sends what it then does. Was one taken?
+#[tactic(auto, using(crate::proofs::Taking::next_told))]
+pub(crate) fn take_next<L: Link, R: RecLock>(
+    alloc: Global,
+    node: &mut Node,
+    table: &CallTable,
+    cue: &mut Cue,
+    script: &[PlanItem],
+    link: &mut L,
+    lock: &mut R,
+) -> Result<bool, ServeFault>
+    requires acts { Acts (rules_of table.now) script.now node.old cue.old }
+    requires told { list_all (may_be_told node.old.core.config node.old.core.pnn) script.now ≡ true }
+    ensures goes_on { GoesOn (rules_of table.now) script.now node.old cue.old node.new cue.new }
+    ensures counts { NoneFell (both (of_link L.faults L.endings L.looks link.old) (of_lock R.faults R.refusals lock.old)) (both (of_link L.faults L.endings L.looks link.new) (of_lock R.faults R.refusals lock.new)) }
+    ensures cause { IsCaused (rules_of table.now) result node.new (both (of_link L.faults L.endings L.looks link.old) (of_lock R.faults R.refusals lock.old)) (both (of_link L.faults L.endings L.looks link.new) (of_lock R.faults R.refusals lock.new)) }
+    ensures taken { IfOk result (λ one. MatchBool one ((cue.old.taken < length script.now) × (cue.new.taken ≡ cue.old.taken + 1)) (next_item script.now cue.new ≡ None)) }
+    ensures outside { ServesOn (rules_of table.now) (result_err result) (heard [] []) node.old node.new (outside (L.pieces link.old) (R.state lock.old)) (outside (L.pieces link.new) (R.state lock.new)) }
+    ensures ours { (me : ℕ) (taken : List Parcel) → AreForeign (result_err result) me taken }
+{
+    let Some(item) = next_of(cue, script) else {
+        return Ok(false);
+    };
+    match take(node, table, cue, item, lock) {
+        Ok(()) => {}
+        Err(fault) => return Err(fault),
+    }
+    match send_last(alloc, node, link) {
+        Ok(()) => Ok(true),
+        Err(fault) => Err(fault),
+    }
+}

@@ -1,0 +1,247 @@
+//! A node serves.
+ghost use Rattle.std.specs.Prelude.{◌≡◌, [], ℕ, true, List, None, Ok, IfOk, IsTrue, OnOk, MatchBool, length};
+ghost use Rattle.std.specs.List.{list_all};
+ghost use Rattle.std.specs.Result.{result_err};
+ghost use Rattle.ct_call.specs.Shown.{rules_of};
+ghost use Rattle.ct_script.specs.Cues.{next_item};
+ghost use Rattle.ct_call.specs.Rules.{Rules};
+ghost use Rattle.ct_actor.specs.Journalled.{IsRunBy, Journalled};
+ghost use Rattle.ct_outside.specs.Causes.{Rose};
+ghost use Rattle.ct_outside.specs.Links.{Parcel};
+ghost use Rattle.ct_outside.specs.Locks.{LockState};
+ghost use Rattle.ct_outside.specs.Told.{Told};
+ghost use Rattle.ct_outside.specs.declared.link.Received.TheVariants as received;
+ghost use Rattle.ct_script.specs.Sound.{may_be_told};
+ghost use Rattle.ct_actor_serving.specs.declared.fault.Until.TheVariants as until;
+ghost use Rattle.ct_actor_serving.specs.Hearing.{AreForeign, Serves, ServesTurn};
+ghost use Rattle.ct_actor_serving.specs.Outside.{HasNoTicket, ServesOn, TakesOnly, heard, outside, taken_in};
+ghost use Rattle.ct_actor_serving.specs.Serving.{Acts, EndsBy, GoesOn, HasActed, IsCaused, NoneFell, Turned, both, is_full, most_turns, of_link, of_lock};
+
+use crate::fault::{ServeFault, Served, Until};
+use crate::items::take_next;
+use crate::pieces::take_piece;
+use ct_actor::node::Node;
+use ct_call::table::CallTable;
+use ct_frame::plan::PlanItem;
+use ct_outside::fault::LinkFault;
+use ct_outside::gate::Gate;
+use ct_outside::link::{Link, Received};
+use ct_outside::lock::RecLock;
+use ct_script::cue::Cue;
+use ct_wire_link::readers::Readers;
+use std::alloc::Global;
+
+/// May the node wait for a piece? It may where it has no item of its script to take.
+fn may_wait(cue: &Cue, script: &[PlanItem]) -> bool
+    ensures { MatchBool result (next_item script.now cue.now ≡ None) (next_item script.now cue.now ≡ None → ⊥) }
+{
+    match cue.next(script) {
+        Some(_) => false,
+        None => true,
+    }
+}
+
+/// Looks for a piece.
+#[tactic(auto, unfolding(crate::specs::Serving::HasCause))]
+fn look<L: Link>(link: &mut L, may_wait: bool) -> Result<Received, ServeFault>
+    ensures counts { NoneFell (of_link L.faults L.endings L.looks link.old) (of_link L.faults L.endings L.looks link.new) }
+    ensures cause { (rules : Rules) (x : Journalled) → IsCaused rules result x (of_link L.faults L.endings L.looks link.old) (of_link L.faults L.endings L.looks link.new) }
+    ensures looked { OnOk result (Rose (L.looks link.old) (L.looks link.new)) }
+    ensures closed { result ≡ Ok received.Closed → IsTrue may_wait × Rose (L.endings link.old) (L.endings link.new) }
+    ensures pieces { Told (L.pieces link.old) (L.pieces link.new) (TakesOnly (taken_in result)) }
+    ensures free { (rules : Rules) (x : Journalled) (lock : LockState) → HasNoTicket rules (result_err result) x lock }
+    ensures ours { (me : ℕ) (taken : List Parcel) → AreForeign (result_err result) me taken }
+{
+    match link.receive(may_wait) {
+        Ok(received) => Ok(received),
+        Err(LinkFault::Failed) => Err(ServeFault::Link),
+        Err(LinkFault::NoMemory) => Err(ServeFault::NoMemory),
+    }
+}
+
+/// One turn: the node passes the gate and looks for a piece. It takes what comes, or else the next item of its script, if it
+/// may take one. Will nothing come any more?
+fn turn<L: Link, R: RecLock, G: Gate>(
+    alloc: Global,
+    node: &mut Node,
+    table: &CallTable,
+    cue: &mut Cue,
+    readers: &mut Readers,
+    script: &[PlanItem],
+    link: &mut L,
+    lock: &mut R,
+    gate: &mut G,
+    number: u64,
+) -> Result<bool, ServeFault>
+    requires acts { Acts (rules_of table.now) script.now node.old cue.old }
+    requires told { list_all (may_be_told node.old.core.config node.old.core.pnn) script.now ≡ true }
+    ensures goes_on { GoesOn (rules_of table.now) script.now node.old cue.old node.new cue.new }
+    ensures counts { NoneFell (both (of_link L.faults L.endings L.looks link.old) (of_lock R.faults R.refusals lock.old)) (both (of_link L.faults L.endings L.looks link.new) (of_lock R.faults R.refusals lock.new)) }
+    ensures cause { IsCaused (rules_of table.now) result node.new (both (of_link L.faults L.endings L.looks link.old) (of_lock R.faults R.refusals lock.old)) (both (of_link L.faults L.endings L.looks link.new) (of_lock R.faults R.refusals lock.new)) }
+    ensures turned { IfOk result (λ closed. Turned closed (of_link L.faults L.endings L.looks link.old) (of_link L.faults L.endings L.looks link.new) (next_item script.now cue.new)) }
+    ensures outside { ServesTurn (rules_of table.now) (result_err result) node.old node.new (outside (L.pieces link.old) (R.state lock.old)) (outside (L.pieces link.new) (R.state lock.new)) readers.old readers.new }
+{
+    gate.pass(node.core().pnn(), number);
+    let waits = may_wait(cue, script);
+    match look(link, waits) {
+        Ok(Received::Piece { sender, bytes }) => {
+            match take_piece(
+                alloc,
+                node,
+                table,
+                cue,
+                readers,
+                link,
+                sender,
+                bytes.as_slice(),
+            ) {
+                Ok(()) => Ok(false),
+                Err(fault) => Err(fault),
+            }
+        }
+        Ok(Received::Nothing) => match take_next(alloc, node, table, cue, script, link, lock) {
+            Ok(_) => Ok(false),
+            Err(fault) => Err(fault),
+        },
+        Ok(Received::Closed) => Ok(true),
+        Err(fault) => Err(fault),
+    }
+}
+
+/// The node takes each item of its script that it may take, one after the other.
+fn take_rest<L: Link, R: RecLock>(
+    alloc: Global,
+    node: &mut Node,
+    table: &CallTable,
+    cue: &mut Cue,
+    script: &[PlanItem],
+    link: &mut L,
+    lock: &mut R,
+) -> Result<(), ServeFault>
+    requires acts { Acts (rules_of table.now) script.now node.old cue.old }
+    requires told { list_all (may_be_told node.old.core.config node.old.core.pnn) script.now ≡ true }
+    ensures goes_on { GoesOn (rules_of table.now) script.now node.old cue.old node.new cue.new }
+    ensures counts { NoneFell (both (of_link L.faults L.endings L.looks link.old) (of_lock R.faults R.refusals lock.old)) (both (of_link L.faults L.endings L.looks link.new) (of_lock R.faults R.refusals lock.new)) }
+    ensures cause { IsCaused (rules_of table.now) result node.new (both (of_link L.faults L.endings L.looks link.old) (of_lock R.faults R.refusals lock.old)) (both (of_link L.faults L.endings L.looks link.new) (of_lock R.faults R.refusals lock.new)) }
+    ensures rest { OnOk result (next_item script.now cue.new ≡ None) }
+    ensures outside { ServesOn (rules_of table.now) (result_err result) (heard [] []) node.old node.new (outside (L.pieces link.old) (R.state lock.old)) (outside (L.pieces link.new) (R.state lock.new)) }
+    ensures ours { (me : ℕ) (taken : List Parcel) → AreForeign (result_err result) me taken }
+{
+    'items: loop {
+        match take_next(alloc, node, table, cue, script, link, lock) {
+            Ok(true) => {}
+            Ok(false) => return Ok(()),
+            Err(fault) => return Err(fault),
+        }
+    }
+}
+
+/// How many turns there may be.
+fn most_turns(until: Until) -> u64
+    ensures { result ≡ most_turns until }
+{
+    match until {
+        Until::Turns(turns) => turns,
+        Until::Entries(_) => u64::MAX,
+    }
+}
+
+/// Has the journal all entries that it is to have?
+fn is_full(until: Until, node: &Node) -> bool
+    ensures { result ≡ is_full until (length node.now.entries) }
+{
+    match until {
+        Until::Turns(_) => false,
+        Until::Entries(entries) => node.entries().len() as u64 >= entries,
+    }
+}
+
+/// A node that is run by the table serves by it, with this script. Each turn it passes the gate, and receives from the link,
+/// with permission to wait exactly where it can take no item of its script. A piece that comes is taken with all frames that
+/// it completes; where none does, the next item is taken, if one can be. Each frame that arrives and each item that is taken
+/// becomes one entry, whose frames are sent. Once the node has had its turns, or its journal has its entries, each item that
+/// can still be taken is taken.
+///
+/// An item can be taken where each call that was taken before is answered. A round is led in the generation of the ticket of
+/// one take of the lock.
+///
+/// Where the lock and the link tell what they give, the tickets of the new rounds are those that follow the last one, the pieces
+/// of all that the new entries send were sent, and by sender the frames that arrived are all that the pieces taken complete.
+pub fn serve_until<L: Link, R: RecLock, G: Gate>(
+    alloc: Global,
+    node: &mut Node,
+    table: &CallTable,
+    script: &[PlanItem],
+    link: &mut L,
+    lock: &mut R,
+    gate: &mut G,
+    until: Until,
+) -> Result<Served, ServeFault>
+    requires run { IsRunBy (rules_of table.now) node.old }
+    requires told { list_all (may_be_told node.old.core.config node.old.core.pnn) script.now ≡ true }
+    ensures acting { HasActed (rules_of table.now) script.now node.old.entries result node.new }
+    ensures same { (node.new.core.pnn ≡ node.old.core.pnn) × (node.new.core.config ≡ node.old.core.config) }
+    ensures counts { NoneFell (both (of_link L.faults L.endings L.looks link.old) (of_lock R.faults R.refusals lock.old)) (both (of_link L.faults L.endings L.looks link.new) (of_lock R.faults R.refusals lock.new)) }
+    ensures cause { IsCaused (rules_of table.now) result node.new (both (of_link L.faults L.endings L.looks link.old) (of_lock R.faults R.refusals lock.old)) (both (of_link L.faults L.endings L.looks link.new) (of_lock R.faults R.refusals lock.new)) }
+    ensures ends { IfOk result (λ served. EndsBy until served (of_link L.faults L.endings L.looks link.old) (of_link L.faults L.endings L.looks link.new)) }
+    ensures outside { Serves (rules_of table.now) (result_err result) node.old node.new (outside (L.pieces link.old) (R.state lock.old)) (outside (L.pieces link.new) (R.state lock.new)) }
+{
+    let mut cue = Cue::first(node.entries());
+    let mut readers = Readers::new(alloc);
+    let most = most_turns(until);
+    let mut number = 0;
+    while number < most && !is_full(until, node) {
+        match turn(
+            alloc,
+            node,
+            table,
+            &mut cue,
+            &mut readers,
+            script,
+            link,
+            lock,
+            gate,
+            number,
+        ) {
+            Ok(false) => number += 1,
+            Ok(true) => return Ok(Served::Closed),
+            Err(fault) => return Err(fault),
+        }
+    }
+    match take_rest(alloc, node, table, &mut cue, script, link, lock) {
+        Ok(()) => Ok(Served::Budget),
+        Err(fault) => Err(fault),
+    }
+}
+
+/// The node serves for so many turns.
+pub fn serve<L: Link, R: RecLock, G: Gate>(
+    alloc: Global,
+    node: &mut Node,
+    table: &CallTable,
+    script: &[PlanItem],
+    link: &mut L,
+    lock: &mut R,
+    gate: &mut G,
+    turns: u64,
+) -> Result<Served, ServeFault>
+    requires run { IsRunBy (rules_of table.now) node.old }
+    requires told { list_all (may_be_told node.old.core.config node.old.core.pnn) script.now ≡ true }
+    ensures acting { HasActed (rules_of table.now) script.now node.old.entries result node.new }
+    ensures same { (node.new.core.pnn ≡ node.old.core.pnn) × (node.new.core.config ≡ node.old.core.config) }
+    ensures counts { NoneFell (both (of_link L.faults L.endings L.looks link.old) (of_lock R.faults R.refusals lock.old)) (both (of_link L.faults L.endings L.looks link.new) (of_lock R.faults R.refusals lock.new)) }
+    ensures cause { IsCaused (rules_of table.now) result node.new (both (of_link L.faults L.endings L.looks link.old) (of_lock R.faults R.refusals lock.old)) (both (of_link L.faults L.endings L.looks link.new) (of_lock R.faults R.refusals lock.new)) }
+    ensures ends { IfOk result (λ served. EndsBy (until.Turns turns) served (of_link L.faults L.endings L.looks link.old) (of_link L.faults L.endings L.looks link.new)) }
+    ensures outside { Serves (rules_of table.now) (result_err result) node.old node.new (outside (L.pieces link.old) (R.state lock.old)) (outside (L.pieces link.new) (R.state lock.new)) }
+{
+    serve_until(
+        alloc,
+        node,
+        table,
+        script,
+        link,
+        lock,
+        gate,
+        Until::Turns(turns),
+    )
+}

@@ -1,0 +1,6 @@
+use Rattle.std.proofs.Common.{◌≡◌, []}
+use Rattle.std.specs.Prelude.{replicate}
+use Rattle.ct_journal_order.proofs.letter.Incoming.new.Given as goal
+
+abbrev pub invariant-loop : goal.invariant-loop
+invariant-loop l = l.senders.items ≡ replicate l.counter []

@@ -1,5 +1,0 @@
-use Rattle.ct_law_cues.proofs.Following.{ends_scripted, follows_rising}
-use Rattle.ct_law_cues.proofs.laws.ends_scripted.Goals as goal
-
-pub returns : goal.returns
-returns c = record { scripted = ends_scripted; rising = follows_rising }

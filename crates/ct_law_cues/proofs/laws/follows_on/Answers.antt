@@ -1,5 +1,0 @@
-use Rattle.ct_law_cues.proofs.Following.{follows_calls, follows_first, follows_on}
-use Rattle.ct_law_cues.proofs.laws.follows_on.Goals as goal
-
-pub returns : goal.returns
-returns c = record { first = follows_first; on = follows_on; calls = follows_calls }

@@ -1,4 +1,0 @@
-pub mod Lists
-pub mod Fronts
-pub mod Queues
-pub mod Growth

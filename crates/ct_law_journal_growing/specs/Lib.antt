@@ -1,0 +1,4 @@
+pub mod Following
+pub mod CueLaws
+pub mod Growing
+pub mod GrowingLaws

@@ -1,5 +1,0 @@
-use Rattle.ct_law_renumbered.proofs.Runs.{steps_renumbered, comes_renumbered}
-use Rattle.ct_law_renumbered.proofs.laws.steps_renumbered.Goals as goal
-
-pub returns : goal.returns
-returns c = record { steps = steps_renumbered; comes = comes_renumbered }

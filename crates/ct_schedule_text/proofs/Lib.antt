@@ -1,0 +1,7 @@
+pub mod Open
+pub mod Entries
+pub mod Walking
+pub mod Frames
+pub mod Steps
+pub mod Adding
+pub mod Calls

@@ -1,0 +1,4 @@
+pub mod Laws
+pub mod Counted
+pub mod Schedule
+pub mod Telling

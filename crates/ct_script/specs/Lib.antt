@@ -1,0 +1,3 @@
+pub mod Cues
+pub mod Scripts
+pub mod Sound

@@ -1,4 +1,0 @@
-//! One node of a plan, which follows its script.
-#![tactic(auto)]
-
-pub mod seat;

@@ -1,0 +1,6 @@
+pub mod Leaving
+pub mod Joining
+pub mod Serving
+pub mod Settling
+pub mod Threading
+pub mod Arriving

@@ -1,0 +1,45 @@
+-- A node that has served.
+use Rattle.std.proofs.Common.{◌≡◌, ◌∙◌, ℕ, List, [], ◌++◌, Option, None, true, ◌⊎◌, inl, refl, sym, ap, subst}
+use Rattle.std.specs.Prelude.{Ok}
+use Rattle.std.specs.List.{list_all}
+use Rattle.ct_call.specs.Rules.{Rules}
+use Rattle.ct_script.specs.Cues.{IsScripted}
+use Rattle.ct_frame.specs.declared.plan.Plan.{Plan}
+use Rattle.ct_frame.specs.declared.plan.PlanItem.{PlanItem}
+use Rattle.ct_journal.specs.declared.journal.Journal.{Journal}
+use Rattle.ct_journal.specs.declared.journal.JournalEntry.{JournalEntry}
+use Rattle.ct_law_journal_growing.specs.Following.{Follows}
+use Rattle.ct_law_journal_growing.proofs.Following.{ends_scripted}
+use Rattle.ct_actor.specs.Journalled.{Journalled, at_opening}
+use Rattle.ct_law_form.specs.Whole.{HasLimits}
+use Rattle.ct_law_form.proofs.Whole.{configs_have_limits}
+use Rattle.ct_actor.proofs.Running.{run_of}
+use Rattle.ct_script.specs.Sound.{IsSound, may_be_told, script_of}
+use Rattle.ct_actor_serving.specs.Serving.{HasActed}
+use Rattle.ct_actor_serving.specs.declared.fault.Served.{Served}
+use Rattle.ct_troupe_threads.specs.Threaded.{HasServed}
+
+pub has_limits : (p : Plan) → IsSound p → HasLimits p.config
+has_limits p sound = configs_have_limits p.config sound.config.0 sound.config.1 sound.config.2
+
+pub may_serve : (p : Plan) (n : ℕ) (x : Journalled) (script : List PlanItem) → IsSound p → x ≡ at_opening n p.config → script ≡ script_of p n → list_all (may_be_told x.core.config x.core.pnn) script ≡ true
+may_serve p n x script sound at is =
+    subst (λ (y : Journalled). list_all (may_be_told y.core.config y.core.pnn) script ≡ true) (sym at)
+    (subst (λ (s : List PlanItem). list_all (may_be_told p.config n) s ≡ true) (sym is) (sound.told n))
+
+follows_all : (rules : Rules) (script : List PlanItem) (served : Served) (x : Journalled) → (h : HasActed rules script [] (Ok served) x) → Follows script [] x.entries h.cue
+follows_all rules script served x h = subst (λ (xs : List JournalEntry). Follows script [] xs h.cue) (sym h.acting.all) h.acting.follows
+
+served_from : (rules : Rules) (p : Plan) (n : ℕ) (served : Served) (x : Journalled) → x.core.pnn ≡ n → x.core.config ≡ p.config → HasActed rules (script_of p n) [] (Ok served) x → HasServed rules p n (record { node = x.core.pnn; entries = x.entries })
+served_from rules p n served x own config h = record {
+  run = record { node = own; end = x.core.node; runs = run_of rules p.config x config h.acting.run };
+  scripted = ends_scripted (script_of p n) x.entries h.cue (follows_all rules (script_of p n) served x h) (inl h.done);
+}
+
+pub has_served : (rules : Rules) (p : Plan) (n : ℕ) (served : Served) (script : List PlanItem) (first x : Journalled) (j : Journal) → first ≡ at_opening n p.config → script ≡ script_of p n → x.core.pnn ≡ first.core.pnn → x.core.config ≡ first.core.config →
+    HasActed rules script first.entries (Ok served) x → j ≡ record { node = x.core.pnn; entries = x.entries } → HasServed rules p n j
+has_served rules p n served script first x j at is pnn config h j_is =
+    subst (λ (k : Journal). HasServed rules p n k) (sym j_is)
+    (served_from rules p n served x (pnn ∙ ap (λ (y : Journalled). y.core.pnn) at) (config ∙ ap (λ (y : Journalled). y.core.config) at)
+    (subst (λ (s : List PlanItem). HasActed rules s [] (Ok served) x) is
+    (subst (λ (y : Journalled). HasActed rules script y.entries (Ok served) x) at h)))

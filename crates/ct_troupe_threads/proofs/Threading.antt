@@ -1,0 +1,66 @@
+-- What nodes leave that all served.
+use Rattle.std.proofs.Common.{◌≡◌, ◌∙◌, ℕ, zero, suc, ◌<◌, ◌≤◌, ◌^◌, ⊎_elim, inl, List, [], ◌∷◌, length, map, Option, None, Some, refl, sym, ap, subst, arith}
+use Rattle.std.proofs.lemmas.Bool.{cases_lt}
+use Rattle.std.proofs.lemmas.List.{length-map}
+use Rattle.std.proofs.lemmas.Option.{same_Some}
+use Rattle.std.specs.Prelude.{IfOk, IfSome, Result, slice_get}
+use Rattle.ct_values.specs.declared.memory.NoMemory.{NoMemory}
+use Rattle.ct_call.specs.Rules.{Rules}
+use Rattle.ct_script.specs.Cues.{IsScripted, items_in}
+use Rattle.ct_frame.specs.declared.plan.Plan.{Plan}
+use Rattle.ct_frame.specs.declared.plan.PlanItem.{PlanItem}
+use Rattle.ct_journal.specs.Order.{AreInOrder, entries_of, or_no_entries}
+use Rattle.ct_journal.specs.declared.journal.Journal.{Journal}
+use Rattle.ct_journal.specs.declared.journal.JournalEntry.{JournalEntry}
+use Rattle.ct_journal.proofs.Ends.{no_entries_past}
+use Rattle.ct_law_journal_schedule.specs.Laws.{AreRuns}
+use Rattle.ct_script.specs.Sound.{IsSound, script_of}
+use Rattle.ct_troupe_threads.specs.Threaded.{HasServed, served}
+use Rattle.ct_troupe.specs.Played.{ArePlayed}
+use Rattle.ct_script.proofs.Soundness.{no_script_past}
+use Rattle.ct_law_journal_schedule.proofs.Scheduled.{has_entries}
+
+-- what each node leaves is the journal of a node that served, where it is one
+abbrev pub AllServed : Rules → Plan → List (Result (Option Journal) NoMemory) → Type 0
+AllServed rules p all = (n : ℕ) (r : Result (Option Journal) NoMemory) → slice_get all n ≡ Some r → IfOk r (λ o. IfSome o (HasServed rules p n))
+
+got_served : (js : List Journal) (n : ℕ) (j : Journal) → slice_get js n ≡ Some j → slice_get (map served js) n ≡ Some (served j)
+got_served [] n j e = absurd (cc)
+got_served (k ∷ ks) zero j e = ap (λ (x : Journal). Some (served x)) (same_Some k j e)
+got_served (k ∷ ks) (suc n) j e = got_served ks n j e
+
+each_served : (rules : Rules) (p : Plan) (all : List (Result (Option Journal) NoMemory)) (js : List Journal) → AllServed rules p all → all ≡ map served js → (n : ℕ) (j : Journal) → slice_get js n ≡ Some j → HasServed rules p n j
+each_served rules p all js h is n j e = h n (served j) (ap (λ (rs : List (Result (Option Journal) NoMemory)). slice_get rs n) is ∙ got_served js n j e)
+
+count_served : (all : List (Result (Option Journal) NoMemory)) (js : List Journal) → all ≡ map served js → length all ≡ length js
+count_served all js is = ap (λ (rs : List (Result (Option Journal) NoMemory)). length rs) is ∙ length-map js served
+
+own_entries : (js : List Journal) (n : ℕ) (j : Journal) → slice_get js n ≡ Some j → entries_of js n ≡ j.entries
+unfolding entries_of or_no_entries
+own_entries js n j e = ap (λ (o : Option Journal). or_no_entries o) e
+
+no_script : IsScripted [] []
+unfolding items_in
+no_script = record { rest = []; taken = refl; played = refl; held_up = inl refl }
+
+scripted : (rules : Rules) (p : Plan) (js : List Journal) → IsSound p → length js ≡ p.config.nodes → ((n : ℕ) (j : Journal) → slice_get js n ≡ Some j → HasServed rules p n j) → (n : ℕ) → IsScripted (script_of p n) (entries_of js n)
+scripted rules p js sound count each n = let b = sound.scripts in ⊎_elim
+    (λ (l : n < length js). (
+    let g = has_entries js n l in
+    subst (λ (xs : List JournalEntry). IsScripted (script_of p n) xs) (sym (own_entries js n g.0 g.1)) (each n g.0 g.1).scripted))
+    (λ (l : length js ≤ n).
+    subst (λ (xs : List JournalEntry). IsScripted (script_of p n) xs) (sym (no_entries_past js n l))
+    (subst (λ (script : List PlanItem). IsScripted script []) (sym (no_script_past p n (omega arith))) no_script))
+    (cases_lt n (length js))
+
+runs : (rules : Rules) (p : Plan) (js : List Journal) → length js ≡ p.config.nodes → ((n : ℕ) (j : Journal) → slice_get js n ≡ Some j → HasServed rules p n j) → AreRuns p.config rules js
+runs rules p js count each = record { count = count; each = λ n j e. (each n j e).run }
+
+pub are_played : (rules : Rules) (p : Plan) (all : List (Result (Option Journal) NoMemory)) (js : List Journal) → IsSound p → length all ≡ p.config.nodes → AllServed rules p all → all ≡ map served js → AreInOrder js → ArePlayed rules p js
+are_played rules p all js sound count h is order =
+    let n = sym (count_served all js is) ∙ count in
+    let each = each_served rules p all js h is in
+    record { runs = runs rules p js n each; scripted = scripted rules p js sound n each; in_order = order }
+
+pub few_journals : (p : Plan) (all : List (Result (Option Journal) NoMemory)) (js : List Journal) → p.config.nodes < 2 ^ 32 → length all ≡ p.config.nodes → all ≡ map served js → length js < 2 ^ 32
+few_journals p all js few count is = let c = count_served all js is in omega arith

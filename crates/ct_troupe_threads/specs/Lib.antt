@@ -1,0 +1,4 @@
+pub mod Meshed
+pub mod Meshes
+pub mod Threaded
+pub mod Threads

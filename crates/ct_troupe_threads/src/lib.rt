@@ -1,0 +1,32 @@
+//! Troupes that play with a thread for each node, over boxes in memory or over sockets.
+//!
+//! A plan is played with its nodes side by side, each in a thread of its own.
+//!
+//! A plan is played with a thread for each node.
+//!
+//! ```
+//! let mut threads = Threads::new(rt, alloc, gates);
+//! threads.play(alloc, &table, &plan)?;
+//! let journals = threads.journals();
+//! ```
+//!
+//! Nodes that are joined by TCP over this machine: a stream between each two of them.
+//!
+//! A plan is played by nodes that are joined by TCP over this machine, with a thread for each of them.
+//!
+//! ```
+//! let mut loopback = Loopback::new(rt, alloc);
+//! loopback.play(alloc, &table, &plan)?;
+//! let journals = loopback.journals();
+//! ```
+#![tactic(auto)]
+
+pub mod beside;
+pub mod gate;
+pub mod loopback;
+pub mod mesh;
+pub mod meshed;
+mod node;
+pub mod settled;
+pub mod threaded;
+pub mod threads;

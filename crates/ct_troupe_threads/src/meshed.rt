@@ -1,0 +1,139 @@
+//! All nodes of a plan, over a mesh.
+ghost use Rattle.std.specs.Prelude.{◌≡◌, ◌<◌, ◌^◌, ℕ, true, Some, Err, IfOk, IfSome, length, map, slice_get};
+ghost use Rattle.std.specs.List.{list_any};
+ghost use Rattle.ct_call.specs.Shown.{rules_of};
+ghost use Rattle.ct_script.specs.Sound.{IsSound};
+ghost use Rattle.ct_troupe_threads.specs.Meshed.{has_failed, joining_fault};
+ghost use Rattle.ct_troupe_threads.specs.Threaded.{HasServed, served};
+ghost use Rattle.ct_troupe.specs.Played.{ArePlayed};
+ghost use Rattle.ct_troupe.specs.declared.troupe.PlayFault.TheVariants as fault;
+
+use crate::mesh::{MeshFault, mesh};
+use crate::node::serve_over;
+use ct_call::table::CallTable;
+use ct_frame::plan::Plan;
+use ct_journal::journal::Journal;
+use ct_journal_order::order::in_order;
+use ct_links::link::Peer;
+use ct_links::seats::LockBook;
+use ct_troupe::troupe::PlayFault;
+use ct_values::memory::NoMemory;
+use std::alloc::Global;
+use std::net::{Net, TcpListener, TcpStream};
+use std::sync::Wait;
+use std::thread;
+use std::thread::Threads;
+
+/// The nodes serve, each in a thread of its own. What each of them leaves, in their order.
+fn serve_all<R: Threads + Wait + Sync>(
+    rt: &R,
+    alloc: Global,
+    table: &CallTable,
+    plan: &Plan,
+    streams: &[Vec<Peer<TcpStream>>],
+) -> Result<Vec<Result<Option<Journal>, NoMemory>>, NoMemory>
+    requires sound { IsSound plan.now }
+    requires streams { length streams.now ≡ plan.now.config.nodes }
+    ensures count { IfOk result (λ v. length v.items ≡ plan.now.config.nodes) }
+    ensures each { IfOk result (λ v. (n : ℕ) (r : _) → slice_get v.items n ≡ Some r → IfOk r (λ o. IfSome o (HasServed (rules_of table.now) plan.now n))) }
+{
+    let book = LockBook::new(rt, alloc);
+    let pages = &book;
+    let all = thread::map_indices(
+        rt,
+        alloc,
+        plan.config.nodes as usize,
+        &|node: usize| -> Result<Option<Journal>, NoMemory>
+            requires { IsSound plan.now × (node < plan.now.config.nodes) × (node < 2 ^ 32) × (node < length streams.now) }
+            ensures { IfOk result (λ o. IfSome o (HasServed (rules_of table.entry.now) plan.entry.now node)) }
+        {
+            serve_over(
+                alloc,
+                table,
+                plan,
+                streams[node].as_slice(),
+                pages,
+                node as u32,
+            )
+        },
+    )?;
+    Ok(all)
+}
+
+/// The fault of a play whose nodes are not joined.
+fn joining_fault(fault: MeshFault) -> PlayFault
+    ensures { result ≡ joining_fault fault }
+{
+    match fault {
+        MeshFault::Refused => PlayFault::Link,
+        MeshFault::NoMemory => PlayFault::NoMemory,
+    }
+}
+
+/// Joins the nodes of the plan: for each node the streams to all others. `Link` where the system would not join them.
+#[tactic(auto, using(crate::proofs::Joining::count_joined))]
+pub fn join_nodes<R: Net<Listener = TcpListener, Stream = TcpStream>>(
+    rt: &R,
+    alloc: Global,
+    plan: &Plan,
+) -> Result<Vec<Vec<Peer<TcpStream>>>, PlayFault>
+    ensures { IfOk result (λ all. length all.items ≡ plan.now.config.nodes) }
+{
+    match mesh(rt, alloc, plan.config.nodes) {
+        Ok(streams) => Ok(streams),
+        Err(fault) => Err(joining_fault(fault)),
+    }
+}
+
+/// Could a node not serve to its end?
+fn some_failed(all: &[Result<Option<Journal>, NoMemory>]) -> bool
+    ensures { result ≡ list_any has_failed all.now }
+{
+    all.iter().any(|left| matches!(left, Ok(None)))
+}
+
+/// The journals of nodes that all served to their end, in their order. `Link` exactly where one could not.
+fn journals_of(
+    alloc: Global,
+    all: Vec<Result<Option<Journal>, NoMemory>>,
+) -> Result<Vec<Journal>, PlayFault>
+    ensures journals { IfOk result (λ v. all.items ≡ map served v.items) }
+    ensures failed { list_any has_failed all.items ≡ true → result ≡ Err fault.Link }
+    ensures link { result ≡ Err fault.Link → list_any has_failed all.items ≡ true }
+{
+    if some_failed(all.as_slice()) {
+        return Err(PlayFault::Link);
+    }
+    let mut journals = Vec::new(alloc);
+    for left in all {
+        match left? {
+            Some(journal) => match journals.push(journal) {
+                Ok(()) => {}
+                Err(_) => return Err(PlayFault::NoMemory),
+            },
+            None => return Err(PlayFault::Link),
+        }
+    }
+    Ok(journals)
+}
+
+/// Plays the plan with one thread a node, each over its streams to the others and with a seat of one lock book. The streams stay
+/// open until each node has had its turns. `Link` where a node could not serve to its end, and where the journals are not in order.
+pub fn play_over_streams<R: Threads + Wait + Sync>(
+    rt: &R,
+    alloc: Global,
+    table: &CallTable,
+    plan: &Plan,
+    streams: &[Vec<Peer<TcpStream>>],
+) -> Result<Vec<Journal>, PlayFault>
+    requires sound { IsSound plan.now }
+    requires streams { length streams.now ≡ plan.now.config.nodes }
+    ensures { IfOk result (λ v. ArePlayed (rules_of table.now) plan.now v.items) }
+{
+    let all = serve_all(rt, alloc, table, plan, streams)?;
+    let journals = journals_of(alloc, all)?;
+    match in_order(alloc, journals.as_slice())? {
+        Some(_) => Ok(journals),
+        None => Err(PlayFault::Link),
+    }
+}

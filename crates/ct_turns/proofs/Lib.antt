@@ -1,2 +1,0 @@
-pub mod Staging
-pub mod Ending
