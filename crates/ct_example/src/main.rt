@@ -3,19 +3,19 @@
 #![tactic(auto)]
 
 ghost use Rattle.std.specs.Prelude.{IfOk};
-ghost use Rattle.ct_node_form.specs.Whole.{HasLimits};
+ghost use Rattle.ct_law_form.specs.Whole.{HasLimits};
 
 use anyhow::{Result, ensure};
-use ct_bytes::key::Key;
-use ct_bytes::name::DbName;
-use ct_bytes::value::Value;
 use ct_call::table::CallTable;
-use ct_coming::coming::may_come;
+use ct_core::coming::may_come;
 use ct_core::machine::Core;
 use ct_frame::event::Event;
 use ct_frame::frame::{CallKind, Frame, Msg};
-use ct_msg::client::ClientOp;
-use ct_msg::config::{Config, DbDecl, DbKind};
+use ct_values::client::ClientOp;
+use ct_values::config::{Config, DbDecl, DbKind};
+use ct_values::key::Key;
+use ct_values::name::DbName;
+use ct_values::value::Value;
 use std::alloc::Global;
 
 /// Two nodes and the database `t`, whose place is 1.

@@ -3,7 +3,7 @@ use Rattle.std.proofs.Common.{◌≡◌, ℕ, ◌<◌, ◌≤◌, List, [], ◌�
 use Rattle.std.proofs.lemmas.Bool.{cases_lt, le-ltb}
 use Rattle.ct_call.specs.Rules.{Rules}
 use Rattle.ct_lines.specs.declared.line.LineKind.TheVariants.{Long}
-use Rattle.ct_placer.proofs.Complete.{taken_front, all_taken}
+use Rattle.ct_lcp2_lines.proofs.Complete.{taken_front, all_taken}
 use Rattle.ct_play.specs.Play.{continued, lines_after, played, rest, rest_after, run_from, run_lines, with_rest}
 use Rattle.ct_play.specs.Session.{Played, line_played, longest, start}
 use Rattle.ct_play.specs.declared.session.Session.{Session}

@@ -1,3 +1,4 @@
+pub mod Played
 pub mod Complete
 pub mod Ending
 pub mod Feeding

@@ -2,7 +2,7 @@
 use Rattle.std.proofs.Common.{ℕ, List, Option, None, Some}
 use Rattle.ct_call.specs.Rules.{Rules}
 use Rattle.ct_world.specs.World.{World}
-use Rattle.ct_cluster_run.proofs.Played.{law_of_marks, promise}
+use Rattle.ct_main.proofs.Played.{law_of_marks, promise}
 use Rattle.ct_play.specs.Course.{Deed, steps_of}
 use Rattle.ct_play.specs.Play.{IsRunOf, played}
 use Rattle.ct_play.proofs.Runs.{runs_are_runs}

@@ -1,7 +1,7 @@
 -- The numbers of a plan that the words give are in their range.
 use Rattle.std.proofs.Common.{◌≡◌, Bool, sym, subst}
-use Rattle.ct_cluster_run.specs.Running.{HasRange}
-use Rattle.ct_cluster_run.specs.declared.running.Wanted.{Wanted}
+use Rattle.ct_main.specs.Running.{HasRange}
+use Rattle.ct_main.specs.declared.running.Wanted.{Wanted}
 use Rattle.ct_words.specs.Reading as words
 use Rattle.ct_words.specs.declared.words.PlanNumbers.{PlanNumbers}
 use Rattle.ct_main.specs.Claims.{wanted_by}

@@ -2,9 +2,9 @@
 use Rattle.std.proofs.Common.{ℕ, List, [], Option, refl, inl, arith}
 use Rattle.std.proofs.KnownBytes.{Appends-nil, Consumes-nil}
 use Rattle.ct_call.specs.Rules.{Rules}
-use Rattle.ct_placer.specs.Claims.{Places}
-use Rattle.ct_placer.specs.declared.placer.End.TheVariants as placing
-use Rattle.ct_soak_run.specs.Soaking.{soak_text}
+use Rattle.ct_lcp2_lines.specs.Claims.{Places}
+use Rattle.ct_lcp2_lines.specs.declared.placer.End.TheVariants as placing
+use Rattle.ct_soak.specs.Soaking.{soak_text}
 use Rattle.ct_main.specs.Claims.{HasEndCause, Plays, SoakEnds}
 use Rattle.ct_main.specs.declared.player.End.TheVariants as end
 use Rattle.ct_main.proofs.Promised.{promised}

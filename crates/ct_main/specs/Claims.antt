@@ -7,8 +7,8 @@ use Rattle.ct_outside.specs.Causes.{AppendsPart, Rose}
 use Rattle.ct_outside.specs.declared.fault.SinkFault.{SinkFault}
 use Rattle.ct_outside.specs.declared.fault.SinkFault.TheVariants as sink
 use Rattle.ct_call.specs.Rules.{Rules}
-use Rattle.ct_cluster.specs.Cluster.{opening}
-use Rattle.ct_cluster.specs.Traces.{ran}
+use Rattle.ct_rules_cluster.specs.Cluster.{opening}
+use Rattle.ct_rules_cluster.specs.Traces.{ran}
 use Rattle.ct_promise.specs.Marked.{MarksRun, no_marks}
 use Rattle.ct_promise.specs.Promises.{Keeps}
 use Rattle.ct_register.specs.Lines as lines
@@ -18,12 +18,12 @@ use Rattle.ct_play.specs.Play.{Run, pending_text_of, played, rest}
 use Rattle.ct_play.specs.Text.{what_text}
 use Rattle.ct_play.specs.declared.what.What.{What}
 use Rattle.ct_play.specs.declared.what.What.TheVariants.{Line}
-use Rattle.ct_placer.specs.declared.placer.End.{End as PlacingEnd}
-use Rattle.ct_placer.specs.declared.placer.End.TheVariants as placing
-use Rattle.ct_soak_run.specs.Soaking.{soak_text}
-use Rattle.ct_cluster_run.specs.declared.running.End.{End as ClusterEnd}
-use Rattle.ct_cluster_run.specs.declared.running.End.TheVariants as running
-use Rattle.ct_cluster_run.specs.declared.running.Wanted.{Wanted}
+use Rattle.ct_lcp2_lines.specs.declared.placer.End.{End as PlacingEnd}
+use Rattle.ct_lcp2_lines.specs.declared.placer.End.TheVariants as placing
+use Rattle.ct_soak.specs.Soaking.{soak_text}
+use Rattle.ct_main.specs.declared.running.End.{End as ClusterEnd}
+use Rattle.ct_main.specs.declared.running.End.TheVariants as running
+use Rattle.ct_main.specs.declared.running.Wanted.{Wanted}
 use Rattle.ct_words.specs.Reading.{reading}
 use Rattle.ct_words.specs.declared.words.PlanNumbers.{PlanNumbers}
 use Rattle.ct_words.specs.declared.words.Word.{Word}

@@ -1,3 +1,4 @@
+pub mod Running
 pub mod Claims
 pub mod Complete
 pub mod Feeding

@@ -8,8 +8,6 @@ ghost use Rattle.ct_main.specs.Claims.{HasEndCause, Plays};
 ghost use Rattle.ct_main.specs.Feeding.{Feeds, Finishes, HasStopCause, Prints, TurnCause, Turns, end_of};
 ghost use Rattle.ct_main.specs.declared.player.End.TheVariants as ended;
 
-use ct_bytes::items::Items;
-use ct_bytes::memory::NoMemory;
 use ct_call::table::CallTable;
 use ct_lines::line::LineKind;
 use ct_outside::fault::SinkFault;
@@ -17,6 +15,8 @@ use ct_outside::sink::{Sink, write_all};
 use ct_outside::source::Source;
 use ct_play::session::Session;
 use ct_play::what::{PlayFault, What};
+use ct_values::items::Items;
+use ct_values::memory::NoMemory;
 use std::alloc::{AllocFailed, Global};
 
 /// Why playing stops before the input ends.

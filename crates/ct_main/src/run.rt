@@ -1,11 +1,11 @@
 //! The top call.
 ghost use Rattle.std.specs.Prelude.{◌≡◌, ◌≤◌, ℕ, true, false, IfOk, None, Some};
 ghost use Rattle.ct_call.specs.Shown.{rules_of};
-ghost use Rattle.ct_cluster_run.specs.Running.{HasRunCause, Runs};
-ghost use Rattle.ct_cluster_run.specs.declared.running.End.{End as Ran};
+ghost use Rattle.ct_main.specs.Running.{HasRunCause, Runs};
+ghost use Rattle.ct_main.specs.declared.running.End.{End as Ran};
 ghost use Rattle.ct_outside.specs.Causes.{Rose};
-ghost use Rattle.ct_placer.specs.Claims.{Places};
-ghost use Rattle.ct_placer.specs.declared.placer.End.{End as PlacingEnd};
+ghost use Rattle.ct_lcp2_lines.specs.Claims.{Places};
+ghost use Rattle.ct_lcp2_lines.specs.declared.placer.End.{End as PlacingEnd};
 ghost use Rattle.ct_words.specs.declared.words.PlanNumbers.{PlanNumbers as Numbers};
 ghost use Rattle.ct_words.specs.declared.words.Word.TheVariants as word;
 ghost use Rattle.ct_main.specs.Claims.{HasEndCause, Plays, Refuses, Reports, SoakEnds, asked, asks_troupe, cluster_message, cluster_status, message, placed_end, status, wanted_by};
@@ -13,18 +13,18 @@ ghost use Rattle.ct_main.specs.declared.player.End.{End as Ended};
 ghost use Rattle.ct_main.specs.declared.player.End.TheVariants as ended;
 
 use crate::player::{End, play};
-use ct_bytes::memory::NoMemory;
+use crate::running::{End as ClusterEnd, Wanted, cluster};
 use ct_call::table::CallTable;
-use ct_cluster_run::running::{End as ClusterEnd, Wanted, cluster};
+use ct_lcp2_lines::placer::{End as PlacerEnd, place};
 use ct_outside::fault::SinkFault;
 use ct_outside::sink::{Sink, write_all};
 use ct_outside::source::Source;
-use ct_placer::placer::{End as PlacerEnd, place};
 use ct_play::text::push_what;
 use ct_play::what::What;
-use ct_soak_run::soaking::soak;
-use ct_tool::words::{push, push_number};
+use ct_soak::soaking::soak;
+use ct_text::words::{push, push_number};
 use ct_troupe::troupe::Troupe;
+use ct_values::memory::NoMemory;
 use ct_words::words::{PlanNumbers, Word, WordsFault, read_words};
 use std::alloc::Global;
 
@@ -149,7 +149,7 @@ fn report_cluster<E: Sink>(alloc: Global, end: ClusterEnd, err: &mut E) -> u8
 /// program's status: 0 where the input was read to its end, 1 where the words have no reading, 2 where a line is refused or
 /// the input ends inside one, 3 where a read failed, 4 where a write failed, 5 for want of memory, 7 where the troupe failed,
 /// and 8 where 2^40 bytes were taken.
-#[tactic(auto, using(crate::proofs::Ranged::in_range, crate::proofs::Unread::nothing_played, crate::proofs::Unread::nothing_placed, crate::proofs::Unread::nothing_soaked, crate::proofs::Unread::no_cause, ct_cluster_run::proofs::Played::unwritten, ct_cluster_run::proofs::Played::no_run_cause))]
+#[tactic(auto, using(crate::proofs::Ranged::in_range, crate::proofs::Unread::nothing_played, crate::proofs::Unread::nothing_placed, crate::proofs::Unread::nothing_soaked, crate::proofs::Unread::no_cause, crate::proofs::Played::unwritten, crate::proofs::Played::no_run_cause))]
 pub fn run<S: Source, K: Sink, E: Sink, T: Troupe>(
     alloc: Global,
     words: &[String],

@@ -2,18 +2,18 @@
 use Rattle.std.proofs.Common.{◌≡◌, ℕ, zero, suc, ◌+◌, ◌<◌, ◌≤◌, Bool, true, false, cond, List, ◌∷◌, length, None, Some, refl, ap, subst, ◌∙◌, arith}
 use Rattle.std.specs.Prelude.{filter, nat_lt, ◌&&◌}
 use Rattle.std.proofs.lemmas.Bool.{lt-ltb}
-use Rattle.ct_cluster.specs.Cluster.{Cluster, everyone, is_up, numbers}
-use Rattle.ct_cluster.specs.Faults.{is_allowed}
-use Rattle.ct_cluster.specs.declared.step.Step.{Step}
-use Rattle.ct_cluster.specs.declared.step.Step.TheVariants as step
+use Rattle.ct_rules_cluster.specs.Cluster.{Cluster, everyone, is_up, numbers}
+use Rattle.ct_rules_cluster.specs.Faults.{is_allowed}
+use Rattle.ct_rules_cluster.specs.declared.step.Step.{Step}
+use Rattle.ct_rules_cluster.specs.declared.step.Step.TheVariants as step
 use Rattle.ct_frame.specs.Fields.{ascends, ascends_after, is_one_to_sixteen}
 use Rattle.ct_lines.specs.Spelled.{ArePairs, IsChange, IsOp, IsStepCommand}
 use Rattle.ct_lines.specs.declared.line.NamedOp.{NamedOp}
 use Rattle.ct_lines.specs.declared.line.NamedOp.TheVariants as named
 use Rattle.ct_lines.specs.declared.line.StepCommand.{StepCommand}
 use Rattle.ct_lines.specs.declared.line.StepCommand.TheVariants as command
-use Rattle.ct_msg.specs.declared.client.Pair.{Pair}
-use Rattle.ct_msg.specs.declared.config.Config.{Config}
+use Rattle.ct_values.specs.declared.client.Pair.{Pair}
+use Rattle.ct_values.specs.declared.config.Config.{Config}
 use Rattle.ct_rules_node.specs.Coming.{is_allowed_op}
 use Rattle.ct_play.specs.Named.{command_step, named_step, running_nodes}
 

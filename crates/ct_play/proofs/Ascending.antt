@@ -6,11 +6,11 @@ use Rattle.std.specs.Ordering.{ordering_reverse}
 use Rattle.std.specs.declared.cmp.Ordering.TheVariants.{Less, Greater}
 use Rattle.std.proofs.lemmas.List.Elements.{All-from_recursion, recursion_from_All}
 use Rattle.std.proofs.lemmas.List.Sorted.{All-permutation, IsPermutation-cons, IsPermutation-middle, IsPermutation-refl, IsPermutation-sym, IsPermutation-trans}
-use Rattle.ct_bytes.specs.Address.{address_before, address_cmp, same_address}
-use Rattle.ct_bytes.specs.declared.address.Address.{Address}
-use Rattle.ct_bytes.specs.declared.address.Address.TheVariants.{V4, V6}
-use Rattle.ct_bytes.proofs.AddressOrder.{address_total}
-use Rattle.ct_bytes.proofs.Orders.{is_less, number_rises}
+use Rattle.ct_values.specs.Address.{address_before, address_cmp, same_address}
+use Rattle.ct_values.specs.declared.address.Address.{Address}
+use Rattle.ct_values.specs.declared.address.Address.TheVariants.{V4, V6}
+use Rattle.ct_values.proofs.AddressOrder.{address_total}
+use Rattle.ct_values.proofs.Orders.{is_less, number_rises}
 use Rattle.ct_play.specs.Opening.{ascending, in_place}
 
 abbrev Before : Address → Address → Type 0

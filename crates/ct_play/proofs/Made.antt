@@ -2,19 +2,19 @@
 use Rattle.std.proofs.Common.{◌≡◌, ℕ, ◌∙◌, Bool, true, false, cond, List, ◌∷◌, length, Option, None, Some, Result, Ok, Err, IfOk, refl, sym, ap}
 use Rattle.std.specs.List.{IsDistinct}
 use Rattle.std.specs.Prelude.{nat_lt, option_map, ◌||◌}
-use Rattle.ct_bytes.specs.Address.{same_address}
-use Rattle.ct_bytes.specs.declared.address.Address.{Address}
-use Rattle.ct_bytes.proofs.AddressOrder.{same_equiv}
+use Rattle.ct_values.specs.Address.{same_address}
+use Rattle.ct_values.specs.declared.address.Address.{Address}
+use Rattle.ct_values.proofs.AddressOrder.{same_equiv}
 use Rattle.ct_lines.specs.Places.{Accepted, IsAccepted, IsConfigOf, or_one}
-use Rattle.ct_msg.specs.Config.{Configures, config_fault, first_place, lock_db, repeated_address, repeated_name}
-use Rattle.ct_msg.specs.declared.config.Config.{Config}
-use Rattle.ct_msg.specs.declared.config.ConfigFault.{ConfigFault}
-use Rattle.ct_msg.specs.declared.config.ConfigFault.TheVariants.{BadNodes, TooMany, Repeated}
-use Rattle.ct_msg.specs.declared.config.DbDecl.{DbDecl}
-use Rattle.ct_msg.proofs.Repeats.{all_distinct}
+use Rattle.ct_values.specs.Config.{Configures, config_fault, first_place, lock_db, repeated_address, repeated_name}
+use Rattle.ct_values.specs.declared.config.Config.{Config}
+use Rattle.ct_values.specs.declared.config.ConfigFault.{ConfigFault}
+use Rattle.ct_values.specs.declared.config.ConfigFault.TheVariants.{BadNodes, TooMany, Repeated}
+use Rattle.ct_values.specs.declared.config.DbDecl.{DbDecl}
+use Rattle.ct_values.proofs.Repeats.{all_distinct}
 use Rattle.ct_promise.specs.Promises.{IsConfig}
 use Rattle.ct_world.specs.World.{World}
-use Rattle.ct_bytes.specs.declared.memory.NoMemory.{NoMemory}
+use Rattle.ct_values.specs.declared.memory.NoMemory.{NoMemory}
 use Rattle.ct_play.specs.Opening.{ascending, config_of, world_opened, world_at}
 use Rattle.ct_play.proofs.Ascending.{ascending_permutes, ascending_sorted, sorted_is}
 

@@ -1,7 +1,7 @@
 -- The numbers of nodes, and of those that run.
 use Rattle.std.proofs.Common.{◌≡◌, ◌∙◌, ℕ, zero, suc, ◌+◌, Bool, true, false, cond, [], ◌∷◌, ◌++◌, refl, sym, ap, append-nil, add-one, arith}
 use Rattle.std.specs.Prelude.{filter}
-use Rattle.ct_cluster.specs.Cluster.{numbers}
+use Rattle.ct_rules_cluster.specs.Cluster.{numbers}
 
 pub none_yet : (p : ℕ → Bool) → [] ≡ filter p (numbers 0 0)
 unfolding numbers

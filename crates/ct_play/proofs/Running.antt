@@ -3,15 +3,15 @@ use Rattle.std.proofs.Common.{◌≡◌, ℕ, zero, suc, true, cond, List, [], �
 use Rattle.std.proofs.lemmas.Grind.{flat_map-append}
 use Rattle.std.proofs.lemmas.List.{map-append}
 use Rattle.ct_call.specs.Rules.{Rules}
-use Rattle.ct_cluster.specs.Cluster.{Cluster}
-use Rattle.ct_cluster.specs.Faults.{is_allowed}
-use Rattle.ct_cluster.specs.Steps.{Stepped, applied}
-use Rattle.ct_cluster.specs.Traces.{OpenCall, Ran, after, idle, ran, ran_one, taken}
-use Rattle.ct_cluster.specs.declared.step.Step.{Step}
-use Rattle.ct_cluster.specs.declared.step.Step.TheVariants as step
-use Rattle.ct_cluster.specs.declared.step.StepFault.{StepFault}
+use Rattle.ct_rules_cluster.specs.Cluster.{Cluster}
+use Rattle.ct_rules_cluster.specs.Faults.{is_allowed}
+use Rattle.ct_rules_cluster.specs.Steps.{Stepped, applied}
+use Rattle.ct_rules_cluster.specs.Traces.{OpenCall, Ran, after, idle, ran, ran_one, taken}
+use Rattle.ct_rules_cluster.specs.declared.step.Step.{Step}
+use Rattle.ct_rules_cluster.specs.declared.step.Step.TheVariants as step
+use Rattle.ct_rules_cluster.specs.declared.step.StepFault.{StepFault}
 use Rattle.ct_mail.specs.Mail.{next_waiting}
-use Rattle.ct_msg.specs.declared.config.Config.{Config}
+use Rattle.ct_values.specs.declared.config.Config.{Config}
 use Rattle.ct_play.specs.Course.{Course, Deed, after_deeds, and_then, delivered_first, deed_of, one_step, printed, settled, steps_of, still}
 
 after_after : (q r t : Ran) → after q (after r t) ≡ after (after q r) t

@@ -2,12 +2,12 @@
 use Rattle.std.proofs.Common.{◌≡◌, ℕ, Bool, true, false, cond, List, [], ◌∷◌, ◌++◌, length, Option, None, Some, Result, Ok, Err, refl, sym, subst, append_assoc, append-nil}
 use Rattle.std.specs.Prelude.{nat_lt}
 use Rattle.ct_call.specs.Rules.{Rules}
-use Rattle.ct_cluster.specs.Cluster.{opening}
-use Rattle.ct_cluster.specs.Faults.{fault_of}
-use Rattle.ct_cluster.specs.Traces.{OpenCall, idle, ran}
-use Rattle.ct_cluster.specs.declared.step.Step.TheVariants as step
-use Rattle.ct_cluster.specs.declared.step.StepFault.{StepFault}
-use Rattle.ct_commands.specs.declared.command.TextFault.{TextFault}
+use Rattle.ct_rules_cluster.specs.Cluster.{opening}
+use Rattle.ct_rules_cluster.specs.Faults.{fault_of}
+use Rattle.ct_rules_cluster.specs.Traces.{OpenCall, idle, ran}
+use Rattle.ct_rules_cluster.specs.declared.step.Step.TheVariants as step
+use Rattle.ct_rules_cluster.specs.declared.step.StepFault.{StepFault}
+use Rattle.ct_text.specs.declared.command.TextFault.{TextFault}
 use Rattle.ct_lines.proofs.Placed.{address_accepted, db_accepted, nodes_accepted}
 use Rattle.ct_lines.proofs.Whole.{line_only}
 use Rattle.ct_lines.specs.Grammar.{line_of}

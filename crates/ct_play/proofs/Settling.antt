@@ -2,14 +2,14 @@
 use Rattle.std.proofs.Common.{◌≡◌, ◌∙◌, ℕ, zero, suc, List, [], ◌∷◌, ◌++◌, Option, None, Some, Result, Ok, Err, refl, sym, ap, subst, append_assoc, append-nil}
 use Rattle.std.proofs.lemmas.Grind.{flat_map-append}
 use Rattle.ct_call.specs.Rules.{Rules}
-use Rattle.ct_cluster.specs.Cluster.{Cluster}
-use Rattle.ct_cluster.specs.Steps.{Stepped, applied}
-use Rattle.ct_cluster.specs.declared.step.Line.{Line}
-use Rattle.ct_cluster.specs.declared.step.Step.TheVariants as step
-use Rattle.ct_cluster.specs.declared.step.StepFault.{StepFault}
-use Rattle.ct_cluster.specs.declared.step.StepFault.TheVariants.{NoMemory}
+use Rattle.ct_rules_cluster.specs.Cluster.{Cluster}
+use Rattle.ct_rules_cluster.specs.Steps.{Stepped, applied}
+use Rattle.ct_rules_cluster.specs.declared.step.Line.{Line}
+use Rattle.ct_rules_cluster.specs.declared.step.Step.TheVariants as step
+use Rattle.ct_rules_cluster.specs.declared.step.StepFault.{StepFault}
+use Rattle.ct_rules_cluster.specs.declared.step.StepFault.TheVariants.{NoMemory}
 use Rattle.ct_mail.specs.Mail.{next_waiting}
-use Rattle.ct_msg.specs.declared.config.Config.{Config}
+use Rattle.ct_values.specs.declared.config.Config.{Config}
 use Rattle.ct_world.specs.World.{World}
 use Rattle.ct_play.specs.Course.{Adds, Course, Deed, Goes, CourseLeadsTo, PrintsAfter, after_deeds, and_then, delivered_first, deed_of, printed, settled}
 

@@ -2,22 +2,22 @@
 use Rattle.std.specs.Prelude.{◌≡◌, ℕ, ◌==◌, if◌then◌else◌, List, [], ◌∷◌, ◌++◌, map, Option, None, Some, Result, Ok, Err, Vec}
 use Rattle.std.specs.declared.alloc.Global.{Global}
 use Rattle.ct_call.specs.Rules.{Rules}
-use Rattle.ct_cluster.specs.Cluster.{node_at}
-use Rattle.ct_cluster.specs.Faults.{fault_of}
-use Rattle.ct_cluster.specs.declared.step.Step.{Step}
-use Rattle.ct_cluster.specs.declared.step.Step.TheVariants as step
-use Rattle.ct_cluster.specs.declared.step.StepFault.{StepFault}
-use Rattle.ct_cluster.specs.declared.step.StepFault.TheVariants as fault
-use Rattle.ct_commands.specs.Command.{command_text}
-use Rattle.ct_commands.specs.declared.command.TextFault.{TextFault}
-use Rattle.ct_commands.specs.declared.command.TextFault.TheVariants as untold
+use Rattle.ct_rules_cluster.specs.Cluster.{node_at}
+use Rattle.ct_rules_cluster.specs.Faults.{fault_of}
+use Rattle.ct_rules_cluster.specs.declared.step.Step.{Step}
+use Rattle.ct_rules_cluster.specs.declared.step.Step.TheVariants as step
+use Rattle.ct_rules_cluster.specs.declared.step.StepFault.{StepFault}
+use Rattle.ct_rules_cluster.specs.declared.step.StepFault.TheVariants as fault
+use Rattle.ct_text.specs.Command.{command_text}
+use Rattle.ct_text.specs.declared.command.TextFault.{TextFault}
+use Rattle.ct_text.specs.declared.command.TextFault.TheVariants as untold
 use Rattle.ct_lines.specs.declared.line.Command.{Command}
 use Rattle.ct_lines.specs.declared.line.Command.TheVariants.{Shows, Steps}
 use Rattle.ct_lines.specs.declared.line.ScenarioLine.{ScenarioLine}
 use Rattle.ct_lines.specs.declared.line.ScenarioLine.TheVariants as item
 use Rattle.ct_lines.specs.declared.line.ShowCommand.{ShowCommand}
-use Rattle.ct_msg.specs.declared.config.Config.{Config}
-use Rattle.ct_tool.specs.Line.{line_text}
+use Rattle.ct_values.specs.declared.config.Config.{Config}
+use Rattle.ct_text.specs.Line.{line_text}
 use Rattle.ct_world.specs.World.{World}
 use Rattle.ct_play.specs.Course.{Course, Deed, one_step, printed, settled}
 use Rattle.ct_play.specs.Named.{command_step, named_step, number_in_step}

@@ -1,16 +1,16 @@
 -- Which step a line or a command is, where it names a database.
 use Rattle.std.specs.Prelude.{ℕ, ◌+◌, true, false, nat_lt, if◌then◌else◌, List, [], ◌∷◌, filter, Option, None, Some, unwrap_or}
 use Rattle.std.specs.Str.{bytes_eq}
-use Rattle.ct_cluster.specs.Cluster.{Cluster, everyone, is_up}
-use Rattle.ct_cluster.specs.declared.step.Step.{Step}
-use Rattle.ct_cluster.specs.declared.step.Step.TheVariants as step
+use Rattle.ct_rules_cluster.specs.Cluster.{Cluster, everyone, is_up}
+use Rattle.ct_rules_cluster.specs.declared.step.Step.{Step}
+use Rattle.ct_rules_cluster.specs.declared.step.Step.TheVariants as step
 use Rattle.ct_lines.specs.declared.line.NamedOp.{NamedOp}
 use Rattle.ct_lines.specs.declared.line.NamedOp.TheVariants as named
 use Rattle.ct_lines.specs.declared.line.StepCommand.{StepCommand}
 use Rattle.ct_lines.specs.declared.line.StepCommand.TheVariants as command
-use Rattle.ct_msg.specs.declared.client.ClientOp.TheVariants as op
-use Rattle.ct_msg.specs.declared.config.Config.{Config}
-use Rattle.ct_msg.specs.declared.config.DbDecl.{DbDecl}
+use Rattle.ct_values.specs.declared.client.ClientOp.TheVariants as op
+use Rattle.ct_values.specs.declared.config.Config.{Config}
+use Rattle.ct_values.specs.declared.config.DbDecl.{DbDecl}
 
 -- the number of the database at place i; a number is below 2^32
 abbrev pub number_at : ℕ → Option ℕ

@@ -1,11 +1,11 @@
 -- The configuration that lines made, and its cluster at the opening.
 use Rattle.std.specs.Prelude.{if◌then◌else◌, List, [], ◌∷◌, Option, None, Some}
-use Rattle.ct_bytes.specs.Address.{address_before}
-use Rattle.ct_bytes.specs.declared.address.Address.{Address}
-use Rattle.ct_cluster.specs.Cluster.{opening}
+use Rattle.ct_values.specs.Address.{address_before}
+use Rattle.ct_values.specs.declared.address.Address.{Address}
+use Rattle.ct_rules_cluster.specs.Cluster.{opening}
 use Rattle.ct_lines.specs.Places.{Accepted, or_one}
-use Rattle.ct_msg.specs.Config.{lock_db}
-use Rattle.ct_msg.specs.declared.config.Config.{Config}
+use Rattle.ct_values.specs.Config.{lock_db}
+use Rattle.ct_values.specs.declared.config.Config.{Config}
 use Rattle.ct_world.specs.World.{World}
 
 -- an address in its place among these

@@ -2,8 +2,8 @@
 use Rattle.std.specs.Prelude.{◌≡◌, ℕ, ◌+◌, ◌==◌, nat_lt, if◌then◌else◌, List, [], ◌∷◌, ◌++◌, length, Option, None, Some, Result, Ok, Err}
 use Rattle.std.specs.List.{flat_map}
 use Rattle.ct_call.specs.Rules.{Rules}
-use Rattle.ct_cluster.specs.Cluster.{opening}
-use Rattle.ct_cluster.specs.Traces.{ran}
+use Rattle.ct_rules_cluster.specs.Cluster.{opening}
+use Rattle.ct_rules_cluster.specs.Traces.{ran}
 use Rattle.ct_lines.specs.declared.line.LineKind.TheVariants.{Long}
 use Rattle.ct_promise.specs.Promises.{IsConfig}
 use Rattle.ct_world.specs.World.{World}

@@ -2,14 +2,14 @@
 use Rattle.std.specs.Prelude.{◌≡◌, ℕ, nat_lt, Bool, true, false, if◌then◌else◌, List, [], length, map, Option, None, Some, Result, Ok, Err, Vec}
 use Rattle.std.specs.declared.alloc.Global.{Global}
 use Rattle.ct_call.specs.Rules.{Rules}
-use Rattle.ct_cluster.specs.Cluster.{pending}
+use Rattle.ct_rules_cluster.specs.Cluster.{pending}
 use Rattle.ct_lines.specs.Grammar.{line_of}
 use Rattle.ct_lines.specs.Places.{Accepted, nothing_accepted, refusal, with_line}
 use Rattle.ct_lines.specs.declared.line.LineKind.{LineKind}
 use Rattle.ct_lines.specs.declared.line.LineKind.TheVariants.{Long, Words}
 use Rattle.ct_lines.specs.declared.line.ScenarioLine.{ScenarioLine}
 use Rattle.ct_lines.specs.declared.line.ScenarioLine.TheVariants as item
-use Rattle.ct_tool.specs.Line.{pending_text}
+use Rattle.ct_text.specs.Line.{pending_text}
 use Rattle.ct_world.specs.World.{World}
 use Rattle.ct_play.specs.Course.{Deed}
 use Rattle.ct_play.specs.Effect.{Effect, line_effect}

@@ -1,24 +1,24 @@
 //! What a line does to a cluster.
 ghost use Rattle.std.specs.Prelude.{◌≡◌, true, IfOk, map};
 ghost use Rattle.ct_call.specs.Shown.{rules_of};
-ghost use Rattle.ct_cluster.specs.Faults.{is_allowed};
-ghost use Rattle.ct_cluster.specs.Steps.{applied};
-ghost use Rattle.ct_cluster.specs.declared.step.Step.TheVariants as step;
+ghost use Rattle.ct_rules_cluster.specs.Faults.{is_allowed};
+ghost use Rattle.ct_rules_cluster.specs.Steps.{applied};
+ghost use Rattle.ct_rules_cluster.specs.declared.step.Step.TheVariants as step;
 ghost use Rattle.ct_lines.specs.Spelled.{IsCommand, IsInRange};
-ghost use Rattle.ct_tool.specs.Line.{line_text};
+ghost use Rattle.ct_text.specs.Line.{line_text};
 ghost use Rattle.ct_play.specs.Course.{Adds, Goes, settled};
 ghost use Rattle.ct_play.specs.Effect.{Works, commanded, effect_of, line_effect, stepped};
 
 use crate::named::{command_step, named_step, number_in_step};
 use crate::shown::{refused_by, shown};
 use crate::what::PlayFault;
-use ct_bytes::items::Items;
-use ct_bytes::memory::NoMemory;
 use ct_call::table::CallTable;
-use ct_cluster::step::{Line, Step, StepFault};
 use ct_lines::line::{Command, ScenarioLine};
-use ct_msg::config::Config;
-use ct_tool::line::line_text;
+use ct_rules_cluster::step::{Line, Step, StepFault};
+use ct_text::line::line_text;
+use ct_values::config::Config;
+use ct_values::items::Items;
+use ct_values::memory::NoMemory;
 use ct_world::world::World;
 use std::alloc::Global;
 

@@ -3,15 +3,15 @@ ghost use Rattle.std.specs.Prelude.{◌≡◌, ◌∷◌, nat_eq, IfOk};
 ghost use Rattle.std.specs.Str.{bytes_eq};
 ghost use Rattle.ct_play.specs.Named.{command_step, named_step, number_at, number_from, number_in_step, number_of_db, running_nodes};
 
-use ct_bytes::copies::Duplicate;
-use ct_bytes::items::Items;
-use ct_bytes::memory::NoMemory;
-use ct_bytes::name::DbName;
-use ct_bytes::value::Value;
-use ct_cluster::step::Step;
 use ct_lines::line::{NamedOp, StepCommand};
-use ct_msg::client::ClientOp;
-use ct_msg::config::{Config, DbDecl};
+use ct_rules_cluster::step::Step;
+use ct_values::client::ClientOp;
+use ct_values::config::{Config, DbDecl};
+use ct_values::copies::Duplicate;
+use ct_values::items::Items;
+use ct_values::memory::NoMemory;
+use ct_values::name::DbName;
+use ct_values::value::Value;
 use ct_world::world::World;
 use std::alloc::Global;
 

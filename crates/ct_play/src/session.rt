@@ -3,22 +3,22 @@ ghost use Rattle.std.specs.Prelude.{◌≡◌, IfOk, IsSome, map};
 ghost use Rattle.ct_call.specs.Shown.{rules_of};
 ghost use Rattle.ct_lines.specs.Places.{refusal};
 ghost use Rattle.ct_lines.specs.Spelled.{IsInRange};
-ghost use Rattle.ct_tool.specs.Line.{pending_text};
+ghost use Rattle.ct_text.specs.Line.{pending_text};
 ghost use Rattle.ct_play.specs.Effect.{line_effect};
 ghost use Rattle.ct_play.specs.Opening.{world_at};
 ghost use Rattle.ct_play.specs.Session.{Plays, in_its_place, is_config_line, line_played, pending_texts, placed, put, start};
 
 use crate::effect::line_effect;
 use crate::what::{PlayFault, What};
-use ct_bytes::items::Items;
-use ct_bytes::memory::NoMemory;
 use ct_call::table::CallTable;
-use ct_cluster::step::PendingCall;
 use ct_lines::line::{LineKindFault, ScenarioLine};
 use ct_lines::parse::parse_line;
 use ct_lines::places::Places;
-use ct_msg::config::Config;
-use ct_tool::line::pending_text;
+use ct_rules_cluster::step::PendingCall;
+use ct_text::line::pending_text;
+use ct_values::config::Config;
+use ct_values::items::Items;
+use ct_values::memory::NoMemory;
 use ct_world::world::World;
 use std::alloc::Global;
 

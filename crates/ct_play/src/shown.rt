@@ -1,15 +1,15 @@
 //! What a command shows, and why one is refused.
 ghost use Rattle.std.specs.Prelude.{◌≡◌, [], IfOk};
-ghost use Rattle.ct_cluster.specs.Faults.{fault_of};
-ghost use Rattle.ct_cluster.specs.declared.step.Step.TheVariants as step;
+ghost use Rattle.ct_rules_cluster.specs.Faults.{fault_of};
+ghost use Rattle.ct_rules_cluster.specs.declared.step.Step.TheVariants as step;
 ghost use Rattle.ct_play.specs.Effect.{Works, cut_after, refused_by, shown};
 
 use crate::what::{PlayFault, What};
-use ct_bytes::items::Items;
-use ct_bytes::memory::NoMemory;
-use ct_cluster::step::{Step, StepFault};
-use ct_commands::command::{TextFault, command_text};
 use ct_lines::line::ShowCommand;
+use ct_rules_cluster::step::{Step, StepFault};
+use ct_text::command::{TextFault, command_text};
+use ct_values::items::Items;
+use ct_values::memory::NoMemory;
 use ct_world::world::World;
 use std::alloc::Global;
 

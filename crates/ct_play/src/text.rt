@@ -3,9 +3,9 @@ ghost use Rattle.std.specs.Prelude.{◌≡◌, ◌++◌, OnOk};
 ghost use Rattle.ct_play.specs.Text.{kind_text, what_text};
 
 use crate::what::What;
-use ct_bytes::memory::NoMemory;
 use ct_lines::line::LineKind;
-use ct_tool::words::{push, push_number};
+use ct_text::words::{push, push_number};
+use ct_values::memory::NoMemory;
 
 fn push_kind(text: &mut Vec<u8>, kind: LineKind) -> Result<(), NoMemory>
     ensures { OnOk result (text.new.items ≡ text.old.items ++ kind_text kind) }

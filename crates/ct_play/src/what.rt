@@ -1,9 +1,9 @@
 //! Why a line is refused, or was not played.
 ghost use Rattle.std.specs.Prelude.{◌≡◌};
 
-use ct_bytes::memory::NoMemory;
-use ct_cluster::step::StepFault;
 use ct_lines::line::LineKind;
+use ct_rules_cluster::step::StepFault;
+use ct_values::memory::NoMemory;
 use std::alloc::AllocFailed;
 
 /// Why a whole line is refused.

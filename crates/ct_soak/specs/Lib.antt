@@ -1,1 +1,3 @@
 pub mod Soak
+pub mod Counts
+pub mod Soaking

@@ -1,21 +1,21 @@
 //! The line of a word: what is to be done next in a cluster of four nodes, with the databases `t`, `r` and `p`.
 ghost use Rattle.std.specs.Prelude.{◌≡◌, ◌≤◌, ◌<◌, ◌^◌, ◌||◌, nat_eq, codes, length, None, IfOk};
 ghost use Rattle.std.specs.List.{filter};
-ghost use Rattle.ct_bytes.specs.Name.{bad_byte};
+ghost use Rattle.ct_values.specs.Name.{bad_byte};
 ghost use Rattle.ct_lines.specs.declared.line.Command.TheVariants.{Steps};
 ghost use Rattle.ct_lines.specs.declared.line.StepCommand.TheVariants as command;
 ghost use Rattle.ct_lines.specs.Spelled.{IsInRange};
 ghost use Rattle.ct_soak.specs.Soak.{IsView, call, commit_line, is_first, key_in, kind_in, letter_in, line_of_kind, members_with, message_in, message_line, name_in, node_in, number_in, pair_in, record_line, round_line, runs, soak_line, turn_line, value_in};
 
-use ct_bytes::items::Items;
-use ct_bytes::key::Key;
-use ct_bytes::memory::{BytesFault, NoMemory};
-use ct_bytes::name::DbName;
-use ct_bytes::number::push_decimal;
-use ct_bytes::value::Value;
-use ct_cluster::step::Step;
 use ct_lines::line::{Command, NamedOp, ScenarioLine, StepCommand};
-use ct_msg::client::Pair;
+use ct_rules_cluster::step::Step;
+use ct_values::client::Pair;
+use ct_values::items::Items;
+use ct_values::key::Key;
+use ct_values::memory::{BytesFault, NoMemory};
+use ct_values::name::DbName;
+use ct_values::number::push_decimal;
+use ct_values::value::Value;
 use std::alloc::Global;
 
 /// What a word's line takes from the cluster: how many messages were sent, and which nodes run.

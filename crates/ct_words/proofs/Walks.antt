@@ -15,7 +15,7 @@ use Rattle.clap.specs.Words.{subcommand_of}
 use Rattle.clap.specs.declared.error.kind.ErrorKind.{ErrorKind}
 use Rattle.clap.specs.declared.error.kind.ErrorKind.TheVariants as kind
 use Rattle.clap.proofs.OnLiterals.{clap_on_literals}
-use Rattle.ct_bytes.specs.Number.{number_of}
+use Rattle.ct_values.specs.Number.{number_of}
 use Rattle.ct_words.specs.Command as command
 use Rattle.ct_words.specs.Matched.{matched, plan_in, soak_in}
 use Rattle.ct_words.specs.Reading.{IsRanged, Reads, alone, numbers, numbers_of, plan, reading, soak, soak_of, without_dashes}

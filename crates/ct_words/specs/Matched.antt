@@ -3,7 +3,7 @@ use Rattle.std.specs.Prelude.{if◌then◌else◌, List, codes, Option, None, So
 use Rattle.std.specs.Option.{option_map}
 use Rattle.std.specs.Str.{bytes_eq}
 use Rattle.clap.specs.Words.{Row, Text, first_of}
-use Rattle.ct_bytes.specs.Number.{number_of}
+use Rattle.ct_values.specs.Number.{number_of}
 use Rattle.ct_words.specs.Reading.{numbers_of, soak_of}
 use Rattle.ct_words.specs.declared.words.PlanNumbers.{PlanNumbers}
 use Rattle.ct_words.specs.declared.words.Word.{Word}

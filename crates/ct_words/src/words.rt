@@ -1,15 +1,15 @@
 //! The program's words, and what they ask for.
 ghost use Rattle.std.specs.Prelude.{◌≡◌, IfOk, IfSome, map, string_bytes};
 ghost use Rattle.clap.specs.Words.{found_of, rows_of, subcommand_rows_of};
-ghost use Rattle.ct_bytes.specs.Number.{number_of};
+ghost use Rattle.ct_values.specs.Number.{number_of};
 ghost use Rattle.ct_words.specs.Matched.{matched, numbers_in, soak_in};
 ghost use Rattle.ct_words.specs.Reading.{HasRange, IsRanged, Reads, numbers_of, reading, soak_of};
 
 use crate::command::program;
 use clap::ArgMatches;
 use clap::error::ErrorKind;
-use ct_bytes::memory::NoMemory;
-use ct_bytes::number::parse_decimal;
+use ct_values::memory::NoMemory;
+use ct_values::number::parse_decimal;
 use std::alloc::{AllocError, Global};
 use thiserror::Error;
 

@@ -10,14 +10,14 @@ ghost use Rattle.ct_call.specs.Shown.{rules_of};
 #[cfg(test)]
 mod tests;
 
-use ct_both::both::Both;
 use ct_call::rule::Rule;
 use ct_call::table::CallTable;
-use ct_loopback::loopback::Loopback;
 use ct_main::run::run;
 use ct_outside::adapters::{StdSink, StdSource};
 use ct_outside::gate::OpenGate;
-use ct_threads::threads::Threads;
+use ct_troupe::both::Both;
+use ct_troupe_threads::loopback::Loopback;
+use ct_troupe_threads::threads::Threads;
 use std::alloc::Global;
 use std::env::{self, Env};
 use std::io;

@@ -1,8 +1,8 @@
 use Rattle.std.proofs.Common.{refl}
 use Rattle.ct_call.specs.Shown.{rules_of}
-use Rattle.ct_cluster_run.proofs.Played.{no_run_cause, unwritten}
+use Rattle.ct_main.proofs.Played.{no_run_cause, unwritten}
 use Rattle.ct_main.proofs.Unread.{nothing_played, nothing_soaked, no_cause}
-use Rattle.ct_cluster_run.specs.declared.running.End.TheVariants as running
+use Rattle.ct_main.specs.declared.running.End.TheVariants as running
 use Rattle.ct_main.specs.declared.player.End.TheVariants as end
 use Rattle.ct_main.proofs.run.run.Goals as goal
 

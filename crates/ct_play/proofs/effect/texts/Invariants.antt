@@ -1,5 +1,5 @@
 use Rattle.std.proofs.Common.{◌≡◌, map, take}
-use Rattle.ct_tool.specs.Line.{line_text}
+use Rattle.ct_text.specs.Line.{line_text}
 use Rattle.ct_play.proofs.effect.texts.Given as goal
 
 -- the texts of the lines so far

@@ -1,6 +1,6 @@
 use Rattle.std.proofs.Common.{◌≡◌}
 use Rattle.std.specs.Prelude.{filter}
-use Rattle.ct_cluster.specs.Cluster.{is_up, numbers}
+use Rattle.ct_rules_cluster.specs.Cluster.{is_up, numbers}
 use Rattle.ct_play.proofs.named.running_nodes.Given as goal
 
 -- those below this one that run

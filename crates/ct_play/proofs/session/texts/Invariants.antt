@@ -1,5 +1,5 @@
 use Rattle.std.proofs.Common.{◌≡◌, map, take}
-use Rattle.ct_tool.specs.Line.{pending_text}
+use Rattle.ct_text.specs.Line.{pending_text}
 use Rattle.ct_play.proofs.session.texts.Given as goal
 
 -- the texts of the calls so far

@@ -1,5 +1,5 @@
 use Rattle.std.proofs.Common.{◌≡◌, ◌∙◌, true, false, sym}
-use Rattle.ct_cluster.specs.Cluster.{is_up}
+use Rattle.ct_rules_cluster.specs.Cluster.{is_up}
 use Rattle.ct_play.proofs.Telling.{up_there}
 use Rattle.ct_play.proofs.shown.shown.Goals as goal
 

@@ -1,0 +1,9 @@
+pub mod Claims
+pub mod Complete
+pub mod Feeding
+pub mod Input
+pub mod Room
+pub mod Grammar
+pub mod Lines
+pub mod Placing
+pub mod Text

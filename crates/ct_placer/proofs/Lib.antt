@@ -1,5 +1,0 @@
-pub mod Complete
-pub mod Ending
-pub mod Feeding
-pub mod Printing
-pub mod Room

@@ -1,5 +1,0 @@
-pub mod Claims
-pub mod Complete
-pub mod Feeding
-pub mod Input
-pub mod Room

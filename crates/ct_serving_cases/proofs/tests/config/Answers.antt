@@ -1,5 +1,0 @@
-use Rattle.ct_node.proofs.Limits.{has_limits}
-use Rattle.ct_serving_cases.proofs.tests.config.Goals as goal
-
-pub returns-clause-limits : goal.returns-clause-limits
-returns-clause-limits c = has_limits c.in_ok-new-2.field-0 1 _ _ c.in_ok-new-2.ensures

@@ -1,5 +1,0 @@
-//! A node that serves, against what it must answer.
-#![tactic(auto)]
-
-#[cfg(test)]
-mod tests;

@@ -1,4 +1,0 @@
-mod Counting
-mod Making
-mod Settling
-mod Words
