@@ -1,7 +1,7 @@
 //! A node is fed row by row.
-use crate::made::config;
-use crate::showing::{copy_of, shows_same};
-use anyhow::{Result, bail};
+use crate::made::{config, event, functions, outs};
+use crate::rows::{Comes, Made, Row, Shown, Way};
+use crate::showing::{copy_of, shows, shows_same};
 use ct_call::table::CallTable;
 use ct_core::coming::may_come;
 use ct_core::machine::Core;
@@ -9,42 +9,34 @@ use ct_frame::event::{Event, Out};
 use ct_node_plan::change::Planned;
 use ct_node_plan::turn::CoreFault;
 use std::alloc::Global;
-
-/// How an event is fed to a node.
-#[derive(Clone, Copy)]
-pub(crate) enum Way {
-    /// By a step.
-    Step,
-    /// By a plan that is then kept. For want of memory nothing changes.
-    Plan,
-}
+use std::test::Fail;
 
 /// A node at the opening of a cluster, in a box, so that no other call moves it.
-pub(crate) fn opened(alloc: Global, words: &[&str], me: u32) -> Result<Box<Core>> {
-    let config = config(alloc, words)?;
+fn opened(alloc: Global, made: Made, me: u32) -> Result<Box<Core>, Fail> {
+    let config = config(alloc, made)?;
     if me < config.nodes {
         Ok(Box::new(alloc, Core::new(alloc, me, &config)?)?)
     } else {
-        bail!("no such node")
+        Err(Fail::new("no such node"))
     }
 }
 
 /// What comes of an event that may come. No number of a row is near its limit.
-fn stepped(core: &mut Core, table: &CallTable, event: &Event) -> Result<Option<Vec<Out>>> {
+fn stepped(core: &mut Core, table: &CallTable, event: &Event) -> Result<Option<Vec<Out>>, Fail> {
     if !may_come(core, event)? {
-        bail!("this may not come");
+        return Err(Fail::new("this may not come"));
     }
     match core.step(table, event) {
         Ok(outs) => Ok(Some(outs)),
         Err(CoreFault::NoMemory) => Ok(None),
-        Err(CoreFault::Exhausted) => bail!("a number reached its limit"),
+        Err(CoreFault::Exhausted) => Err(Fail::new("a number reached its limit")),
     }
 }
 
 /// What comes of an event that may come: it is planned first, and then the plan is kept.
-fn planned(core: &mut Core, table: &CallTable, event: &Event) -> Result<Option<Vec<Out>>> {
+fn planned(core: &mut Core, table: &CallTable, event: &Event) -> Result<Option<Vec<Out>>, Fail> {
     if !may_come(core, event)? {
-        bail!("this may not come");
+        return Err(Fail::new("this may not come"));
     }
     match core.plan(table, event) {
         Ok(Planned { change, outs }) => match core.commit(change) {
@@ -52,7 +44,7 @@ fn planned(core: &mut Core, table: &CallTable, event: &Event) -> Result<Option<V
             Err(_) => Ok(None),
         },
         Err(CoreFault::NoMemory) => Ok(None),
-        Err(CoreFault::Exhausted) => bail!("a number reached its limit"),
+        Err(CoreFault::Exhausted) => Err(Fail::new("a number reached its limit")),
     }
 }
 
@@ -62,13 +54,13 @@ fn held(
     core: &mut Core,
     table: &CallTable,
     event: &Event,
-) -> Result<Option<Vec<Out>>> {
+) -> Result<Option<Vec<Out>>, Fail> {
     let before = copy_of(alloc, core)?;
     let done = planned(core, table, event)?;
     if done.is_some() || shows_same(core, &*before)? {
         Ok(done)
     } else {
-        bail!("a node changed for want of memory")
+        Err(Fail::new("a node changed for want of memory"))
     }
 }
 
@@ -78,7 +70,7 @@ fn once(
     table: &CallTable,
     event: &Event,
     way: Way,
-) -> Result<Option<Vec<Out>>> {
+) -> Result<Option<Vec<Out>>, Fail> {
     match way {
         Way::Step => stepped(core, table, event),
         Way::Plan => held(alloc, core, table, event),
@@ -92,29 +84,66 @@ fn fed(
     table: &CallTable,
     event: &Event,
     way: Way,
-) -> Result<Vec<Out>> {
+) -> Result<Vec<Out>, Fail> {
     if let Some(outs) = once(alloc, core, table, event, way)? {
         return Ok(outs);
     }
     match once(alloc, core, table, event, way)? {
         Some(outs) => Ok(outs),
-        None => bail!("want of memory twice"),
+        None => Err(Fail::new("want of memory twice")),
     }
 }
 
-/// What a node does of what comes to it. Where nothing comes it stops and starts.
-pub(crate) fn does(
+/// What a node does of what comes to it.
+fn does(
     alloc: Global,
     core: &mut Core,
     table: &CallTable,
-    event: Option<Event>,
+    comes: Comes,
     way: Way,
-) -> Result<Vec<Out>> {
-    match event {
+) -> Result<Vec<Out>, Fail> {
+    match event(alloc, core.pnn(), comes)? {
         Some(event) => fed(alloc, core, table, &event, way),
         None => {
             core.restart();
             Ok(Vec::new(alloc))
         }
     }
+}
+
+/// What is told of the first row that is not as the node does.
+fn other(at: usize) -> Fail {
+    Fail::new(format_args!("row {at} is not as the node does"))
+}
+
+/// Each of these rows is as the node does.
+fn follows(
+    alloc: Global,
+    core: &mut Core,
+    table: &CallTable,
+    rows: &[Row],
+    way: Way,
+) -> Result<(), Fail> {
+    for (at, row) in rows.iter().enumerate() {
+        let done = does(alloc, core, table, row.0, way)?;
+        if done != outs(alloc, core.pnn(), row.1)? {
+            return Err(other(at));
+        }
+    }
+    Ok(())
+}
+
+/// Each of these rows is as a node does, from the opening on, and then it shows this.
+pub(crate) fn plays(
+    alloc: Global,
+    made: Made,
+    me: u32,
+    rows: &[Row],
+    way: Way,
+    shown: &[Shown],
+) -> Result<(), Fail> {
+    let table = functions(alloc)?;
+    let mut core = opened(alloc, made, me)?;
+    follows(alloc, &mut *core, &table, rows, way)?;
+    shows(alloc, &*core, shown)
 }

@@ -1,55 +1,109 @@
-//! What comes to a node and what it does, in words.
+//! What a row tells, as values.
 ghost use Rattle.ct_law_form.specs.Whole.{HasLimits};
 ghost use Rattle.std.specs.Prelude.{IfOk};
 
-use crate::lists::{address, addresses, nodes, pairs};
-use crate::messages::msg;
-use crate::read::{cut, key, number, small, value, word};
-use anyhow::{Context, Result, bail};
+use crate::rows::{Asks, Comes, Copied, Does, Gives, Made, Says, Stored, Told, Waits, Written};
 use ct_call::rule::Rule;
 use ct_call::table::CallTable;
 use ct_frame::event::{Event, Note, Out};
-use ct_frame::frame::Frame;
+use ct_frame::frame::{Assigned, Frame, Msg, PTable, TableRow};
+use ct_frame::header::{Header, RecCopy};
 use ct_rules_cluster::step::PendingCall;
-use ct_values::client::{Answer, ClientOp, Why};
-use ct_values::config::{Config, DbDecl, DbKind};
+use ct_values::address::Address;
+use ct_values::client::{Answer, ClientOp, Pair};
+use ct_values::config::{Config, DbDecl};
+use ct_values::items::Items;
 use ct_values::key::Key;
 use ct_values::name::DbName;
 use ct_values::value::Value;
 use std::alloc::Global;
+use std::test::Fail;
 
-fn kind(word: &str) -> Result<DbKind> {
-    match word {
-        "volatile" => Ok(DbKind::Volatile),
-        "readonly" => Ok(DbKind::ReadOnly),
-        "persistent" => Ok(DbKind::Persistent),
-        _ => bail!("no such kind"),
-    }
+fn key(alloc: Global, text: &str) -> Result<Key, Fail> {
+    Ok(Key::new(alloc, text.as_bytes())?)
 }
 
-fn dbs(alloc: Global, words: &[&str], at: usize) -> Result<Vec<DbDecl>> {
+fn value(alloc: Global, text: &str) -> Result<Value, Fail> {
+    Ok(Value::new(alloc, text.as_bytes())?)
+}
+
+fn writes(alloc: Global, pairs: &[Written]) -> Result<Items<Pair>, Fail> {
+    let mut all = Items::empty(alloc);
+    for (at, text) in pairs {
+        all.push(Pair {
+            key: key(alloc, *at)?,
+            value: value(alloc, *text)?,
+        })?;
+    }
+    Ok(all)
+}
+
+fn numbers(alloc: Global, list: &[u32]) -> Result<Items<u32>, Fail> {
+    Ok(Items::new(Vec::from_slice(alloc, list)?))
+}
+
+fn addresses(alloc: Global, list: &[u32]) -> Result<Vec<Address>, Fail> {
     let mut all = Vec::new(alloc);
-    for part in &cut(alloc, word(words, at)?, '+')? {
-        let (name, text) = part.split_once(':').context("no kind")?;
-        let name = DbName::new(alloc, name.as_bytes())?;
-        let kind = kind(text)?;
-        all.push(DbDecl { name, kind })?;
+    for number in list {
+        all.push(Address::V4(*number))?;
+    }
+    Ok(all)
+}
+
+fn assigned(alloc: Global, list: &[(u32, u32)]) -> Result<Items<Assigned>, Fail> {
+    let mut all = Items::empty(alloc);
+    for (number, node) in list {
+        all.push(Assigned {
+            address: Address::V4(*number),
+            node: Some(*node),
+        })?;
+    }
+    Ok(all)
+}
+
+pub(crate) fn told(alloc: Global, rows: &[Told]) -> Result<Items<TableRow>, Fail> {
+    let mut all = Items::empty(alloc);
+    for (db, at, rsn, text, master) in rows {
+        all.push(TableRow {
+            db: *db,
+            key: key(alloc, *at)?,
+            rsn: *rsn,
+            value: value(alloc, *text)?,
+            master: *master,
+        })?;
+    }
+    Ok(all)
+}
+
+fn stored(alloc: Global, tables: &[Stored]) -> Result<Items<PTable>, Fail> {
+    let mut all = Items::empty(alloc);
+    for (db, seq, pairs) in tables {
+        all.push(PTable {
+            db: *db,
+            seq: *seq,
+            pairs: writes(alloc, *pairs)?,
+        })?;
     }
     Ok(all)
 }
 
 /// The configuration of a cluster.
 #[tactic(auto, using(crate::proofs::Limits::has_limits))]
-pub(crate) fn config(alloc: Global, words: &[&str]) -> Result<Config>
+pub(crate) fn config(alloc: Global, made: Made) -> Result<Config, Fail>
     ensures { IfOk result HasLimits }
 {
-    let count = small(words, 1)?;
-    let (dbs, addresses) = (dbs(alloc, words, 3)?, addresses(alloc, words, 4)?);
-    Ok(Config::new(alloc, count, dbs, addresses)?)
+    let mut dbs = Vec::new(alloc);
+    for (name, kind) in made.dbs {
+        dbs.push(DbDecl {
+            name: DbName::new(alloc, name.as_bytes())?,
+            kind: *kind,
+        })?;
+    }
+    Ok(Config::new(alloc, made.nodes, dbs, addresses(alloc, made.addresses)?)?)
 }
 
 /// Function 1 appends its argument, 2 puts it in place of the value, and 3 changes nothing.
-pub(crate) fn functions(alloc: Global) -> Result<CallTable> {
+pub(crate) fn functions(alloc: Global) -> Result<CallTable, Fail> {
     let mut table = CallTable::new(alloc);
     let appends = Rule::Join(Box::new(alloc, Rule::Old)?, Box::new(alloc, Rule::Arg)?);
     table.add_rule(alloc, 1, appends)?;
@@ -58,197 +112,307 @@ pub(crate) fn functions(alloc: Global) -> Result<CallTable> {
     Ok(table)
 }
 
-/// What a client asks of a record.
-fn of_record(alloc: Global, words: &[&str], db: u32, key: Key) -> Result<ClientOp> {
-    match word(words, 0)? {
-        "lock" => Ok(ClientOp::Lock { db, key }),
-        "read" => Ok(ClientOp::Read { db, key }),
-        "unlock" => Ok(ClientOp::Unlock { db, key }),
-        "write" => Ok(ClientOp::Write {
+fn op(alloc: Global, asks: Asks) -> Result<ClientOp, Fail> {
+    match asks {
+        Asks::Lock(db, at) => Ok(ClientOp::Lock {
             db,
-            key,
-            value: value(alloc, words, 3)?,
+            key: key(alloc, at)?,
         }),
-        "store" => Ok(ClientOp::Store {
+        Asks::Read(db, at) => Ok(ClientOp::Read {
             db,
-            key,
-            value: value(alloc, words, 3)?,
+            key: key(alloc, at)?,
         }),
-        "apply" => Ok(ClientOp::Apply {
+        Asks::Write(db, at, text) => Ok(ClientOp::Write {
             db,
-            key,
-            function: small(words, 3)?,
-            arg: value(alloc, words, 4)?,
+            key: key(alloc, at)?,
+            value: value(alloc, text)?,
         }),
-        _ => bail!("no such call"),
+        Asks::Apply(db, at, function, text) => Ok(ClientOp::Apply {
+            db,
+            key: key(alloc, at)?,
+            function,
+            arg: value(alloc, text)?,
+        }),
+        Asks::Store(db, at, text) => Ok(ClientOp::Store {
+            db,
+            key: key(alloc, at)?,
+            value: value(alloc, text)?,
+        }),
+        Asks::Unlock(db, at) => Ok(ClientOp::Unlock {
+            db,
+            key: key(alloc, at)?,
+        }),
+        Asks::Commit(db, pairs) => Ok(ClientOp::Commit {
+            db,
+            writes: writes(alloc, pairs)?,
+        }),
     }
 }
 
-/// What a client asks.
-fn op(alloc: Global, words: &[&str]) -> Result<ClientOp> {
-    let db = small(words, 1)?;
-    if word(words, 0)? == "commit" {
-        let writes = pairs(alloc, words, 2)?;
-        return Ok(ClientOp::Commit { db, writes });
+/// What a message of a record that moves says.
+fn moves(alloc: Global, says: Says) -> Result<Option<Msg>, Fail> {
+    match says {
+        Says::Call(db, at, request, kind) => Ok(Some(Msg::Call {
+            db,
+            key: key(alloc, at)?,
+            request,
+            kind,
+        })),
+        Says::Recall(db, at, least, node, request, kind) => Ok(Some(Msg::Recall {
+            db,
+            key: key(alloc, at)?,
+            least,
+            node,
+            request,
+            kind,
+        })),
+        Says::Give(db, at, rsn, text) => Ok(Some(Msg::Give {
+            db,
+            key: key(alloc, at)?,
+            rsn,
+            value: value(alloc, text)?,
+        })),
+        Says::Pass(db, at, request, rsn, text) => Ok(Some(Msg::Pass {
+            db,
+            key: key(alloc, at)?,
+            request,
+            rsn,
+            value: value(alloc, text)?,
+        })),
+        Says::Refuse(db, at, request, rsn) => Ok(Some(Msg::Refuse {
+            db,
+            key: key(alloc, at)?,
+            request,
+            rsn,
+        })),
+        _ => Ok(None),
     }
-    let key = key(alloc, words, 2)?;
-    of_record(alloc, words, db, key)
 }
 
-fn rest<'a, 'b>(words: &'b [&'a str], from: usize) -> Result<&'b [&'a str]> {
-    words.get(from..).context("a word is missing")
+/// What a message of read-only copies or of a vacuum says.
+fn copies(alloc: Global, says: Says) -> Result<Option<Msg>, Fail> {
+    match says {
+        Says::Grant(db, at, request, rsn, text) => Ok(Some(Msg::Grant {
+            db,
+            key: key(alloc, at)?,
+            request,
+            rsn,
+            value: value(alloc, text)?,
+        })),
+        Says::Done(db, at, node, request) => Ok(Some(Msg::Done {
+            db,
+            key: key(alloc, at)?,
+            node,
+            request,
+        })),
+        Says::Revoke(db, at, rsn) => Ok(Some(Msg::Revoke {
+            db,
+            key: key(alloc, at)?,
+            rsn,
+        })),
+        Says::RevokeAck(db, at, rsn) => Ok(Some(Msg::RevokeAck {
+            db,
+            key: key(alloc, at)?,
+            rsn,
+        })),
+        Says::VStore(db, at, rsn) => Ok(Some(Msg::VStore {
+            db,
+            key: key(alloc, at)?,
+            rsn,
+        })),
+        Says::VStored(db, at, rsn) => Ok(Some(Msg::VStored {
+            db,
+            key: key(alloc, at)?,
+            rsn,
+        })),
+        Says::VDelete(db, at, rsn) => Ok(Some(Msg::VDelete {
+            db,
+            key: key(alloc, at)?,
+            rsn,
+        })),
+        Says::VDeleted(db, at, rsn) => Ok(Some(Msg::VDeleted {
+            db,
+            key: key(alloc, at)?,
+            rsn,
+        })),
+        _ => Ok(None),
+    }
 }
 
-/// A message of this generation.
-fn frame(
-    alloc: Global,
-    generation: u64,
-    sender: u32,
-    receiver: u32,
-    words: &[&str],
-) -> Result<Frame> {
-    Ok(Frame {
-        generation,
-        sender,
-        receiver,
-        msg: msg(alloc, words)?,
-    })
+/// What a message of a round says.
+fn recovers(alloc: Global, says: Says) -> Result<Option<Msg>, Fail> {
+    match says {
+        Says::Freeze(members) => Ok(Some(Msg::Freeze {
+            members: numbers(alloc, members)?,
+        })),
+        Says::FreezeAck => Ok(Some(Msg::FreezeAck)),
+        Says::Pull => Ok(Some(Msg::Pull)),
+        Says::PullReply(vbase, pbase, table, ptables, held) => Ok(Some(Msg::PullReply {
+            vbase,
+            pbase,
+            table: told(alloc, table)?,
+            ptables: stored(alloc, ptables)?,
+            addresses: Items::new(addresses(alloc, held)?),
+        })),
+        Says::Push(members, table, ptables, places) => Ok(Some(Msg::Push {
+            members: numbers(alloc, members)?,
+            table: told(alloc, table)?,
+            ptables: stored(alloc, ptables)?,
+            assigned: assigned(alloc, places)?,
+        })),
+        Says::PushAck => Ok(Some(Msg::PushAck)),
+        Says::Thaw => Ok(Some(Msg::Thaw)),
+        _ => Ok(None),
+    }
+}
+
+/// What a message of a commit or of a takeover says.
+fn spreads(alloc: Global, says: Says) -> Result<Option<Msg>, Fail> {
+    match says {
+        Says::PUpdate(db, seq, pairs) => Ok(Some(Msg::PUpdate {
+            db,
+            seq,
+            writes: writes(alloc, pairs)?,
+        })),
+        Says::PAck(db, seq) => Ok(Some(Msg::PAck { db, seq })),
+        Says::Release(run, keep) => Ok(Some(Msg::Release {
+            run,
+            keep: Items::new(addresses(alloc, keep)?),
+        })),
+        Says::ReleaseAck(run) => Ok(Some(Msg::ReleaseAck { run })),
+        Says::Take(run, places) => Ok(Some(Msg::Take {
+            run,
+            assigned: assigned(alloc, places)?,
+        })),
+        _ => Ok(None),
+    }
+}
+
+fn msg(alloc: Global, says: Says) -> Result<Msg, Fail> {
+    if let Some(msg) = moves(alloc, says)? {
+        return Ok(msg);
+    }
+    if let Some(msg) = copies(alloc, says)? {
+        return Ok(msg);
+    }
+    if let Some(msg) = recovers(alloc, says)? {
+        return Ok(msg);
+    }
+    match spreads(alloc, says)? {
+        Some(msg) => Ok(msg),
+        None => Err(Fail::new("a message of no kind")),
+    }
 }
 
 /// What comes to node `me`. Nothing where it stops and starts.
-pub(crate) fn event(alloc: Global, me: u32, words: &[&str]) -> Result<Option<Event>> {
-    match word(words, 0)? {
-        "client" => Ok(Some(Event::Client {
-            call: number(words, 1)?,
-            op: op(alloc, rest(words, 2)?)?,
+pub(crate) fn event(alloc: Global, me: u32, comes: Comes) -> Result<Option<Event>, Fail> {
+    match comes {
+        Comes::Client(call, asks) => Ok(Some(Event::Client {
+            call,
+            op: op(alloc, asks)?,
         })),
-        "arrive" => {
-            let (generation, sender) = (number(words, 1)?, small(words, 2)?);
-            let frame = frame(alloc, generation, sender, me, rest(words, 3)?)?;
-            Ok(Some(Event::Arrive(frame)))
-        }
-        "retry" => Ok(Some(Event::Retry)),
-        "vacuum" => Ok(Some(Event::Vacuum {
-            db: small(words, 1)?,
+        Comes::Arrive(generation, sender, says) => Ok(Some(Event::Arrive(Frame {
+            generation,
+            sender,
+            receiver: me,
+            msg: msg(alloc, says)?,
+        }))),
+        Comes::Retry => Ok(Some(Event::Retry)),
+        Comes::Vacuum(db) => Ok(Some(Event::Vacuum { db })),
+        Comes::BeginRound(ticket, members) => Ok(Some(Event::BeginRound {
+            ticket,
+            members: numbers(alloc, members)?,
         })),
-        "round" => Ok(Some(Event::BeginRound {
-            ticket: number(words, 1)?,
-            members: nodes(alloc, words, 2)?,
+        Comes::BeginTakeover(able) => Ok(Some(Event::BeginTakeover {
+            able: numbers(alloc, able)?,
         })),
-        "takeover" => Ok(Some(Event::BeginTakeover {
-            able: nodes(alloc, words, 1)?,
+        Comes::Restart => Ok(None),
+    }
+}
+
+fn answer(alloc: Global, gives: Gives) -> Result<Answer, Fail> {
+    match gives {
+        Gives::Locked(text) => Ok(Answer::Locked(value(alloc, text)?)),
+        Gives::Read(text) => Ok(Answer::Read(value(alloc, text)?)),
+        Gives::Written => Ok(Answer::Written),
+        Gives::Applied(text) => Ok(Answer::Applied(value(alloc, text)?)),
+        Gives::Stored => Ok(Answer::Stored),
+        Gives::Unlocked => Ok(Answer::Unlocked),
+        Gives::Committed(seq) => Ok(Answer::Committed(seq)),
+        Gives::Unsure(seq, missing) => Ok(Answer::Unsure {
+            seq,
+            missing: numbers(alloc, missing)?,
+        }),
+        Gives::Refused(why) => Ok(Answer::Refused(why)),
+    }
+}
+
+fn out(alloc: Global, me: u32, does: Does) -> Result<Out, Fail> {
+    match does {
+        Does::Send(generation, receiver, says) => Ok(Out::Send(Frame {
+            generation,
+            sender: me,
+            receiver,
+            msg: msg(alloc, says)?,
         })),
-        "restart" => Ok(None),
-        _ => bail!("no such event"),
-    }
-}
-
-fn why(words: &[&str]) -> Result<Why> {
-    match word(words, 3)? {
-        "wrong-kind" => Ok(Why::WrongKind),
-        "not-serving" => Ok(Why::NotServing),
-        "call-pending" => Ok(Why::CallPending(number(words, 4)?)),
-        "commit-pending" => Ok(Why::CommitPending),
-        "already-locked" => Ok(Why::AlreadyLocked),
-        "not-locked" => Ok(Why::NotLocked),
-        "no-such-call" => Ok(Why::NoSuchCall),
-        _ => bail!("no such refusal"),
-    }
-}
-
-/// An answer with a value.
-fn valued(what: &str, value: Value) -> Option<Answer> {
-    match what {
-        "locked" => Some(Answer::Locked(value)),
-        "read" => Some(Answer::Read(value)),
-        "applied" => Some(Answer::Applied(value)),
-        _ => None,
-    }
-}
-
-fn answer(alloc: Global, words: &[&str]) -> Result<Answer> {
-    let what = word(words, 2)?;
-    match what {
-        "written" => Ok(Answer::Written),
-        "stored" => Ok(Answer::Stored),
-        "unlocked" => Ok(Answer::Unlocked),
-        "committed" => Ok(Answer::Committed(number(words, 3)?)),
-        "unsure" => Ok(Answer::Unsure {
-            seq: number(words, 3)?,
-            missing: nodes(alloc, words, 4)?,
+        Does::Answer(call, gives) => Ok(Out::Answer {
+            call,
+            answer: answer(alloc, gives)?,
         }),
-        "refused" => Ok(Answer::Refused(why(words)?)),
-        _ => valued(what, value(alloc, words, 3)?).context("no such answer"),
+        Does::Vacuumed(db, at) => Ok(Out::Note(Note::Vacuumed {
+            db,
+            key: key(alloc, at)?,
+        })),
+        Does::Ended(db, at) => Ok(Out::Note(Note::Ended {
+            db,
+            key: key(alloc, at)?,
+        })),
+        Does::Round(generation, members, vparent, pparent) => Ok(Out::Note(Note::Round {
+            generation,
+            members: numbers(alloc, members)?,
+            vparent,
+            pparent,
+        })),
+        Does::Installed(generation) => Ok(Out::Note(Note::Installed(generation))),
+        Does::Thawed(generation) => Ok(Out::Note(Note::Thawed(generation))),
+        Does::Released(number) => Ok(Out::Note(Note::Released(Address::V4(number)))),
+        Does::Took(number) => Ok(Out::Note(Note::Took(Address::V4(number)))),
     }
 }
 
-fn note(alloc: Global, words: &[&str]) -> Result<Note> {
-    match word(words, 0)? {
-        "vacuumed" => Ok(Note::Vacuumed {
-            db: small(words, 1)?,
-            key: key(alloc, words, 2)?,
-        }),
-        "ended" => Ok(Note::Ended {
-            db: small(words, 1)?,
-            key: key(alloc, words, 2)?,
-        }),
-        "round" => Ok(Note::Round {
-            generation: number(words, 1)?,
-            members: nodes(alloc, words, 2)?,
-            vparent: number(words, 3)?,
-            pparent: number(words, 4)?,
-        }),
-        "installed" => Ok(Note::Installed(number(words, 1)?)),
-        "thawed" => Ok(Note::Thawed(number(words, 1)?)),
-        "released" => Ok(Note::Released(address(word(words, 1)?)?)),
-        "took" => Ok(Note::Took(address(word(words, 1)?)?)),
-        _ => bail!("nothing that a node does"),
-    }
-}
-
-fn out(alloc: Global, me: u32, words: &[&str]) -> Result<Out> {
-    match word(words, 0)? {
-        "send" => {
-            let (generation, receiver) = (number(words, 1)?, small(words, 2)?);
-            let frame = frame(alloc, generation, me, receiver, rest(words, 3)?)?;
-            Ok(Out::Send(frame))
-        }
-        "answer" => Ok(Out::Answer {
-            call: number(words, 1)?,
-            answer: answer(alloc, words)?,
-        }),
-        _ => Ok(Out::Note(note(alloc, words)?)),
-    }
-}
-
-/// What node `me` is to do: what each part behind the first tells.
-pub(crate) fn outs(alloc: Global, me: u32, parts: &[&str]) -> Result<Vec<Out>> {
+/// What node `me` is to do.
+pub(crate) fn outs(alloc: Global, me: u32, all: &[Does]) -> Result<Vec<Out>, Fail> {
     let mut outs = Vec::new(alloc);
-    for part in parts.iter().skip(1) {
-        let words = cut(alloc, part, ' ')?;
-        outs.push(out(alloc, me, words.as_slice())?)?;
+    for does in all {
+        outs.push(out(alloc, me, *does)?)?;
     }
     Ok(outs)
 }
 
-/// Calls that wait at node `me`, each as `CALL,SEQ` and its words, with commas between them.
-pub(crate) fn waiting(
-    alloc: Global,
-    me: u32,
-    words: &[&str],
-    at: usize,
-) -> Result<Vec<PendingCall>> {
+/// Copies of records.
+pub(crate) fn copied(alloc: Global, all: &[Copied]) -> Result<Vec<(Key, RecCopy)>, Fail> {
+    let mut copies = Vec::new(alloc);
+    for (at, rsn, dmaster, flags, text) in all {
+        let header = Header {
+            rsn: *rsn,
+            dmaster: *dmaster,
+            flags: *flags,
+        };
+        let value = value(alloc, *text)?;
+        copies.push((key(alloc, *at)?, RecCopy { header, value }))?;
+    }
+    Ok(copies)
+}
+
+/// Calls that wait at node `me`.
+pub(crate) fn waiting(alloc: Global, me: u32, all: &[Waits]) -> Result<Vec<PendingCall>, Fail> {
     let mut calls = Vec::new(alloc);
-    for part in &cut(alloc, word(words, at)?, '+')? {
-        let fields = cut(alloc, part, ',')?;
-        let fields = fields.as_slice();
-        let (call, seq) = (number(fields, 0)?, number(fields, 1)?);
-        let op = op(alloc, rest(fields, 2)?)?;
+    for (call, asks, seq) in all {
         calls.push(PendingCall {
-            call,
+            call: *call,
             node: me,
-            op,
-            seq,
+            op: op(alloc, *asks)?,
+            seq: *seq,
         })?;
     }
     Ok(calls)

@@ -1,14 +1,13 @@
 //! What a node shows of itself.
-use crate::lists::{copies, rows};
-use crate::made::waiting;
-use crate::read::small;
-use anyhow::{Result, ensure};
+use crate::made::{copied, told, waiting};
+use crate::rows::{Copied, Shown, Waits};
 use ct_core::machine::Core;
 use ct_values::copies::Duplicate;
 use std::alloc::Global;
+use std::test::Fail;
 
 /// Do two nodes show the same of a database?
-fn shows_same_db(core: &Core, other: &Core, db: u32) -> Result<bool> {
+fn shows_same_db(core: &Core, other: &Core, db: u32) -> Result<bool, Fail> {
     Ok(
         core.copies(db)? == other.copies(db)?
             && core.rows(db)? == other.rows(db)?
@@ -17,7 +16,7 @@ fn shows_same_db(core: &Core, other: &Core, db: u32) -> Result<bool> {
 }
 
 /// Do two nodes keep the same pairs in a persistent database, and the same sequence number?
-fn keeps_same_pairs(core: &Core, other: &Core, db: u32) -> Result<bool> {
+fn keeps_same_pairs(core: &Core, other: &Core, db: u32) -> Result<bool, Fail> {
     match (core.pstore(db), other.pstore(db)) {
         (Some(one), Some(two)) => Ok(one.seq() == two.seq() && one.pairs()? == two.pairs()?),
         (None, None) => Ok(true),
@@ -26,7 +25,7 @@ fn keeps_same_pairs(core: &Core, other: &Core, db: u32) -> Result<bool> {
 }
 
 /// Do two nodes of the same configuration show the same?
-pub(crate) fn shows_same(core: &Core, other: &Core) -> Result<bool> {
+pub(crate) fn shows_same(core: &Core, other: &Core) -> Result<bool, Fail> {
     for db in 0..16 {
         if !shows_same_db(core, other, db)? || !keeps_same_pairs(core, other, db)? {
             return Ok(false);
@@ -52,55 +51,55 @@ pub(crate) fn shows_same(core: &Core, other: &Core) -> Result<bool> {
 }
 
 /// A copy of a node, in a box.
-pub(crate) fn copy_of(alloc: Global, core: &Core) -> Result<Box<Core>> {
+pub(crate) fn copy_of(alloc: Global, core: &Core) -> Result<Box<Core>, Fail> {
     Ok(Box::new(alloc, core.copy()?)?)
 }
 
 /// The same, as what can be copied is.
-fn duplicate_of(alloc: Global, core: &Core) -> Result<Box<Core>> {
+fn duplicate_of(alloc: Global, core: &Core) -> Result<Box<Core>, Fail> {
     Ok(Box::new(alloc, core.duplicate()?)?)
 }
 
 /// Does a node show what its copies show?
-fn is_copied(alloc: Global, core: &Core) -> Result<bool> {
+fn is_copied(alloc: Global, core: &Core) -> Result<bool, Fail> {
     let copy = copy_of(alloc, core)?;
     let duplicate = duplicate_of(alloc, core)?;
     Ok(shows_same(core, &*copy)? && shows_same(core, &*duplicate)?)
 }
 
 /// Do these calls wait at a node? They are by number, and all of one database.
-fn waits(alloc: Global, core: &Core, words: &[&str]) -> Result<bool> {
-    let wanted = waiting(alloc, core.pnn(), words, 5)?;
+fn waits(alloc: Global, core: &Core, calls: &[Waits]) -> Result<bool, Fail> {
+    let wanted = waiting(alloc, core.pnn(), calls)?;
     let mut added = Vec::new(alloc);
     core.add_pending(&mut added)?;
     Ok(added == wanted && core.pending()? == wanted)
 }
 
 /// Does a node have these copies of the records of a database?
-fn has_copies(alloc: Global, core: &Core, db: u32, words: &[&str]) -> Result<bool> {
-    let mut all = Vec::new(alloc);
+fn has_copies(alloc: Global, core: &Core, db: u32, wanted: &[Copied]) -> Result<bool, Fail> {
+    let mut copies = Vec::new(alloc);
     for (at, copy) in core.copies(db)? {
-        all.push((at.copy()?, copy.copy()?))?;
+        copies.push((at.copy()?, copy.copy()?))?;
     }
-    Ok(all == copies(alloc, words, 2)?)
+    Ok(copies == copied(alloc, wanted)?)
 }
 
 /// Does a node show this of a database and of the calls that wait?
-fn shows_of(alloc: Global, core: &Core, words: &[&str]) -> Result<bool> {
-    let db = small(words, 1)?;
+fn shows_of(alloc: Global, core: &Core, shown: Shown) -> Result<bool, Fail> {
     Ok(
-        has_copies(alloc, core, db, words)?
-            && core.rows(db)? == rows(alloc, words, 3)?.into_vec()
-            && core.entries(db)? == rows(alloc, words, 4)?.into_vec()
-            && waits(alloc, core, words)?,
+        has_copies(alloc, core, shown.db, shown.copies)?
+            && core.rows(shown.db)? == told(alloc, shown.rows)?.into_vec()
+            && core.entries(shown.db)? == told(alloc, shown.entries)?.into_vec()
+            && waits(alloc, core, shown.waiting)?,
     )
 }
 
 /// A node shows all of this, and so do its copies.
-pub(crate) fn shows(alloc: Global, core: &Core, words: &[&str]) -> Result<()> {
-    ensure!(
-        shows_of(alloc, core, words)? && is_copied(alloc, core)?,
-        "the node shows something else"
-    );
+pub(crate) fn shows(alloc: Global, core: &Core, all: &[Shown]) -> Result<(), Fail> {
+    for shown in all {
+        if !shows_of(alloc, core, *shown)? || !is_copied(alloc, core)? {
+            return Err(Fail::new("the node shows something else"));
+        }
+    }
     Ok(())
 }

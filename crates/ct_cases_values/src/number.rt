@@ -1,0 +1,35 @@
+use ct_values::number::{parse_decimal, push_decimal};
+use std::test::Fail;
+
+#[test]
+fn writes_and_reads(rt: HostRuntime) -> Result<(), Fail> {
+    for (n, word) in [
+        (0, b"0".as_slice()),
+        (9, b"9"),
+        (10, b"10"),
+        (18446744073709551615, b"18446744073709551615"),
+    ] {
+        let mut text = Vec::from_slice(rt.alloc(), b"x")?;
+        push_decimal(&mut text, n)?;
+        assert_eq!(rt; &text[..1], b"x".as_slice());
+        assert_eq!(rt; &text[1..], word);
+        assert_eq!(rt; parse_decimal(word), Some(n));
+    }
+    Ok(())
+}
+
+#[test]
+fn refuses(rt: HostRuntime) {
+    for word in [
+        b"".as_slice(),
+        b"00",
+        b"01",
+        b"+1",
+        b"-1",
+        b"18446744073709551616",
+        b"1a",
+        b" 1",
+    ] {
+        assert_eq!(rt; parse_decimal(word), None);
+    }
+}
