@@ -9,6 +9,8 @@ use Rattle.ct_wire.specs.declared.decode.Event.{Event}
 use Rattle.ct_wire.specs.declared.decode.Event.TheVariants as event
 use Rattle.ct_wire.specs.declared.decode.Progress.{Progress}
 use Rattle.ct_wire.specs.declared.decode.Progress.TheVariants as progress
+use Rattle.ct_wire.specs.declared.decode.Reached.{Reached}
+use Rattle.ct_wire.specs.declared.decode.Reached.TheVariants as reached
 use Rattle.ct_wire.specs.declared.decode.Spot.{Spot}
 use Rattle.ct_wire.specs.declared.decode.WireFault.{WireFault}
 use Rattle.ct_wire.specs.declared.decode.WireFault.TheVariants as fault
@@ -107,6 +109,11 @@ abbrev pub Feeds : Result (Vec Frame) WireFault → Progress → List ℕ → Pr
 Feeds answer (progress.Amid s) piece new = FeedsOpen answer (eaten s.cursor s.raw piece) new
 Feeds answer (progress.Failed f) piece new = (answer ≡ Err f) × (new ≡ progress.Failed f)
 
+-- These frames are answered, or the fault where there is one and no frame.
+abbrev pub Answers : Result (Vec Frame) WireFault → List Frame → Progress → Type 0
+Answers (Ok v) frames p = (v.items ≡ frames) × (frames ≡ [] → IsOpen p)
+Answers (Err f) frames p = (frames ≡ []) × (p ≡ progress.Failed f)
+
 -- what reading bytes found, with the bytes behind a frame
 abbrev pub Finds : Event → End → Type 0
 Finds (event.Waits s) e = (e ≡ Waits s) × IsSoundSpot s
@@ -121,3 +128,14 @@ Shortens _ bytes = Unit {0}
 -- the frame is at the end of these bytes, of which some stand behind it
 abbrev pub Gives : WholeFrame → End → Type 0
 Gives x e = e ≡ Ends x.frame x.length x.rest.now
+
+-- what taking the fields of a cursor found, with the cursor as it is left
+abbrev pub Reaches : Reached → Cursor → End → Type 0
+Reaches (reached.Rest rest) c e = (e ≡ Waits (record { cursor = c; raw = rest.now })) × IsSoundSpot (record { cursor = c; raw = rest.now })
+Reaches (reached.Ends f n rest) c e = e ≡ Ends f n rest.now
+Reaches (reached.Breaks offset) c e = e ≡ Breaks offset
+
+-- fewer bytes than this stand behind a frame
+abbrev pub LeavesBelow : Reached → ℕ → Type 0
+LeavesBelow (reached.Ends f n rest) k = length rest.now < k
+LeavesBelow _ k = Unit {0}

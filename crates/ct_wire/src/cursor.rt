@@ -172,15 +172,22 @@ fn has_room(length: u32, at: u64, width: u64) -> bool
 }
 
 impl Cursor {
+    /// Comes before this place, which begins at the offset `at`, and of which so much has come.
+    pub(crate) fn stand(&mut self, place: Place, at: u64, stage: Stage)
+        ensures { self.new ≡ record { reading = record { draft = self.old.reading.draft; place = place }; at = at; stage = stage } }
+    {
+        drop(mem::replace(&mut self.reading.place, place));
+        self.at = at;
+        self.stage = stage;
+    }
+
     /// The next field stands at the offset `at`.
     fn arrive(&mut self, place: Place, at: u64) -> Taken
         requires { at < 2 ^ 40 }
         ensures exact { outcome_of result self.new ≡ arrive (record { draft = self.old.reading.draft; place = place }) at }
         ensures sound { IsSoundTaken result self.new }
     {
-        self.reading.place = place;
-        self.at = at;
-        self.stage = Stage::Start;
+        self.stand(place, at, Stage::Start);
         if !has_room(
             self.reading.draft.head.length,
             at,
@@ -201,10 +208,10 @@ impl Cursor {
             Led::Next(place) => self.arrive(place, at),
             Led::Whole(frame) => {
                 if at == u64::from(length) {
-                    Taken::Whole(frame, at)
-                } else {
-                    Taken::Malformed(at)
+                    return Taken::Whole(frame, at);
                 }
+                drop(frame);
+                Taken::Malformed(at)
             }
             Led::Broken(offset) => Taken::Malformed(offset),
         }
@@ -243,6 +250,7 @@ impl Cursor {
     {
         let at = self.at;
         if !is_text_length(&place, length) {
+            drop(place);
             return Ok(Taken::Malformed(at));
         }
         let end = at + text_width(&place);
@@ -255,10 +263,10 @@ impl Cursor {
             return Ok(self.settled(frame, led, end));
         }
         if !has_room(frame, end, length) {
+            drop(place);
             return Ok(Taken::Malformed(end));
         }
-        self.reading.place = Place::Text(place);
-        self.stage = Stage::Text { length };
+        self.stand(Place::Text(place), at, Stage::Text { length });
         Ok(Taken::More)
     }
 
@@ -276,7 +284,10 @@ impl Cursor {
         let frame = self.reading.draft.head.length;
         let at = self.at;
         let end = at + text_width(&place) + length;
-        let text = Vec::from_slice(alloc, field)?;
+        let Ok(text) = Vec::from_slice(alloc, field) else {
+            drop(place);
+            return Err(NoMemory);
+        };
         let led = self.reading.draft.text_read(alloc, at, text, place)?;
         Ok(self.settled(frame, led, end))
     }
@@ -308,8 +319,7 @@ impl Cursor {
         if !has_room(self.reading.draft.head.length, at + 1, width) {
             return Taken::Malformed(at + 1);
         }
-        self.reading.place = Place::Address(place);
-        self.stage = stage;
+        self.stand(Place::Address(place), at, stage);
         Taken::More
     }
 

@@ -1,7 +1,7 @@
 //! A stream of frames, read in whatever pieces it comes.
-ghost use Rattle.std.specs.Prelude.{◌≡◌, ◌<◌, ◌≤◌, [], true, IfOk, IfSome, length};
+ghost use Rattle.std.specs.Prelude.{◌≡◌, ◌<◌, ◌≤◌, ◌∷◌, ◌++◌, [], true, IfOk, IfSome, OnOk, length};
 ghost use Rattle.ct_wire.specs.Cursor.{start};
-ghost use Rattle.ct_wire.specs.Decoding.{eaten, standing_fault, raw_length, Completes, Feeds, FeedsOpen, IsSoundProgress, IsSoundSpot};
+ghost use Rattle.ct_wire.specs.Decoding.{eaten, standing_fault, raw_length, Answers, Completes, Feeds, FeedsOpen, IsSoundProgress, IsSoundSpot};
 ghost use Rattle.ct_wire.specs.declared.decode.Progress.TheVariants.{Amid};
 
 use crate::cursor::Cursor;
@@ -23,6 +23,23 @@ fn before_frame(alloc: Global) -> Progress
     })
 }
 
+/// One frame more. Without memory the call fails, and nothing is asked of the list any more.
+fn add(frames: &mut Vec<Frame>, frame: Frame) -> Result<(), NoMemory>
+    ensures { OnOk result (frames.new.items ≡ frames.old.items ++ frame ∷ []) }
+{
+    frames.push(frame)?;
+    Ok(())
+}
+
+/// A list of one frame.
+fn one(alloc: Global, frame: Frame) -> Result<Vec<Frame>, NoMemory>
+    ensures { IfOk result (λ frames. frames.items ≡ frame ∷ []) }
+{
+    let mut frames = Vec::new(alloc);
+    add(&mut frames, frame)?;
+    Ok(frames)
+}
+
 /// Reads on, and keeps each frame that is complete.
 fn read_frames(
     alloc: Global,
@@ -39,7 +56,7 @@ fn read_frames(
     'frames: loop {
         match event {
             Event::Ends(frame, _, rest) => {
-                frames.push(frame)?;
+                add(frames, frame)?;
                 if rest.is_empty() {
                     return Ok(before_frame(alloc));
                 }
@@ -68,9 +85,7 @@ fn lone_frames(alloc: Global, piece: &[u8]) -> Result<Option<Vec<Frame>>, NoMemo
     let Some(frame) = lone_frame(alloc, piece)? else {
         return Ok(None);
     };
-    let mut frames = Vec::with_capacity(alloc, 1)?;
-    frames.push(frame)?;
-    Ok(Some(frames))
+    Ok(Some(one(alloc, frame)?))
 }
 
 /// Whether nothing of a frame has come.
@@ -80,6 +95,16 @@ fn is_at_start(progress: &Progress) -> bool
     match progress {
         Progress::Amid(spot) => spot.raw.is_empty() && spot.cursor.is_fresh(),
         Progress::Failed(_) => false,
+    }
+}
+
+/// The fault after which nothing more is read.
+fn fault_of(progress: &Progress) -> Option<WireFault>
+    ensures { result ≡ standing_fault progress.now }
+{
+    match progress {
+        Progress::Amid(_) => None,
+        Progress::Failed(fault) => Some(*fault),
     }
 }
 
@@ -128,8 +153,8 @@ impl Decoder {
             Ok(Some(frames)) => Ok(frames),
             Ok(None) => self.read_on(alloc, piece),
             Err(NoMemory) => {
-                self.progress = Progress::Failed(WireFault::NoMemory);
                 self.at_start = false;
+                drop(mem::replace(&mut self.progress, Progress::Failed(WireFault::NoMemory)));
                 Err(WireFault::NoMemory)
             }
         }
@@ -142,24 +167,31 @@ impl Decoder {
         self.at_start = false;
         let before = mem::replace(&mut self.progress, Progress::Failed(WireFault::NoMemory));
         match before {
-            Progress::Failed(fault) => {
-                self.progress = Progress::Failed(fault);
-                Err(fault)
-            }
+            Progress::Failed(fault) => self.stands(Vec::new(alloc), Progress::Failed(fault)),
             Progress::Amid(spot) => match feed_spot(alloc, spot, piece) {
                 Err(NoMemory) => Err(WireFault::NoMemory),
-                Ok((frames, progress)) => {
-                    if frames.is_empty() {
-                        if let Progress::Failed(fault) = progress {
-                            self.progress = Progress::Failed(fault);
-                            return Err(fault);
-                        }
-                    }
-                    self.at_start = is_at_start(&progress);
-                    self.progress = progress;
-                    Ok(frames)
-                }
+                Ok((frames, progress)) => self.stands(frames, progress),
             },
+        }
+    }
+
+    /// Is so far now. The fault is answered, where there is one and no frame came before it.
+    fn stands(&mut self, frames: Vec<Frame>, progress: Progress) -> Result<Vec<Frame>, WireFault>
+        requires { IsSoundProgress progress }
+        ensures so_far { self.new ≡ progress }
+        ensures answer { Answers result frames.items progress }
+    {
+        let fault = fault_of(&progress);
+        self.at_start = is_at_start(&progress);
+        drop(mem::replace(&mut self.progress, progress));
+        match fault {
+            None => Ok(frames),
+            Some(fault) => {
+                if frames.is_empty() {
+                    return Err(fault);
+                }
+                Ok(frames)
+            }
         }
     }
 
@@ -167,10 +199,7 @@ impl Decoder {
     pub fn fault(&self) -> Option<WireFault>
         ensures { result ≡ standing_fault self.now }
     {
-        match &self.progress {
-            Progress::Amid(_) => None,
-            Progress::Failed(fault) => Some(*fault),
-        }
+        fault_of(&self.progress)
     }
 
     /// How many bytes of a field that is not whole are kept.

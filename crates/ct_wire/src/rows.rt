@@ -71,9 +71,11 @@ impl Cursor {
         }
         self.reading.draft.db = fields.db;
         self.reading.draft.rsn = fields.rsn;
-        self.reading.place = Place::Number(NumberPlace::RowMaster { left, key, value });
-        self.at = end;
-        self.stage = Stage::Start;
+        self.stand(
+            Place::Number(NumberPlace::RowMaster { left, key, value }),
+            end,
+            Stage::Start,
+        );
         Ok(fields.rest)
     }
 }

@@ -15,7 +15,7 @@ frames-preserved c =
     let ends = finds_ends c.frames.event c.in-Ends.frame c.in-Ends.field-1 c.in-Ends.rest c.frames.invariant.0 is c.frames.invariant.1 in
     let on : GoesOn first c.frames.frames.items (End.Ends c.in-Ends.frame c.in-Ends.field-1 c.in-Ends.rest.now) = subst (λ (e : End). GoesOn first c.frames.frames.items e) ends c.frames.invariant.2 in
     let next = goes_on_next first c.frames.frames.items c.in-Ends.frame c.in-Ends.field-1 c.in-Ends.rest.now on in
-    let pushed : GoesOn first c.push.new.self.items (eaten start [] c.in-Ends.rest.now) = subst (λ (gs : List Frame). GoesOn first gs (eaten start [] c.in-Ends.rest.now)) (sym c.in_ok-push-in-Ends.ensures.items) next in
+    let pushed : GoesOn first c.add.new.frames.items (eaten start [] c.in-Ends.rest.now) = subst (λ (gs : List Frame). GoesOn first gs (eaten start [] c.in-Ends.rest.now)) (sym c.in_ok-add-in-Ends.ensures) next in
     (eaten start [] c.in-Ends.rest.now, c.in_ok-event-in-Ends.ensures.exact, pushed)
 
 pub returns-then-is_empty-clause-exact : goal.returns-then-is_empty-clause-exact
@@ -25,8 +25,8 @@ returns-then-is_empty-clause-exact c =
     let ends = finds_ends c.frames.event c.in-Ends.frame c.in-Ends.field-1 c.in-Ends.rest c.frames.invariant.0 is c.frames.invariant.1 in
     let on : GoesOn first c.frames.frames.items (End.Ends c.in-Ends.frame c.in-Ends.field-1 c.in-Ends.rest.now) = subst (λ (e : End). GoesOn first c.frames.frames.items e) ends c.frames.invariant.2 in
     let next = goes_on_next first c.frames.frames.items c.in-Ends.frame c.in-Ends.field-1 c.in-Ends.rest.now on in
-    let pushed : GoesOn first c.push.new.self.items (eaten start [] c.in-Ends.rest.now) = subst (λ (gs : List Frame). GoesOn first gs (eaten start [] c.in-Ends.rest.now)) (sym c.in_ok-push-in-Ends.ensures.items) next in
-    goes_on_empty first c.push.new.self.items c.in-Ends.rest.now c.before_frame.result pushed (sym c.is_empty.ensures ∙ c.if-is_empty.true) c.before_frame.ensures
+    let pushed : GoesOn first c.add.new.frames.items (eaten start [] c.in-Ends.rest.now) = subst (λ (gs : List Frame). GoesOn first gs (eaten start [] c.in-Ends.rest.now)) (sym c.in_ok-add-in-Ends.ensures) next in
+    goes_on_empty first c.add.new.frames.items c.in-Ends.rest.now c.before_frame.result pushed (sym c.is_empty.ensures ∙ c.if-is_empty.true) c.before_frame.ensures
 
 pub returns-in-Waits-clause-exact : goal.returns-in-Waits-clause-exact
 returns-in-Waits-clause-exact c =

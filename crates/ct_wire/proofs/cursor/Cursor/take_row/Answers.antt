@@ -3,6 +3,7 @@ use Rattle.ct_frame.specs.declared.frame.TableRow.{TableRow}
 use Rattle.ct_wire_fields.specs.declared.place.NumberPlace.TheVariants as number
 use Rattle.ct_wire_fields.specs.declared.place.Place.{Place}
 use Rattle.ct_wire_fields.specs.Check.{follows_row, last_of}
+use Rattle.ct_wire.specs.declared.cursor.Cursor.{Cursor}
 use Rattle.ct_wire.specs.Decoding.{eaten}
 use Rattle.ct_wire.specs.Whole.{at_number}
 use Rattle.ct_wire.proofs.AtOnce.{row_taken}
@@ -27,3 +28,4 @@ returns-clause-same c =
     ∙ ap (λ (key : List ℕ). eaten (at_number all end (number.RowMaster left key x.value.now)) [] x.rest.now) key_same
     ∙ ap (λ (value : List ℕ). eaten (at_number all end (number.RowMaster left c.in-Some-from_vec.key value)) [] x.rest.now) value_same
     ∙ ap (λ (n : ℕ). eaten (at_number all n (number.RowMaster left c.in-Some-from_vec.key c.in-Some-from_vec-2.value)) [] x.rest.now) (sym c.in-Some-master_at.ensures.is)
+    ∙ ap (λ (next : Cursor). eaten next [] x.rest.now) (sym c.stand.ensures)

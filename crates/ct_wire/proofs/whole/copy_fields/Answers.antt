@@ -1,0 +1,34 @@
+use Rattle.std.proofs.Common.{◌≡◌, ◌∙◌, ◌++◌, sym, arith}
+use Rattle.ct_wire.proofs.whole.copy_fields.Goals as goal
+
+pub returns-clause-stands : goal.returns-clause-stands
+returns-clause-stands c =
+    let d = c.split_at.result.0.now in
+    let k = c.split_at-2.result.0.now in
+    let key = c.split_at-3.result.0.now in
+    let r = c.split_at-4.result.0.now in
+    let v = c.split_at-5.result.0.now in
+    let value = c.split_at-6.result.0.now in
+    let rest = c.split_at-6.result.1.now in
+    let is : c.args.bytes.now ≡ d ++ (k ++ (key ++ (r ++ (v ++ (value ++ rest))))) =
+    cc (c.split_at.ensures.by_index.0, c.split_at-2.ensures.by_index.0, c.split_at-3.ensures.by_index.0, c.split_at-4.ensures.by_index.0, c.split_at-5.ensures.by_index.0, c.split_at-6.ensures.by_index.0) in
+    record {
+      db_field = d;
+      key_length = k;
+      rsn_field = r;
+      value_length = v;
+      db_width = c.split_at.ensures.front_len;
+      key_length_width = c.split_at-2.ensures.front_len;
+      rsn_width = c.split_at-4.ensures.front_len;
+      value_length_width = c.split_at-5.ensures.front_len;
+      db_is = sym c.number_of-db.ensures;
+      key_length_is = sym c.number_of-size.ensures ∙ sym c.split_at-3.ensures.front_len;
+      rsn_is = sym c.number_of-rsn.ensures;
+      value_length_is = sym c.number_of-size-2.ensures ∙ sym c.split_at-6.ensures.front_len;
+      db_keeps = sym c.if-not-is_db.ensures;
+      key_some = omega arith;
+      key_most = omega arith;
+      rsn_keeps = sym c.if-not-is_below_limit.ensures;
+      value_most = omega arith;
+      bytes_are = is;
+    }
