@@ -12,10 +12,10 @@ use crate::runs::{release, releaseack, take};
 use ct_call::table::CallTable;
 use ct_frame::frame::{Frame, Msg};
 use ct_node_plan::change::Planned;
-use ct_node_plan::turn::CoreFault;
 use ct_node_plan_records::databases::{on_pack, on_pupdate};
 use ct_node_plan_records::messages::on_record;
 use ct_node_state::node::Node;
+use ct_node_turn::turn::CoreFault;
 use ct_values::config::Config;
 
 /// A message arrives: it is dropped, or its rule is followed.

@@ -11,13 +11,13 @@ use crate::arrivals::arrives;
 use ct_call::table::CallTable;
 use ct_frame::event::Event;
 use ct_node_plan::change::Planned;
-use ct_node_plan::turn::CoreFault;
 use ct_node_plan_records::client::client;
 use ct_node_plan_records::vacuums::vacuums;
 use ct_node_plan_rounds::leading::begin_round;
 use ct_node_plan_runs::begin::begin_takeover;
 use ct_node_plan_runs::retry::retry;
 use ct_node_state::node::Node;
+use ct_node_turn::turn::CoreFault;
 use ct_values::config::Config;
 
 /// The rule of a node: what comes of each event.

@@ -43,3 +43,4 @@ mod opening;
 pub mod reading;
 pub mod rounds;
 pub mod runs;
+pub mod view;

@@ -9,3 +9,4 @@ pub mod Going
 pub mod Clients
 pub mod Commits
 pub mod WholeRecords
+pub mod Limits

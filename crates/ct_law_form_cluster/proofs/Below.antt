@@ -11,7 +11,7 @@ use Rattle.ct_rules_node.specs.Coming.{is_after_commit, is_after_pending}
 use Rattle.ct_rules_node.specs.Node.{Committing, Database, Node}
 use Rattle.ct_rules_node.specs.Rounds.{Called, called_of, calls_in, calls_of, pending_calls}
 use Rattle.ct_law_rules_node.proofs.Numbered.{numbered_all, unnumbered}
-use Rattle.ct_law_record_wishes.proofs.Wishing.{Wishful}
+use Rattle.ct_law_wishes.proofs.Wishing.{Wishful}
 
 -- a call with a number below b
 abbrev pub Below : ℕ → ℕ → ClientOp → Type 0

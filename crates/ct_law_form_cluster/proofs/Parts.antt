@@ -20,7 +20,7 @@ use Rattle.ct_rules_node.specs.Records.{acted, at_record, kept, place_of, put_ba
 use Rattle.ct_rules_node.specs.Rounds.{bared, changed, frozen_db, frozen_state, install_row, install_rows, installed_db, installed_dbs, installed_state}
 use Rattle.ct_rules_node.specs.Turn.{Turn}
 use Rattle.ct_law_rules_node.proofs.AtRecord.{all_set}
-use Rattle.ct_law_record_wishes.proofs.Wishing.{Wishful}
+use Rattle.ct_law_wishes.proofs.Wishing.{Wishful}
 use Rattle.ct_law_form_cluster.proofs.Below.{BaseBelow, CommitBelow, NodeBelow, WishBelow}
 
 -- all states of a map

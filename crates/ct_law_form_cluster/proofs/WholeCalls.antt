@@ -37,7 +37,7 @@ use Rattle.ct_rules_node.specs.Rounds.{Called, all_frozen, all_installed, all_pu
 use Rattle.ct_rules_node.specs.Steps.{arrives, happens, if_persistent, if_sound, if_taken_over, on_record_of, vacuum_all, vacuums}
 use Rattle.ct_rules_node.specs.Takeovers.{all_released, begin_takeover, on_release, on_releaseack, on_take, released_by, runs, send_releases, takes}
 use Rattle.ct_rules_node.specs.Turn.{Turn, answers, does, makes, notes, posts, posts_all, with_lead, with_node, with_phase}
-use Rattle.ct_law_record_wishes.proofs.Wishing.{Wishful, arrive_wish, call_again_wish, release_wish, revoke_again_wish, store_wish, unlock_wish, vacuum_wish, want_again_wish, want_wish}
+use Rattle.ct_law_wishes.proofs.Wishing.{Wishful, arrive_wish, call_again_wish, release_wish, revoke_again_wish, store_wish, unlock_wish, vacuum_wish, want_again_wish, want_wish}
 use Rattle.ct_law_form_cluster.proofs.Below.{BaseBelow, Below, CommitBelow, NodeBelow, WishBelow, is_after, is_below}
 use Rattle.ct_law_form_cluster.proofs.Parts.{db_below, frozen_dbs_below, installed_dbs_below, kept_below, record_below, state_below, with_db_below}
 use Rattle.ct_law_form_cluster.specs.Laws.{CallsStayBelow, CallsStayBelowMore, NoneWaitsAfterStop, NoneWaitsAtOpening, asks_below}

@@ -9,7 +9,7 @@ use Rattle.std.specs.List.Sorted.{IsStrictlySortedBy}
 use Rattle.std.specs.Map.{keys_of}
 use Rattle.std.specs.Ordering.{is_eq, ordering_reverse}
 use Rattle.ct_values.specs.Key.{key_cmp}
-use Rattle.ct_node_state.specs.Noted.{is_worth}
+use Rattle.ct_node_database.specs.Noted.{is_worth}
 use Rattle.ct_rules.specs.State.{is_blank}
 use Rattle.ct_rules.specs.declared.state.RecState.{RecState}
 use Rattle.ct_store.specs.Map.{Pairs, Ascends, look}

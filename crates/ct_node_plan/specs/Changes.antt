@@ -1,15 +1,15 @@
 -- What a step that was planned changes and does.
 use Rattle.std.specs.Prelude.{◌≡◌, ℕ, ◌<◌, true, false, List, [], ◌∷◌, length, Result, Ok, Err}
 use Rattle.ct_persist.specs.Persisted.{updated}
-use Rattle.ct_node_state.specs.Noted.{is_deleted}
+use Rattle.ct_node_database.specs.Noted.{is_deleted}
 use Rattle.ct_rules_node.specs.Node.{Node, db_at, state_at, with_db}
 use Rattle.ct_rules_node.specs.Records.{put_back}
 use Rattle.ct_rules_node.specs.Turn.{Turn}
 use Rattle.ct_node_state.specs.Whole.{left_as}
 use Rattle.ct_node_plan.specs.declared.change.Change.{Change}
 use Rattle.ct_node_plan.specs.declared.change.Change.TheVariants as change
-use Rattle.ct_node_plan.specs.declared.turn.CoreFault.{CoreFault}
-use Rattle.ct_node_plan.specs.declared.turn.CoreFault.TheVariants.{Exhausted, NoMemory}
+use Rattle.ct_node_turn.specs.declared.turn.CoreFault.{CoreFault}
+use Rattle.ct_node_turn.specs.declared.turn.CoreFault.TheVariants.{Exhausted, NoMemory}
 use Rattle.ct_node_plan.specs.declared.change.Left.{Left}
 use Rattle.ct_node_plan.specs.declared.change.Planned.{Planned}
 

@@ -3,7 +3,7 @@ use ct_frame::event::Out;
 use ct_frame::frame::Assigned;
 use ct_lead::holder::Holder;
 use ct_lead::lead::Lead;
-use ct_node_state::database::Committing;
+use ct_node_database::database::Committing;
 use ct_node_state::node::Node;
 use ct_rules::state::RecState;
 use ct_values::client::Pair;

@@ -1,7 +1,7 @@
 //! What was planned is done.
 ghost use Rattle.std.specs.Prelude.{◌≡◌, ◌<◌, true, OnOk, OnErr, length};
 ghost use Rattle.ct_node_plan.specs.Changes.{AreDeleted, CanChange, all_left, changed_by, left_at};
-ghost use Rattle.ct_node_state.specs.Noted.{is_deleted};
+ghost use Rattle.ct_node_database.specs.Noted.{is_deleted};
 ghost use Rattle.ct_rules_node.specs.Node.{state_at};
 
 use crate::change::{Change, Left};

@@ -5,11 +5,11 @@ ghost use Rattle.ct_node_plan.specs.Changes.{IsPlanned, Plans};
 ghost use Rattle.ct_node_plan.specs.declared.change.Change.TheVariants as change;
 
 use crate::change::{Change, Planned};
-use crate::turn::{CoreFault, Turn};
 use ct_frame::event::{Note, Out};
 use ct_frame::frame::{Frame, Msg};
 use ct_lead::lead::Lead;
 use ct_node_state::node::Node;
+use ct_node_turn::turn::{CoreFault, Turn};
 use ct_values::items::Items;
 use ct_values::memory::NoMemory;
 

@@ -5,9 +5,9 @@ ghost use Rattle.ct_rules_node.specs.Turn.{begins};
 ghost use Rattle.ct_node_plan.specs.Changes.{Plans};
 
 use crate::change::{Change, Planned};
-use crate::outs::outs_of;
-use crate::turn::CoreFault;
 use ct_node_state::node::Node;
+use ct_node_turn::outs::outs_of;
+use ct_node_turn::turn::CoreFault;
 use ct_record_parts::draft::Draft;
 use ct_values::key::Key;
 

@@ -4,9 +4,9 @@ ghost use Rattle.ct_rules_node.specs.Turn.{answers, begins};
 ghost use Rattle.ct_node_plan.specs.Changes.{IsPlanned, Plans};
 
 use crate::change::{Change, Planned};
-use crate::turn::CoreFault;
 use ct_frame::event::Out;
 use ct_node_state::node::Node;
+use ct_node_turn::turn::CoreFault;
 use ct_values::client::Answer;
 use ct_values::items::Items;
 use ct_values::memory::NoMemory;

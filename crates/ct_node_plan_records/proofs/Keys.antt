@@ -9,7 +9,7 @@ use Rattle.std.specs.List.Sorted.{IsStrictlySortedBy}
 use Rattle.std.specs.Map.{keys_of}
 use Rattle.std.specs.declared.cmp.Ordering.TheVariants.{Less}
 use Rattle.ct_values.specs.Key.{key_cmp}
-use Rattle.ct_node_state.specs.Noted.{IsTidy, is_deleted, is_noted}
+use Rattle.ct_node_database.specs.Noted.{IsTidy, is_deleted, is_noted}
 use Rattle.ct_frame.specs.Header.{nobody}
 use Rattle.ct_values.specs.declared.config.Config.{Config}
 use Rattle.ct_node_plan.proofs.Keys.{above_is_other}

@@ -1,6 +1,6 @@
 -- What is left of several records of a node, one after the other.
 use Rattle.std.proofs.Common.{◌≡◌, ◌∙◌, ℕ, ◌<◌, true, List, [], ◌∷◌, ◌++◌, length, refl, ap}
-use Rattle.ct_node_state.specs.Noted.{is_deleted}
+use Rattle.ct_node_database.specs.Noted.{is_deleted}
 use Rattle.ct_values.specs.declared.config.Config.{Config}
 use Rattle.ct_law_form.proofs.Formed.{put_ascends, put_length}
 use Rattle.ct_node_state.specs.Whole.{left_as}

@@ -4,7 +4,7 @@ use Rattle.std.proofs.lemmas.Bool.{eqb-true}
 use Rattle.std.proofs.lemmas.List.{length-set}
 use Rattle.std.specs.Prelude.{◌==◌, ◌&&◌, is_none, nat_eq, slice_get}
 use Rattle.ct_values.specs.Words.{is_nil, others}
-use Rattle.ct_node_state.specs.Noted.{is_deleted, is_worth}
+use Rattle.ct_node_database.specs.Noted.{is_deleted, is_worth}
 use Rattle.ct_frame.specs.Header.{nobody}
 use Rattle.ct_frame.specs.declared.header.RecCopy.{RecCopy}
 use Rattle.ct_values.specs.declared.config.Config.{Config}

@@ -2,7 +2,7 @@
 use Rattle.std.specs.Prelude.{ℕ, Bool, List, [], ◌∷◌}
 use Rattle.std.specs.List.{filter}
 use Rattle.ct_values.specs.Words.{others}
-use Rattle.ct_node_state.specs.Noted.{is_deleted}
+use Rattle.ct_node_database.specs.Noted.{is_deleted}
 use Rattle.ct_values.specs.declared.config.Config.{Config}
 use Rattle.ct_rules.specs.Moves.{vacuum}
 use Rattle.ct_rules_node.specs.Node.{Node, state_at}

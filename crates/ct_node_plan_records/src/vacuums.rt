@@ -1,6 +1,6 @@
 //! A vacuum of a database. Only the noted keys are looked at: of all others nothing comes.
 ghost use Rattle.std.specs.Prelude.{◌≡◌, ◌≢◌, ℕ, ◌<◌, ◌^◌, List, length};
-ghost use Rattle.ct_node_state.specs.Noted.{IsTidy};
+ghost use Rattle.ct_node_database.specs.Noted.{IsTidy};
 ghost use Rattle.ct_frame.specs.Header.{nobody};
 ghost use Rattle.ct_node_plan.specs.Changes.{Plans};
 ghost use Rattle.ct_node_plan.specs.declared.change.Change.TheVariants as change;
@@ -14,12 +14,12 @@ ghost use Rattle.ct_node_plan_records.specs.Keys.{deleted_of, vacuum_keys};
 ghost use Rattle.ct_node_plan_records.specs.Walked.{Walks};
 
 use crate::walk::Walk;
+use ct_node_database::database::Database;
 use ct_node_plan::change::{Change, Planned};
 use ct_node_plan::still::nothing;
-use ct_node_plan::turn::CoreFault;
-use ct_node_state::database::Database;
 use ct_node_state::node::Node;
 use ct_node_state::phases::is_serving;
+use ct_node_turn::turn::CoreFault;
 use ct_values::config::Config;
 use ct_values::key::Key;
 

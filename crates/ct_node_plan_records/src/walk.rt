@@ -2,20 +2,20 @@
 ghost use Rattle.std.specs.Prelude.{◌≡◌, ◌++◌, ◌∷◌, [], ◌<◌, ◌^◌, true, IfOk, OnOk, length};
 ghost use Rattle.std.specs.List.Sorted.{IsStrictlyIncreasing};
 ghost use Rattle.ct_values.specs.Words.{others};
-ghost use Rattle.ct_node_state.specs.Noted.{is_deleted};
+ghost use Rattle.ct_node_database.specs.Noted.{is_deleted};
 ghost use Rattle.ct_rules.specs.State.{rsn_of};
 ghost use Rattle.ct_rules_node.specs.Node.{db_at, or_nothing, state_at};
 ghost use Rattle.ct_rules_node.specs.Records.{acted, place_of, view};
-ghost use Rattle.ct_node_plan.specs.Goes.{Goes};
+ghost use Rattle.ct_node_turn.specs.Goes.{Goes};
 ghost use Rattle.ct_node_plan_records.specs.Keys.{is_deleted_at, vacuum_key};
 ghost use Rattle.ct_node_plan_records.specs.Walked.{IsMiddle, after_key, node_so_far, so_far};
 
 use ct_frame::event::Out;
 use ct_frame::header::{NONE, RecCopy};
 use ct_node_plan::change::Left;
-use ct_node_plan::outs::outs_of;
-use ct_node_plan::turn::CoreFault;
 use ct_node_state::node::Node;
+use ct_node_turn::outs::outs_of;
+use ct_node_turn::turn::CoreFault;
 use ct_record::moves;
 use ct_record_parts::draft::Draft;
 use ct_rules::event::Place;
@@ -35,7 +35,7 @@ pub struct Walk {
 }
 
 /// Has a copy that was not given away the empty value?
-#[tactic(auto, unfolding(ct_node_state::specs::Noted::is_deleted))]
+#[tactic(auto, unfolding(ct_node_database::specs::Noted::is_deleted))]
 fn is_deleted(copy: &Option<RecCopy>) -> bool
     ensures { result ≡ is_deleted copy.now }
 {
@@ -46,7 +46,7 @@ fn is_deleted(copy: &Option<RecCopy>) -> bool
 }
 
 /// Is the record of this key a deleted one?
-#[tactic(auto, unfolding(ct_rules_node::specs::Node::or_nothing, ct_node_state::specs::Noted::is_deleted))]
+#[tactic(auto, unfolding(ct_rules_node::specs::Node::or_nothing, ct_node_database::specs::Noted::is_deleted))]
 fn is_deleted_at(node: &Node, db: u32, key: &Key) -> bool
     ensures { result ≡ is_deleted_at db node.now key.now }
 {

@@ -1,7 +1,4 @@
 pub mod Kept
-pub mod Filling
-pub mod Made
-pub mod Pushed
 pub mod Acks
 pub mod Begins
 pub mod Planned

@@ -8,13 +8,13 @@ use Rattle.ct_frame.specs.declared.event.Note.TheVariants as note
 use Rattle.ct_values.specs.declared.config.Config.{Config}
 use Rattle.ct_node_plan.specs.Changes.{IsPlanned, Plans}
 use Rattle.ct_node_plan.specs.declared.change.Planned.{Planned}
-use Rattle.ct_node_plan_runs.proofs.Records.{pending_there}
+use Rattle.ct_node_view.proofs.There.{pending_there}
 use Rattle.ct_lead.specs.Member.{is_installed}
 use Rattle.ct_rules_node.specs.Node.{Node, Phase, Idle, Serving, Installed, Freezing, Frozen, with_db}
 use Rattle.ct_rules_node.specs.Records.{acted, at_record, place_of, put_back, view}
 use Rattle.ct_rules_node.specs.Rounds.{Called, on_thaw, pending_calls, thaws, want_again, want_all}
 use Rattle.ct_rules_node.specs.Turn.{Turn, begins, does, notes, with_phase}
-use Rattle.ct_node_plan.specs.declared.turn.CoreFault.{CoreFault}
+use Rattle.ct_node_turn.specs.declared.turn.CoreFault.{CoreFault}
 use Rattle.ct_node_plan_rounds.proofs.Counting.{again_low}
 
 second_false : (a b : Bool) → (a || b) ≡ false → b ≡ false

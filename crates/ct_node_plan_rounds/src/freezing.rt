@@ -7,12 +7,12 @@ ghost use Rattle.ct_rules_node.specs.Turn.{begins};
 
 use crate::commits::ends_commits;
 use ct_frame::frame::Msg;
+use ct_node_database::database::{Database, Sweep};
 use ct_node_plan::change::Planned;
 use ct_node_plan::plans::{posts, whole};
 use ct_node_plan::still::nothing;
-use ct_node_plan::turn::{CoreFault, Turn};
-use ct_node_state::database::{Database, Sweep};
 use ct_node_state::node::Node;
+use ct_node_turn::turn::{CoreFault, Turn};
 use ct_node_view::rows::{ptables, table};
 use ct_values::config::Config;
 use ct_values::copies::Duplicate;
@@ -21,7 +21,7 @@ use ct_values::memory::NoMemory;
 use std::alloc::Global;
 
 /// Freeze: a database, where no key has an entry, a queue, a waiting recall, a tracking or a vacuum any more.
-#[tactic(auto, unfolding(ct_rules_node::specs::Rounds::frozen_db, ct_node_state::specs::Sweeps::swept))]
+#[tactic(auto, unfolding(ct_rules_node::specs::Rounds::frozen_db, ct_node_database::specs::Sweeps::swept))]
 fn frozen_db(database: &Database) -> Result<Database, NoMemory>
     ensures { IfOk result (λ d. d ≡ frozen_db database.now) }
 {

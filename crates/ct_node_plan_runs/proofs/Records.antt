@@ -2,7 +2,7 @@
 use Rattle.std.proofs.Common.{◌≡◌, ◌∙◌, ℕ, zero, suc, ◌+◌, ◌<◌, ◌≤◌, Bool, true, false, cond, not, ◌||◌, List, [], ◌∷◌, ◌++◌, map, append-nil, append_assoc, drop, length, Option, None, Some, refl, sym, ap, subst, add-one, arith}
 use Rattle.std.specs.Prelude.{◌==◌, slice_get}
 use Rattle.std.specs.List.{AllByRecursion}
-use Rattle.ct_node_state.specs.Noted.{is_worth}
+use Rattle.ct_node_database.specs.Noted.{is_worth}
 use Rattle.ct_tracking.specs.Tracked.{Revocation}
 use Rattle.ct_frame.specs.declared.event.Out.{Out}
 use Rattle.ct_frame.specs.declared.frame.Msg.{Msg}
@@ -100,27 +100,6 @@ calls_do c me [] t a w h = does_nothing t
 calls_do c me (x ∷ xs) t a w h =
     let first = called_again t.node.generation (place_of c me x.db x.key t.node) (state_at x.db x.key t.node).wish in
     ap (call_all c me xs) (call_does c me x.db x.key t a w h.0) ∙ calls_do c me xs (does_all first t) a w h.1 ∙ does_both first (all_called c me t.node xs) t
-
--- ---- the calls that wait are of databases that are there
-
-called_there : (db : ℕ) (key : List ℕ) (w : Option Wish) (n : ℕ) → db < n → AllByRecursion (λ (x : Called). x.db < n) (called_of db key w)
-unfolding called_of
-called_there db key None n l = tt
-called_there db key (Some w) n l = (l, tt)
-
-calls_there : (db : ℕ) (m : Pairs RecState) (n : ℕ) → db < n → AllByRecursion (λ (x : Called). x.db < n) (calls_of db m)
-unfolding calls_of
-calls_there db [] n l = tt
-calls_there db (e ∷ m) n l = all_of_both (λ (x : Called). x.db < n) (called_of db e.0 e.1.wish) (calls_of db m) (called_there db e.0 e.1.wish n l) (calls_there db m n l)
-
-all_there : (i : ℕ) (ds : List Database) (n : ℕ) → i + length ds ≤ n → AllByRecursion (λ (x : Called). x.db < n) (calls_in i ds)
-unfolding calls_in
-all_there i [] n l = tt
-all_there i (d ∷ ds) n l = all_of_both (λ (x : Called). x.db < n) (calls_of i d.records) (calls_in (i + 1) ds) (calls_there i d.records n (omega (arith, l))) (all_there (i + 1) ds n (omega (arith, l)))
-
-pub pending_there : (n : Node) → AllByRecursion (λ (x : Called). x.db < length n.dbs) (pending_calls n)
-unfolding pending_calls
-pending_there n = numbered_all (λ (x : Called). x.call) (λ (x : Called). x.db < length n.dbs) (calls_in 0 n.dbs) (all_there 0 n.dbs (length n.dbs) (omega arith))
 
 -- ---- Revokes
 

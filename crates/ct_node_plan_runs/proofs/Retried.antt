@@ -2,7 +2,7 @@
 use Rattle.std.proofs.Common.{◌≡◌, ◌∙◌, ℕ, zero, suc, Bool, true, false, cond, List, [], ◌∷◌, ◌++◌, Option, None, Some, refl, sym, ap}
 use Rattle.std.proofs.lemmas.Bool.{eq-eqb}
 use Rattle.std.specs.Prelude.{◌&&◌, nat_eq, slice_get}
-use Rattle.ct_node_state.specs.Noted.{is_worth}
+use Rattle.ct_node_database.specs.Noted.{is_worth}
 use Rattle.ct_frame.specs.declared.event.Out.{Out}
 use Rattle.ct_values.specs.declared.config.Config.{Config}
 use Rattle.ct_node_plan.specs.Changes.{IsPlanned, changed_by}
@@ -10,7 +10,8 @@ use Rattle.ct_node_plan.specs.declared.change.Change.TheVariants as change
 use Rattle.ct_node_plan.specs.Posts.{does_all}
 use Rattle.ct_node_plan.proofs.Sending.{does_both, does_nothing}
 use Rattle.ct_node_plan_runs.proofs.Leads.{lead_does}
-use Rattle.ct_node_plan_runs.proofs.Records.{all_revokes_do, calls_do, pending_there, updates_do}
+use Rattle.ct_node_plan_runs.proofs.Records.{all_revokes_do, calls_do, updates_do}
+use Rattle.ct_node_view.proofs.There.{pending_there}
 use Rattle.ct_node_plan_runs.specs.Again.{AllWorth, all_called, all_revoked, all_updated, records_again}
 use Rattle.ct_node_plan_runs.specs.Lead.{round_again}
 use Rattle.ct_law_rules_node.specs.NodeLaws.{NodeAscends}

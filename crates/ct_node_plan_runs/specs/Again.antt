@@ -1,7 +1,7 @@
 -- Retry: what is sent again of records and commits.
 use Rattle.std.specs.Prelude.{◌≡◌, ℕ, ◌+◌, ◌==◌, true, if◌then◌else◌, List, [], ◌∷◌, ◌++◌, Option, None, Some, map}
 use Rattle.std.specs.List.{AllByRecursion}
-use Rattle.ct_node_state.specs.Noted.{is_worth}
+use Rattle.ct_node_database.specs.Noted.{is_worth}
 use Rattle.ct_tracking.specs.Tracked.{Revocation}
 use Rattle.ct_frame.specs.declared.event.Out.{Out}
 use Rattle.ct_frame.specs.declared.frame.Msg.TheVariants as msg

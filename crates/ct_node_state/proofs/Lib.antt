@@ -1,5 +1,3 @@
-pub mod Noting
-pub mod Sweeping
 pub mod Ascending
 pub mod Differing
 pub mod Lists

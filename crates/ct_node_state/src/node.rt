@@ -1,14 +1,13 @@
 //! The state of a node.
 ghost use Rattle.std.specs.Prelude.{◌≡◌, ◌≢◌, ◌<◌, true, [], IfOk, OnOk, OnErr, length, slice_get, slice_set, option_copied};
 ghost use Rattle.std.specs.List.Sorted.{IsStrictlyIncreasing};
-ghost use Rattle.ct_node_state.specs.Noted.{is_deleted};
+ghost use Rattle.ct_node_database.specs.Noted.{is_deleted};
 ghost use Rattle.ct_persist.specs.Persisted.{updated};
 ghost use Rattle.ct_store.specs.Map.{look};
 ghost use Rattle.ct_rules_node.specs.Node.{db_at, opening, or_nothing, or_untouched, state_at, untouched_all, with_db};
 ghost use Rattle.ct_rules_node.specs.Records.{kept, place_of, put_back, view, with_state};
 ghost use Rattle.ct_node_state.specs.Whole.{left_as};
 
-use crate::database::{Committing, Database};
 use crate::kinds::{is_readonly, kind_at};
 use crate::members::Members;
 use crate::placing::assigned_all;
@@ -16,6 +15,7 @@ use ct_frame::frame::Assigned;
 use ct_lead::holder::Holder;
 use ct_lead::lead::Lead;
 use ct_lead::member::Member;
+use ct_node_database::database::{Committing, Database};
 use ct_record_parts::draft::Draft;
 use ct_rules::event::Place;
 use ct_rules::state::RecState;

@@ -3,13 +3,13 @@ ghost use Rattle.std.specs.Prelude.{◌≡◌, map};
 ghost use Rattle.ct_node_state.specs.Whole.{nowhere};
 ghost use Rattle.ct_rules_node.specs.Node.{restarted, restarted_db};
 
-use crate::database::Database;
 use crate::members::Members;
 use crate::node::Node;
 use ct_frame::frame::Assigned;
 use ct_lead::holder::Holder;
 use ct_lead::lead::Lead;
 use ct_lead::member::Member;
+use ct_node_database::database::Database;
 use ct_values::config::Config;
 use ct_values::items::Items;
 use std::alloc::Global;

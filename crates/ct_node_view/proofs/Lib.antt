@@ -2,3 +2,4 @@ pub mod Joined
 pub mod Names
 pub mod Tables
 pub mod Sorting
+pub mod There

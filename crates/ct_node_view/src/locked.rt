@@ -6,7 +6,7 @@ ghost use Rattle.ct_rules_node.specs.Clients.{is_committing, is_locked, is_name_
 ghost use Rattle.ct_rules_node.specs.Node.{db_at, kind_at, name_of, state_at};
 ghost use Rattle.ct_store.specs.Map.{has_room};
 
-use ct_node_state::database::Database;
+use ct_node_database::database::Database;
 use ct_node_state::kinds::name_of;
 use ct_node_state::node::Node;
 use ct_persist::store::PStore;

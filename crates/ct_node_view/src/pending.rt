@@ -3,7 +3,7 @@ ghost use Rattle.std.specs.Prelude.{◌≡◌, ◌++◌, ◌<◌, ◌^◌, Some,
 ghost use Rattle.ct_rules_cluster.specs.Cluster.{committing, pending_in, wished, wished_in};
 ghost use Rattle.ct_rules_node.specs.Numbered.{by_number};
 
-use ct_node_state::database::Database;
+use ct_node_database::database::Database;
 use ct_node_state::node::Node;
 use ct_rules::state::{RecState, Wish};
 use ct_rules_cluster::step::PendingCall;

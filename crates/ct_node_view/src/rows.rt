@@ -6,7 +6,7 @@ ghost use Rattle.ct_rules_node.specs.Rounds.{own_or_none, ptables_of, row_of, ro
 
 use ct_frame::frame::{PTable, TableRow};
 use ct_frame::header::RecCopy;
-use ct_node_state::database::Database;
+use ct_node_database::database::Database;
 use ct_node_state::kinds::{is_persistent, kind_at};
 use ct_node_state::node::Node;
 use ct_rules::state::RecState;

@@ -3,7 +3,7 @@ ghost use Rattle.std.specs.Prelude.{◌≡◌, ◌++◌, ◌<◌, ◌≤◌, ◌
 ghost use Rattle.ct_rules_node.specs.Numbered.{by_number};
 ghost use Rattle.ct_rules_node.specs.Rounds.{calls_in, calls_of, pending_calls};
 
-use ct_node_state::database::Database;
+use ct_node_database::database::Database;
 use ct_node_state::node::Node;
 use ct_rules::state::RecState;
 use ct_store::hashed::Store;

@@ -1,5 +1,5 @@
 use Rattle.std.proofs.Common.{subst, sym}
-use Rattle.ct_node_state.specs.Noted.{IsTidy}
+use Rattle.ct_node_database.specs.Noted.{IsTidy}
 use Rattle.ct_node_plan.specs.Changes.{IsPlanned}
 use Rattle.ct_node_plan.specs.declared.change.Planned.{Planned}
 use Rattle.ct_rules_node.specs.Node.{Database, db_at}

@@ -1,0 +1,2 @@
+//! The wish of one record: what each part of a step leaves of it.
+#![tactic(auto)]
