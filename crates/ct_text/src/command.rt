@@ -11,10 +11,10 @@ use crate::dumps::{push_copies, push_pairs, push_seq};
 use crate::lines::push_number_line;
 use crate::nodes::{push_ip, push_nodes, push_pnn, push_states, push_told};
 use ct_core::machine::Core;
+use ct_core::view::View;
 use ct_lines::line::ShowCommand;
 use ct_values::memory::NoMemory;
 use ct_values::name::DbName;
-use ct_world::view::View;
 use std::alloc::Global;
 use thiserror::Error;
 

@@ -1,13 +1,13 @@
 -- What a step that is not refused may count on.
-use Rattle.std.proofs.Common.{◌≡◌, ◌∙◌, ℕ, zero, suc, ◌+◌, ◌<◌, Bool, true, ◌&&◌, List, [], ◌∷◌, length, Option, Some, None, refl, sym, ap, subst, arith}
+use Rattle.std.proofs.Common.{◌≡◌, ◌∙◌, ℕ, ◌+◌, ◌<◌, Bool, true, ◌&&◌, List, ◌∷◌, length, Option, Some, None, refl, ap, subst, arith}
 use Rattle.std.proofs.lemmas.Bool.{and_parts, ltb-true}
 use Rattle.std.specs.Prelude.{◌^◌, nat_lt}
 use Rattle.ct_values.specs.declared.client.ClientOp.{ClientOp}
 use Rattle.ct_values.specs.declared.config.Config.{Config}
 use Rattle.ct_frame.specs.declared.event.Event.TheVariants as event
 use Rattle.ct_frame.specs.declared.frame.Frame.{Frame}
-use Rattle.ct_rules_cluster.specs.Cluster.{Cluster, Sent, able_from, is_delivered, is_waiting, node_at, sent_at}
-use Rattle.ct_rules_cluster.specs.Faults.{fault_of, no_such_node, no_such_nodes, not_delivered, not_waiting}
+use Rattle.ct_rules_cluster.specs.Cluster.{Sent, able_from, is_delivered, is_waiting, node_at, sent_at}
+use Rattle.ct_rules_cluster.specs.Faults.{fault_of, no_such_node, not_delivered, not_waiting}
 use Rattle.ct_rules_cluster.specs.Steps.{is_counted}
 use Rattle.ct_rules_cluster.specs.declared.step.Step.TheVariants as step
 use Rattle.ct_rules_cluster.specs.declared.step.StepFault.{StepFault}

@@ -1,13 +1,13 @@
 -- An event that is given to a node of the parts is given to that of the cluster.
 use Rattle.std.proofs.Common.{◌≡◌, ◌≢◌, ◌∙◌, ℕ, zero, suc, ◌+◌, ◌<◌, ◌≤◌, Bool, true, false, cond, ◌&&◌, List, [], ◌∷◌, ◌++◌, length, Option, Some, None, Ok, Err, ⊎_elim, refl, sym, ap, subst, arith}
-use Rattle.std.specs.Prelude.{◌^◌, map, nat_lt, slice_get, slice_set, Result}
+use Rattle.std.specs.Prelude.{◌^◌, map, nat_lt, slice_get, slice_set}
 use Rattle.std.proofs.lemmas.Bool.{lt-ltb, ltb-true, cases_eq}
 use Rattle.std.proofs.lemmas.List.{length-append}
 use Rattle.ct_values.specs.declared.config.Config.{Config}
 use Rattle.ct_frame.specs.declared.event.Event.{Event}
 use Rattle.ct_frame.specs.declared.frame.Frame.{Frame}
 use Rattle.ct_call.specs.Rules.{Rules}
-use Rattle.ct_rules_cluster.specs.Cluster.{Cluster, Sent, node_at, or_absent}
+use Rattle.ct_rules_cluster.specs.Cluster.{Sent, node_at, or_absent}
 use Rattle.ct_rules_cluster.specs.Steps.{Stepped, fed, fed_of, frames_of, if_counted, is_counted, lines_of, put, with_node}
 use Rattle.ct_rules_cluster.specs.declared.step.Line.{Line}
 use Rattle.ct_rules_cluster.specs.declared.step.StepFault.{StepFault}

@@ -1,17 +1,21 @@
 -- What the parts are given is what the rules of the cluster give.
-use Rattle.std.proofs.Common.{◌≡◌, ◌∙◌, ℕ, zero, suc, ◌+◌, ◌<◌, ◌≤◌, Bool, true, false, List, [], ◌∷◌, ◌++◌, length, get_or, append-nil, Option, Some, None, Result, Ok, Err, Fits, w64, refl, sym, ap, subst, append_assoc, arith}
+use Rattle.std.proofs.Common.{◌≡◌, ◌∙◌, ℕ, zero, suc, ◌+◌, ◌<◌, ◌≤◌, Bool, true, List, [], ◌∷◌, ◌++◌, length, get_or, append-nil, Option, Some, None, Result, Ok, Err, Fits, w64, refl, sym, ap, subst, append_assoc, arith}
 use Rattle.std.specs.Prelude.{◌^◌, IsErrAnd, MatchOption, drop, slice_get}
 use Rattle.ct_values.specs.declared.config.Config.{Config}
 use Rattle.ct_frame.specs.declared.event.Event.{Event}
 use Rattle.ct_frame.specs.declared.frame.Frame.{Frame}
 use Rattle.ct_call.specs.Rules.{Rules}
-use Rattle.ct_rules_cluster.specs.Cluster.{Cluster, Sent, is_delivered, is_true, is_up, is_waiting, pending_from, pending_in}
+use Rattle.ct_rules_cluster.specs.Cluster.{Cluster, Sent, is_delivered, is_true, is_up, is_waiting, pending_from}
 use Rattle.ct_rules_cluster.specs.Steps.{Stepped, fed}
 use Rattle.ct_rules_cluster.specs.declared.step.Line.{Line}
 use Rattle.ct_rules_cluster.specs.declared.step.PendingCall.{PendingCall}
+use Rattle.ct_rules_cluster.specs.declared.step.Step.{Step}
 use Rattle.ct_rules_cluster.specs.declared.step.StepFault.{StepFault}
+use Rattle.ct_rules_cluster.specs.declared.step.StepFault.TheVariants as fault
 use Rattle.ct_core.specs.Core.{Core}
+use Rattle.ct_world.specs.Feeding.{Takes}
 use Rattle.ct_world.specs.World.{Applies, World, states_of}
+use Rattle.ct_world.specs.declared.parts.Parts.{Parts}
 
 -- the same event, and the same lines
 pub fed_as : {X : Type 0} (lines : X → List Line) (r : Result X StepFault) (c : Config) (rules : Rules) (n : ℕ) (e f : Event) (own other : List Line) (w : Cluster) (v u : World) → own ≡ other → e ≡ f → Applies lines r (fed c rules n e own w) v u → Applies lines r (fed c rules n f other w) v u
@@ -77,3 +81,12 @@ calls_done xs i calls all l e = sym (append-nil calls) ∙ ap (λ (ys : List Cor
 pub handed_on : {T : Type 0} (lines : T → List Line) (r : Result T StepFault) (f : StepFault) (rule : Result Stepped StepFault) (v u : World) → IsErrAnd r (λ e. e ≡ f) → Applies lines (Err f) rule v u → Applies lines r rule v u
 handed_on lines (Ok x) f rule v u h a = absurd h
 handed_on lines (Err e) f rule v u h a = subst (λ (g : StepFault). Applies lines (Err g) rule v u) (sym h) a
+
+-- want of memory that is handed on
+pub no_memory : {T : Type 0} (lines : T → List Line) (r : Result T StepFault) (rule : Result Stepped StepFault) (v : World) → IsErrAnd r (λ e. e ≡ fault.NoMemory) → Applies lines r rule v v
+no_memory lines (Ok x) rule v h = absurd h
+no_memory lines (Err e) rule v h = subst (λ (g : StepFault). Applies lines (Err g) rule v v) (sym h) refl
+
+-- the same step
+pub taken_as : {T : Type 0} (lines : T → List Line) (r : Result T StepFault) (rules : Rules) (s t : Step) (old new : Parts) → s ≡ t → Takes lines r rules s old new → Takes lines r rules t old new
+taken_as lines r rules s t old new e h = subst (λ (x : Step). Takes lines r rules x old new) e h

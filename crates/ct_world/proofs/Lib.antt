@@ -9,3 +9,4 @@ pub mod Opened
 mod Pending
 mod Given
 mod Seated
+mod Telling

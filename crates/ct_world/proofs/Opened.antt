@@ -14,7 +14,7 @@ use Rattle.ct_core.specs.Core.{Core}
 use Rattle.ct_core.proofs.Everyone.{numbers_more}
 use Rattle.ct_law_form.specs.Whole.{HasLimits}
 use Rattle.ct_law_form.proofs.Whole.{configs_have_limits}
-use Rattle.ct_promise.specs.Promises.{IsConfig}
+use Rattle.ct_rules_config.specs.Configured.{IsConfig}
 use Rattle.ct_rules_node.specs.Node.{opening}
 use Rattle.ct_world.specs.World.{AreSeated, WorldInForm, opened, states_of}
 

@@ -1,9 +1,9 @@
 -- The client calls that wait, node by node, and what a stop leaves.
-use Rattle.std.proofs.Common.{◌≡◌, ◌∙◌, ℕ, zero, suc, ◌+◌, ◌<◌, Bool, true, false, List, [], ◌∷◌, ◌++◌, length, Option, Some, None, Ok, Err, refl, sym, ap, subst, arith}
-use Rattle.std.specs.Prelude.{drop, map, slice_get, slice_set}
+use Rattle.std.proofs.Common.{◌≡◌, ◌∙◌, ℕ, zero, suc, ◌+◌, Bool, false, List, [], ◌∷◌, ◌++◌, Option, Some, Ok, sym, ap, subst, arith}
+use Rattle.std.specs.Prelude.{drop, slice_get, slice_set}
 use Rattle.ct_values.specs.declared.config.Config.{Config}
-use Rattle.ct_rules_cluster.specs.Cluster.{Cluster, node_at, or_absent, pending_at, pending_from, pending_in}
-use Rattle.ct_rules_cluster.specs.Steps.{Stepped, done, gone, stop, with_node, without_holder}
+use Rattle.ct_rules_cluster.specs.Cluster.{node_at, or_absent, pending_at, pending_from, pending_in}
+use Rattle.ct_rules_cluster.specs.Steps.{done, gone, stop, with_node, without_holder}
 use Rattle.ct_rules_cluster.specs.declared.step.Line.{Line}
 use Rattle.ct_rules_cluster.specs.declared.step.Line.TheVariants as line
 use Rattle.ct_rules_cluster.specs.declared.step.PendingCall.{PendingCall}

@@ -1,5 +1,5 @@
 -- A step of the cluster that is not refused: what its parts are asked, and what a node that takes an event does to them.
-use Rattle.std.specs.Prelude.{◌≡◌, ℕ, ◌^◌, ◌+◌, ◌<◌, ◌≤◌, nat_lt, true, Bool, ◌&&◌, List, ◌++◌, length, map, slice_get, Option, None, Some, Result, Ok, Err}
+use Rattle.std.specs.Prelude.{◌≡◌, ℕ, ◌^◌, ◌+◌, ◌<◌, ◌≤◌, nat_lt, true, Bool, ◌&&◌, List, [], ◌∷◌, ◌++◌, length, map, slice_get, Option, None, Some, Result, Ok, Err}
 use Rattle.ct_call.specs.Rules.{Rules}
 use Rattle.ct_rules_cluster.specs.Cluster.{Cluster}
 use Rattle.ct_rules_cluster.specs.Faults.{fault_of, is_allowed}
@@ -11,6 +11,7 @@ use Rattle.ct_rules_cluster.specs.declared.step.StepFault.TheVariants.{Exhausted
 use Rattle.ct_core.specs.Core.{Core, IsPlanOf, turn_of}
 use Rattle.ct_frame.specs.declared.event.Event.{Event}
 use Rattle.ct_frame.specs.declared.event.Out.{Out}
+use Rattle.ct_frame.specs.declared.frame.Frame.{Frame}
 use Rattle.ct_mail.specs.Mail.{posted}
 use Rattle.ct_node_plan.specs.declared.change.Planned.{Planned}
 use Rattle.ct_rules_node.specs.Steps.{stepped}
@@ -37,6 +38,14 @@ booked b w = record w { holder = b.holder; ticket = b.ticket; calls = b.calls }
 -- Numbers: so many messages, and these books, stay below 2^62
 abbrev pub is_counted_with : ℕ → Books → Bool
 is_counted_with n b = nat_lt n (2 ^ 62) && nat_lt b.ticket (2 ^ 62) && nat_lt b.calls (2 ^ 62)
+
+-- What one thing that a node does becomes, by cases on the answer: its line is added and its message, and the number of the next
+-- message is answered, which is at most 2^62; or its own would be 2^62, or memory was wanting
+abbrev pub TellsOne : Result ℕ StepFault → ℕ → ℕ → Out → List Line → List Line → List Frame → List Frame → Type 0
+TellsOne (Ok next) node number out lines more frames sent =
+    (more ≡ lines ++ lines_of node number (out ∷ [])) × (map posted sent ≡ map posted frames ++ frames_of (out ∷ [])) × (next ≡ number + length (frames_of (out ∷ []))) × (next ≤ 2 ^ 62)
+TellsOne (Err NoMemory) node number out lines more frames sent = Unit {0}
+TellsOne (Err f) node number out lines more frames sent = (f ≡ Exhausted) × (2 ^ 62 < number + length (frames_of (out ∷ [])))
 
 -- What a node's step becomes, by cases on the answer: its lines and its messages, whose numbers stay below 2^62; or one would
 -- reach it, or memory was wanting

@@ -3,21 +3,14 @@ ghost use Rattle.std.specs.Prelude.{◌≡◌, ◌∷◌, nat_lt, [], MatchOptio
 ghost use Rattle.ct_rules_cluster.specs.Cluster.{absent, is_delivered, is_true, is_up, is_waiting, node_at, sent_at};
 ghost use Rattle.ct_rules_cluster.specs.Faults as rule;
 ghost use Rattle.ct_rules_cluster.specs.declared.step.Step.TheVariants as step;
-ghost use Rattle.ct_rules_node.specs.Node.{is_among, is_serving};
+ghost use Rattle.ct_rules_node.specs.Node.{is_serving};
 ghost use Rattle.ct_rules_node.specs.Refusals.{first_of};
 
 use crate::world::World;
 use ct_core::machine::Core;
+use ct_lead::runs::is_among;
 use ct_node_state::kinds::{is_persistent, kind_at};
 use ct_rules_cluster::step::{Step, StepFault};
-
-/// Is the node in the list?
-#[tactic(auto, unfolding(ct_rules_node::specs::Node::is_among))]
-fn is_among(node: u32, nodes: &[u32]) -> bool
-    ensures { result ≡ is_among node nodes.now }
-{
-    nodes.iter().any(|n| node == *n)
-}
 
 /// Is the node's mark there and set?
 #[tactic(auto, unfolding(ct_rules_cluster::specs::Cluster::is_true))]

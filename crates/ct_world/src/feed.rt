@@ -19,7 +19,7 @@ use ct_frame::event::Event;
 use ct_frame::frame::Frame;
 use ct_frame::header::LIMIT;
 use ct_node_plan::change::{Change, Planned};
-use ct_node_plan::turn::CoreFault;
+use ct_node_turn::turn::CoreFault;
 use ct_rules_cluster::step::{Line, StepFault};
 use ct_values::items::Items;
 use ct_values::memory::NoMemory;
@@ -69,7 +69,10 @@ impl Parts {
         ensures err { OnErr result (self.new ≡ self.old) }
     {
         let count = self.mail.len();
-        self.mail.post(self.alloc, frames)?;
+        if let Err(NoMemory) = self.mail.post(self.alloc, frames) {
+            drop(change);
+            return Err(NoMemory);
+        }
         if let Err(NoMemory) = commit_at(&mut self.cores, node, change) {
             self.mail.truncate(count);
             return Err(NoMemory);
@@ -96,7 +99,14 @@ impl Parts {
     {
         let first = self.mail.len() as u64 + 1;
         let Planned { change, outs } = planned;
-        let Told { lines, frames } = told(self.alloc, node, first, own, outs)?;
+        let told = match told(self.alloc, node, first, own, outs) {
+            Ok(told) => told,
+            Err(fault) => {
+                drop(change);
+                return Err(fault);
+            }
+        };
+        let Told { lines, frames } = told;
         self.settle(node, change, frames)?;
         self.books = books;
         Ok(lines)
@@ -120,6 +130,7 @@ impl Parts {
     {
         let planned = plan_at(self.cores.as_slice(), table, node, event)?;
         if !are_counted(books) {
+            drop(planned);
             return Err(StepFault::Exhausted);
         }
         self.carry_out(node, planned, own, books)

@@ -4,7 +4,7 @@ ghost use Rattle.ct_rules_cluster.specs.Cluster.{able_from};
 ghost use Rattle.ct_rules_cluster.specs.Steps.{frames_of, gone, lines_of};
 ghost use Rattle.ct_rules_cluster.specs.declared.step.Line.TheVariants as line;
 ghost use Rattle.ct_mail.specs.Mail.{posted};
-ghost use Rattle.ct_world.specs.Feeding.{TellsAll};
+ghost use Rattle.ct_world.specs.Feeding.{TellsAll, TellsOne};
 
 use crate::parts::Told;
 use ct_frame::event::Out;
@@ -35,8 +35,8 @@ fn post(frames: &mut Items<Frame>, frame: &Frame) -> Result<(), NoMemory>
 pub(crate) fn one(alloc: Global, line: Line) -> Result<Vec<Line>, NoMemory>
     ensures { IfOk result (λ lines. lines.items ≡ line ∷ []) }
 {
-    let mut lines = Vec::with_capacity(alloc, 1)?;
-    lines.push(line)?;
+    let mut lines = Vec::new(alloc);
+    add(&mut lines, line)?;
     Ok(lines)
 }
 
@@ -51,7 +51,9 @@ pub(crate) fn stopped(
 {
     let mut lines = one(alloc, Line::Stopped(node))?;
     for pending in calls {
-        lines.push(Line::Gone(pending.call))?;
+        let call = pending.call;
+        drop(pending);
+        add(&mut lines, Line::Gone(call))?;
     }
     Ok(lines)
 }
@@ -71,8 +73,43 @@ pub(crate) fn able_nodes(alloc: Global, marks: &[bool], nodes: u32) -> Result<It
     Ok(able)
 }
 
-/// All that a node does, told. Its first message gets this number; none gets 2^62.
+/// One thing that a node does, told. A message gets this number, and none gets 2^62. The answer is the number of the next message.
 #[tactic(auto, unfolding(ct_rules_cluster::specs::Steps::frames_of, ct_rules_cluster::specs::Steps::lines_of))]
+fn tell(
+    lines: &mut Vec<Line>,
+    frames: &mut Items<Frame>,
+    node: u32,
+    number: u64,
+    out: Out,
+) -> Result<u64, StepFault>
+    requires { number ≤ 2 ^ 62 }
+    ensures { TellsOne result node number out lines.old.items lines.new.items frames.old frames.new }
+{
+    match out {
+        Out::Send(frame) => {
+            if LIMIT <= number {
+                drop(frame);
+                return Err(StepFault::Exhausted);
+            }
+            let Ok(()) = post(frames, &frame) else {
+                drop(frame);
+                return Err(StepFault::NoMemory);
+            };
+            add(lines, Line::Sent { number, frame })?;
+            Ok(number + 1)
+        }
+        Out::Answer { call, answer } => {
+            add(lines, Line::Answered { call, answer })?;
+            Ok(number)
+        }
+        Out::Note(note) => {
+            add(lines, Line::Noted { node, note })?;
+            Ok(number)
+        }
+    }
+}
+
+/// All that a node does, told. Its first message gets this number; none gets 2^62.
 pub(crate) fn told(
     alloc: Global,
     node: u32,
@@ -87,18 +124,7 @@ pub(crate) fn told(
     let mut frames = Items::empty(alloc);
     let mut number = first;
     for out in outs.into_vec() {
-        match out {
-            Out::Send(frame) => {
-                if LIMIT <= number {
-                    return Err(StepFault::Exhausted);
-                }
-                post(&mut frames, &frame)?;
-                add(&mut lines, Line::Sent { number, frame })?;
-                number += 1;
-            }
-            Out::Answer { call, answer } => add(&mut lines, Line::Answered { call, answer })?,
-            Out::Note(note) => add(&mut lines, Line::Noted { node, note })?,
-        }
+        number = tell(&mut lines, &mut frames, node, number, out)?;
     }
     Ok(Told { lines, frames })
 }

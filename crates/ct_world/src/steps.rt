@@ -85,7 +85,10 @@ impl Parts {
         let call = books.calls;
         let op = op.copy()?;
         let own = Vec::new(self.alloc);
-        self.feed(table, node, &Event::Client { call, op }, own, books)
+        let event = Event::Client { call, op };
+        let answer = self.feed(table, node, &event, own, books);
+        drop(event);
+        answer
     }
 
     /// A message arrives at its receiver.
@@ -99,7 +102,10 @@ impl Parts {
         let receiver = frame.receiver;
         let own = Vec::new(self.alloc);
         let books = self.books;
-        self.feed(table, receiver, &Event::Arrive(frame), own, books)
+        let event = Event::Arrive(frame);
+        let answer = self.feed(table, receiver, &event, own, books);
+        drop(event);
+        answer
     }
 
     /// A message that waits comes to its receiver, which runs.
@@ -145,7 +151,9 @@ impl Parts {
         if is_marked(self.running.as_slice(), frame.receiver) {
             return self.hand_over(table, number, frame);
         }
-        self.lose(number, frame.receiver)
+        let receiver = frame.receiver;
+        drop(frame);
+        self.lose(number, receiver)
     }
 
     /// A message that waits is lost.
@@ -170,6 +178,7 @@ impl Parts {
         if is_marked(self.running.as_slice(), frame.receiver) {
             return self.arrive(table, frame);
         }
+        drop(frame);
         Ok(one(self.alloc, Line::Lost(number))?)
     }
 
@@ -181,7 +190,10 @@ impl Parts {
     {
         let own = Vec::new(self.alloc);
         let books = self.books;
-        self.feed(table, node, &Event::Retry, own, books)
+        let event = Event::Retry;
+        let answer = self.feed(table, node, &event, own, books);
+        drop(event);
+        answer
     }
 
     /// A node vacuums a database.
@@ -192,7 +204,10 @@ impl Parts {
     {
         let own = Vec::new(self.alloc);
         let books = self.books;
-        self.feed(table, node, &Event::Vacuum { db }, own, books)
+        let event = Event::Vacuum { db };
+        let answer = self.feed(table, node, &event, own, books);
+        drop(event);
+        answer
     }
 
     /// A node takes the recovery lock, with the next ticket, and begins a round.
@@ -212,17 +227,13 @@ impl Parts {
         let ticket = books.ticket;
         let members = members.duplicate()?;
         let own = one(self.alloc, Line::Ticket { ticket, node })?;
-        self.feed(
-            table,
-            node,
-            &Event::BeginRound { ticket, members },
-            own,
-            books,
-        )
+        let event = Event::BeginRound { ticket, members };
+        let answer = self.feed(table, node, &event, own, books);
+        drop(event);
+        answer
     }
 
     /// A node gives the recovery lock back.
-    #[tactic(auto, unfolding(ct_rules_cluster::specs::Steps::steps, ct_rules_cluster::specs::Steps::done))]
     fn give_back(&mut self, node: u32) -> Result<Vec<Line>, StepFault>
         requires { MayTake (step.Yield node) self.old }
         ensures step { (rules : Rules) → Takes (λ lines. lines.items) result rules (step.Yield node) self.old self.new }
@@ -248,7 +259,6 @@ impl Parts {
     }
 
     /// A node runs again.
-    #[tactic(auto, using(crate::proofs::Asked::start_node), unfolding(ct_rules_cluster::specs::Steps::steps, ct_rules_cluster::specs::Steps::done))]
     fn start(&mut self, node: u32) -> Result<Vec<Line>, StepFault>
         requires { MayTake (step.Start node) self.old }
         ensures step { (rules : Rules) → Takes (λ lines. lines.items) result rules (step.Start node) self.old self.new }
@@ -268,11 +278,13 @@ impl Parts {
         let able = able_nodes(self.alloc, self.able.as_slice(), self.config.nodes)?;
         let own = Vec::new(self.alloc);
         let books = self.books;
-        self.feed(table, node, &Event::BeginTakeover { able }, own, books)
+        let event = Event::BeginTakeover { able };
+        let answer = self.feed(table, node, &event, own, books);
+        drop(event);
+        answer
     }
 
     /// A node is marked as able to hold addresses, or as not able.
-    #[tactic(auto, using(crate::proofs::Asked::able_node), unfolding(ct_rules_cluster::specs::Steps::steps, ct_rules_cluster::specs::Steps::done))]
     fn set_able(&mut self, node: u32, able: bool) -> Result<Vec<Line>, StepFault>
         requires { MayTake (step.Able node able) self.old }
         ensures step { (rules : Rules) → Takes (λ lines. lines.items) result rules (step.Able node able) self.old self.new }

@@ -5,15 +5,7 @@ ghost use Rattle.ct_law_form.specs.Whole.{HasLimits};
 ghost use Rattle.ct_world.specs.View.{core_at};
 
 use crate::world::World;
-use ct_core::machine::Core;
-
-/// A node, and of every node whether it runs and whether it is able to hold addresses.
-#[derive(Clone, Copy)]
-pub struct View<'a> {
-    pub core: &'a Core,
-    pub running: &'a [bool],
-    pub able: &'a [bool],
-}
+use ct_core::view::View;
 
 impl World {
     /// What a command at a node may read: there is nothing exactly where the node is down or not there. It takes no memory.

@@ -7,7 +7,7 @@ ghost use Rattle.ct_rules_cluster.specs.Faults.{is_allowed};
 ghost use Rattle.ct_rules_cluster.specs.Steps.{applied};
 ghost use Rattle.ct_mail.specs.Mail.{next_waiting};
 ghost use Rattle.ct_law_form.specs.Whole.{HasLimits};
-ghost use Rattle.ct_promise.specs.Promises.{IsConfig};
+ghost use Rattle.ct_rules_config.specs.Configured.{IsConfig};
 ghost use Rattle.ct_rules_node.specs.Numbered.{by_number};
 ghost use Rattle.ct_world.specs.World.{Applies, AreNumbered, opened, states_of};
 

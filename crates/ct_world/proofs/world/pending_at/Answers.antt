@@ -1,4 +1,4 @@
-use Rattle.std.proofs.Common.{◌≡◌, ◌∙◌, ◌+◌, ◌++◌, List, [], ap, append-nil, sym, arith, refl}
+use Rattle.std.proofs.Common.{◌∙◌, ◌+◌, List, ap, arith}
 use Rattle.std.specs.Prelude.{drop}
 use Rattle.ct_rules_cluster.specs.Cluster.{pending_from, pending_in}
 use Rattle.ct_rules_cluster.specs.declared.step.PendingCall.{PendingCall}

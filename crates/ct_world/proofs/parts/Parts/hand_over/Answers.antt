@@ -1,14 +1,12 @@
-use Rattle.std.proofs.Common.{◌≡◌, ◌∙◌, [], ap, refl, subst, sym}
+use Rattle.std.proofs.Common.{◌∙◌, [], ap, sym}
 use Rattle.std.specs.Prelude.{Vec}
 use Rattle.std.specs.declared.alloc.Global.{Global}
 use Rattle.ct_call.specs.Shown.{rules_of}
-use Rattle.ct_rules_cluster.specs.Steps.{fed, steps}
+use Rattle.ct_rules_cluster.specs.Steps.{steps}
 use Rattle.ct_rules_cluster.specs.declared.step.Line.{Line}
-use Rattle.ct_rules_cluster.specs.declared.step.Line.TheVariants as line
-use Rattle.ct_frame.specs.declared.event.Event.{Event}
 use Rattle.ct_frame.specs.declared.event.Event.TheVariants as event
-use Rattle.ct_world.specs.World.{Applies, cluster_of, world_of}
-use Rattle.ct_rules_cluster.specs.Cluster.{is_waiting, sent_at}
+use Rattle.ct_world.specs.World.{cluster_of}
+use Rattle.ct_rules_cluster.specs.Cluster.{is_waiting}
 use Rattle.ct_world.proofs.Asked.{deliver_waits, message_comes, message_node}
 use Rattle.ct_world.proofs.Messages.{delivered, fed_keeps, undelivered}
 use Rattle.ct_world.proofs.Numbers.{numbered_so}

@@ -1,17 +1,14 @@
-use Rattle.std.proofs.Common.{◌≡◌, ◌∙◌, ◌∷◌, [], List, ℕ, Ok, ap, refl, subst, sym, false}
+use Rattle.std.proofs.Common.{◌≡◌, ◌∙◌, List, ℕ, Ok, ap, refl, subst, sym, false}
 use Rattle.std.specs.Prelude.{Vec}
 use Rattle.std.specs.declared.alloc.Global.{Global}
-use Rattle.ct_call.specs.Shown.{rules_of}
-use Rattle.ct_rules_cluster.specs.Steps.{fed, steps}
+use Rattle.ct_rules_cluster.specs.Steps.{steps}
 use Rattle.ct_rules_cluster.specs.declared.step.Line.{Line}
-use Rattle.ct_rules_cluster.specs.declared.step.Line.TheVariants as line
-use Rattle.ct_frame.specs.declared.event.Event.{Event}
-use Rattle.ct_frame.specs.declared.event.Event.TheVariants as event
-use Rattle.ct_world.specs.World.{Applies, cluster_of, world_of}
-use Rattle.ct_rules_cluster.specs.Cluster.{is_up, is_waiting, sent_at}
+use Rattle.ct_world.specs.World.{cluster_of}
+use Rattle.ct_rules_cluster.specs.Cluster.{is_up, is_waiting}
 use Rattle.ct_world.proofs.Asked.{deliver_waits}
 use Rattle.ct_world.proofs.Messages.{lost}
 use Rattle.ct_world.proofs.Numbers.{numbered_so}
+use Rattle.ct_world.proofs.Given.{no_memory}
 use Rattle.ct_world.proofs.parts.Parts.lose.Goals as goal
 
 pub drop-requires : goal.drop-requires
@@ -26,3 +23,6 @@ returns-clause-step c = λ rules.
     let there = numbered_so c.args.number (cluster_of c.args.self.now) ∙ c.requires.at.1 in
     let is = lost rules c.args.number s s.frame c.args.self.now c.requires.at.1 refl down new (ap (λ m. record c.args.self.now { mail = m }) (c.drop.ensures s there)) in
     (is.0 ∙ ap (λ (ls : List Line). Ok (record { cluster = cluster_of new; lines = ls })) (sym c.in_ok-lines.ensures), is.1)
+
+pub returns-in_err-lines-clause-step : goal.returns-in_err-lines-clause-step
+returns-in_err-lines-clause-step c = λ rules. no_memory (λ (v : Vec Line Global). v.items) c.from_residual.result _ _ c.from_residual.ensures.1

@@ -1,6 +1,4 @@
-use Rattle.std.proofs.Common.{◌≡◌, ◌∙◌, sym, subst, Option, Some, None}
-use Rattle.ct_rules_cluster.specs.Cluster.{Sent, sent_at}
-use Rattle.ct_frame.specs.declared.frame.Frame.{Frame}
+use Rattle.std.proofs.Common.{◌∙◌, sym}
 use Rattle.ct_world.specs.World.{cluster_of}
 use Rattle.ct_world.proofs.Numbers.{numbered_so}
 use Rattle.ct_world.proofs.parts.Parts.message.Goals as goal

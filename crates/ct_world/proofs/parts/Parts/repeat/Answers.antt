@@ -1,17 +1,15 @@
-use Rattle.std.proofs.Common.{◌≡◌, ◌∙◌, ◌∷◌, [], List, Ok, ap, refl, subst, sym}
+use Rattle.std.proofs.Common.{◌∙◌, [], List, Ok, ap, refl, sym}
 use Rattle.std.specs.Prelude.{Vec}
 use Rattle.std.specs.declared.alloc.Global.{Global}
 use Rattle.ct_call.specs.Shown.{rules_of}
 use Rattle.ct_rules_cluster.specs.Steps.{fed, steps}
 use Rattle.ct_rules_cluster.specs.declared.step.Line.{Line}
-use Rattle.ct_rules_cluster.specs.declared.step.Line.TheVariants as line
-use Rattle.ct_frame.specs.declared.event.Event.{Event}
 use Rattle.ct_frame.specs.declared.event.Event.TheVariants as event
-use Rattle.ct_world.specs.World.{Applies, cluster_of, world_of}
-use Rattle.ct_rules_cluster.specs.Cluster.{is_delivered, sent_at}
+use Rattle.ct_world.specs.World.{cluster_of, world_of}
+use Rattle.ct_rules_cluster.specs.Cluster.{sent_at}
 use Rattle.ct_rules_cluster.specs.Steps.{repeat}
 use Rattle.ct_world.proofs.Asked.{message_comes, message_node, repeat_delivered}
-use Rattle.ct_world.proofs.Given.{at_frame, no_frame, none_delivered, rule_as, up_as}
+use Rattle.ct_world.proofs.Given.{at_frame, no_frame, no_memory, none_delivered, rule_as, up_as}
 use Rattle.ct_world.proofs.Messages.{again, again_lost}
 use Rattle.ct_world.proofs.parts.Parts.repeat.Goals as goal
 
@@ -46,3 +44,9 @@ returns-clause-step g c =
     let s = at_frame c.in_ok-frame.field-0 c.in-Some.frame (sent_at c.args.number w) c.in_ok-frame.ensures c.in-Some.is in
     let down = up_as c.as_slice.result.now c.args.self.now.running c.in-Some.frame.receiver _ w c.as_slice.ensures refl c.if-is_marked.ensures in
     (again_lost (rules_of c.args.table.now) c.args.number s.0 c.in-Some.frame c.args.self.now s.1 s.2 down ∙ ap (λ (ls : List Line). Ok (record { cluster = w; lines = ls })) (sym c.in_ok-one.ensures), refl)
+
+pub returns-in_err-frame-clause-step : goal.returns-in_err-frame-clause-step
+returns-in_err-frame-clause-step g c = no_memory (λ (v : Vec Line Global). v.items) c.from_residual.result _ _ c.from_residual.ensures.1
+
+pub returns-in_err-one-clause-step : goal.returns-in_err-one-clause-step
+returns-in_err-one-clause-step g c = no_memory (λ (v : Vec Line Global). v.items) c.from_residual-in_err-one.result _ _ c.from_residual-in_err-one.ensures.1

@@ -1,10 +1,13 @@
-use Rattle.std.proofs.Common.{◌≡◌, ◌∙◌, ◌<◌, List, length, arith, ap, refl, subst, sym, Some}
-use Rattle.std.specs.Prelude.{slice_get}
+use Rattle.std.proofs.Common.{◌≡◌, ◌<◌, List, length, arith, refl, subst, sym, Some}
+use Rattle.std.specs.Prelude.{slice_get, Vec}
 use Rattle.ct_rules_cluster.specs.Steps.{steps}
 use Rattle.ct_core.specs.Core.{Core}
+use Rattle.std.specs.declared.alloc.Global.{Global}
+use Rattle.ct_rules_cluster.specs.declared.step.Line.{Line}
 use Rattle.ct_world.proofs.Asked.{stop_node}
 use Rattle.ct_world.proofs.Fed.{has_item, is_there}
 use Rattle.ct_world.proofs.Pending.{stopped}
+use Rattle.ct_world.proofs.Given.{no_memory}
 use Rattle.ct_world.proofs.parts.Parts.stop.Goals as goal
 
 pub pending_at-requires : goal.pending_at-requires
@@ -32,3 +35,9 @@ returns-clause-seats c =
     let calls = c.in_ok-calls.ensures i.0 (subst (λ (xs : List Core). slice_get xs c.args.node ≡ Some i.0) (sym c.as_slice.ensures) i.1) in
     let is = stopped c.args.self.now c.args.node i.0 i.1 c.requires.form.seats c.in_ok-calls.calls.items c.in_ok-lines.lines.items c.restart_at.new.cores c.mark.new.marks c.without_holder-self.result calls c.in_ok-lines.ensures (c.restart_at.ensures i.0 i.1) c.mark.ensures c.without_holder-self.ensures in
     is.1
+
+pub returns-in_err-calls-clause-step : goal.returns-in_err-calls-clause-step
+returns-in_err-calls-clause-step c = λ rules. no_memory (λ (v : Vec Line Global). v.items) c.from_residual.result _ _ c.from_residual.ensures.1
+
+pub returns-in_err-lines-clause-step : goal.returns-in_err-lines-clause-step
+returns-in_err-lines-clause-step c = λ rules. no_memory (λ (v : Vec Line Global). v.items) c.from_residual-in_err-lines.result _ _ c.from_residual-in_err-lines.ensures.1
