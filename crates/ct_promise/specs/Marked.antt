@@ -1,5 +1,5 @@
 -- What is promised of RSNs: each stands for one place among the versions of its record.
-use Rattle.std.specs.Prelude.{◌≡◌, ℕ, nat_eq, Bool, true, false, ◌&&◌, bytes_eq, List, [], ◌∷◌, Some}
+use Rattle.std.specs.Prelude.{◌≡◌, ◌⊎◌, ℕ, ◌+◌, ◌≤◌, nat_eq, Bool, true, false, ◌&&◌, bytes_eq, List, [], ◌∷◌, None, Some}
 use Rattle.std.specs.List.{list_any}
 use Rattle.ct_values.specs.declared.config.Config.{Config}
 use Rattle.ct_frame.specs.declared.event.Note.{Note}
@@ -7,8 +7,8 @@ use Rattle.ct_frame.specs.declared.event.Note.TheVariants as note
 use Rattle.ct_frame.specs.declared.header.RecCopy.{RecCopy}
 use Rattle.ct_call.specs.Rules.{Rules}
 use Rattle.ct_rules.specs.declared.state.Entry.{Entry}
-use Rattle.ct_rules_node.specs.Node.{is_present_in, state_at}
-use Rattle.ct_rules_cluster.specs.Cluster.{Cluster, node_at, opening}
+use Rattle.ct_rules_node.specs.Node.{is_among, master_of, is_present_in, state_at}
+use Rattle.ct_rules_cluster.specs.Cluster.{Cluster, is_up, node_at, opening}
 use Rattle.ct_rules_cluster.specs.Labels.{Label, Noted}
 use Rattle.ct_rules_cluster.specs.Traces.{OpenCall, ran_one}
 use Rattle.ct_rules_cluster.specs.declared.step.Step.{Step}
@@ -16,7 +16,7 @@ use Rattle.ct_register.specs.Lines
 use Rattle.ct_register.specs.Lines.{Lines}
 use Rattle.ct_register.specs.Legal.{AcceptsLabels}
 use Rattle.ct_register.specs.Stands.{HasCopy, StandsFor}
-use Rattle.ct_register.specs.Marks.{Marks, AreMarks, IsCopyAt, IsEntryAt, MarksStep}
+use Rattle.ct_register.specs.Marks.{Site, Marks, AreMarks, IsCopyAt, IsEntryAt, MarksStep}
 use Rattle.ct_promise.specs.Promises.{IsConfig, CallsStand}
 
 -- the marks of one line, by database and key
@@ -29,7 +29,7 @@ AllMarks = ℕ → LineMarks
 
 -- nothing is marked
 abbrev pub no_marks : LineMarks
-no_marks db key = record { marks = []; low = 0 }
+no_marks db key = record { marks = []; low = 0; site = None }
 
 -- the node has this entry for a record
 abbrev pub HasEntry : Cluster → ℕ → ℕ → List ℕ → Entry → Type 0
@@ -45,6 +45,20 @@ pub record MarksHoldIn (g : ℕ) (w : Cluster) (r : Lines) (marks : LineMarks) :
   -- and an entry there a value from the place before its least RSN to the place of that
   pub entries : (n db : ℕ) (key : List ℕ) (e : Entry) → is_present_in g (node_at n w) ≡ true → HasEntry w n db key e →
       IsEntryAt (marks db key).marks (r.records g db key).versions e.least e.value
+  -- that entry says where the record is
+  pub sites : (n db : ℕ) (key : List ℕ) (e : Entry) → is_present_in g (node_at n w) ≡ true → HasEntry w n db key e →
+      (marks db key).site ≡ Some (record { holder = e.holder; least = e.least })
+  -- it stands at the record's location master alone; where that is present and has none there are no marks
+  pub alone : (n db : ℕ) (key : List ℕ) (e : Entry) → is_present_in g (node_at n w) ≡ true → HasEntry w n db key e → n ≡ master_of (r.members g) key
+  pub empty : (n db : ℕ) (key : List ℕ) → is_present_in g (node_at n w) ≡ true → n ≡ master_of (r.members g) key → (state_at db key (node_at n w)).entry ≡ None →
+      (marks db key).marks ≡ []
+  -- where the record is at a node that is present, all marks are below its least RSN, or the node has the copy of the greatest RSN
+  pub found : (db : ℕ) (key : List ℕ) (x : Site) → (marks db key).site ≡ Some x → is_present_in g (node_at x.holder w) ≡ true →
+      ((marks db key).low ≤ x.least) ⊎ ((c : RecCopy) × HasCopy w x.holder db key c × (c.header.rsn + 1 ≡ (marks db key).low))
+  -- and where it is at no member, all marks are below
+  pub away : (db : ℕ) (key : List ℕ) (x : Site) → r.born g ≡ true → (marks db key).site ≡ Some x → is_among x.holder (r.members g) ≡ false → (marks db key).low ≤ x.least
+  -- who runs and is present in a line knows its members; the line was born
+  pub named : (n : ℕ) → is_up n w ≡ true → is_present_in g (node_at n w) ≡ true → (r.born g ≡ true) × ((node_at n w).members ≡ r.members g)
 
 -- the marks of all lines do
 abbrev pub MarksHold : Cluster → Lines → AllMarks → Type 0

@@ -1,22 +1,16 @@
 -- What is promised of every run of the cluster.
-use Rattle.std.specs.Prelude.{◌≡◌, ℕ, nat_eq, true, List, [], Some, Ok}
+use Rattle.std.specs.Prelude.{◌≡◌, ℕ, nat_eq, true, List, [], Some}
 use Rattle.std.specs.List.{AllByRecursion, list_any}
-use Rattle.ct_values.specs.declared.address.Address.{Address}
-use Rattle.ct_values.specs.Config.{Configures}
 use Rattle.ct_values.specs.declared.client.ClientOp.{ClientOp}
 use Rattle.ct_values.specs.declared.config.Config.{Config}
-use Rattle.ct_values.specs.declared.config.DbDecl.{DbDecl}
 use Rattle.ct_call.specs.Rules.{Rules}
+pub use Rattle.ct_rules_config.specs.Configured.{IsConfig}
 use Rattle.ct_rules_cluster.specs.Cluster.{Cluster, opening, pending}
 use Rattle.ct_rules_cluster.specs.Traces.{OpenCall, asked_in, Ran, ran}
 use Rattle.ct_rules_cluster.specs.declared.step.Step.{Step}
 use Rattle.ct_register.specs.Lines.{Lines}
 use Rattle.ct_register.specs.Legal.{Legal}
 use Rattle.ct_register.specs.Stands.{StandsFor}
-
--- some databases and addresses make this configuration
-abbrev pub IsConfig : Config → Type 0
-IsConfig c = (dbs : List DbDecl) × (addresses : List Address) × Configures (Ok c) c.nodes dbs addresses
 
 -- the calls that wait are exactly the open ones, each at its node and with what its client asked
 pub record CallsStand (w : Cluster) (log : List OpenCall) : Type 0 where

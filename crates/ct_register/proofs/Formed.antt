@@ -87,8 +87,8 @@ ticket_formed g n members r next f = record {
 
 -- ---- births
 
-fresh : (seq : ℕ) (base : Pairs (List ℕ)) → IsCounted (Database.newborn seq base)
-fresh seq base = record { acked = nought 0; open_one = nought 1; seen = λ n. nought 0 }
+fresh : (seq : ℕ) (base : Pairs (List ℕ)) (from : ℕ → Option ℕ) → IsCounted (Database.newborn seq base from)
+fresh seq base from = record { acked = nought 0; open_one = nought 1; seen = λ n. nought 0 }
 
 born_formed : (g h p : ℕ) (counts : ℕ → List ℕ → ℕ) (q : ℕ) (kept : ℕ → ℕ) (r : Lines) → r.leader g ≡ Some h → IsFormed r → IsFormed (Births.born_of g p counts q kept r)
 born_formed g h p counts q kept r given f = record {
@@ -103,7 +103,7 @@ born_formed g h p counts q kept r given f = record {
     phas = f.order.phas;
     newer = f.order.newer;
   };
-  databases = at_all (λ (databases : ℕ → Database). (db : ℕ) → IsCounted (databases db)) g (λ db. Births.base_of (kept db) (r.databases q db)) r.databases (λ db. fresh _ _) f.databases;
+  databases = at_all (λ (databases : ℕ → Database). (db : ℕ) → IsCounted (databases db)) g (λ db. Births.base_of q (kept db) (r.databases q db)) r.databases (λ db. fresh _ _ _) f.databases;
 }
 
 -- ---- installations
@@ -235,9 +235,9 @@ at_placing_formed n Step r s p f = subst IsFormed (sym p.3) (placing_formed (r.l
 answer_formed : (config : Config) (rules : Rules) (n : ℕ) (asked : ClientOp) (given : Answer) (r s : Lines) → Legal.AcceptsAnswer config rules n asked given r s → IsFormed r → IsFormed s
 answer_formed config rules n asked (answer.Refused (why.TooLong m)) r s p f =
     at_record_formed config n (db_of asked) (key_of asked) (Register.Accepts rules n asked (answer.Refused (why.TooLong m))) r s (record_answered rules n asked (answer.Refused (why.TooLong m))) p f
-answer_formed config rules n asked (answer.Refused w) r s p f = subst IsFormed (sym p) f
+answer_formed config rules n asked (answer.Refused w) r s p f = subst IsFormed (sym p.1) f
 answer_formed config rules n (op.Commit db writes) given r s p f =
-    at_database_formed config n db (Database.AcceptsCommit (r.members (r.line n)) n writes given) r s (commit_counted (r.members (r.line n)) n writes given) p f
+    at_database_formed config n db (Database.AcceptsCommit (r.members (r.line n)) n writes given) r s (commit_counted (r.members (r.line n)) n writes given) p.2 f
 answer_formed config rules n (op.Read db key) (answer.Read v) r s p f = ⊎_elim
     (λ (q : AtRecord config n db key (Register.Accepts rules n (op.Read db key) (answer.Read v)) r s). at_record_formed config n db key (Register.Accepts rules n (op.Read db key) (answer.Read v)) r s (record_answered rules n (op.Read db key) (answer.Read v)) q f)
     (λ (q : AtDatabase config n db (Database.AcceptsRead n key v) r s). at_database_formed config n db (Database.AcceptsRead n key v) r s (read_counted n key v) q f) p
@@ -286,7 +286,7 @@ opening_formed config = record {
     phas = λ g n m e. absurd (none_not_some e);
     newer = λ g n e. absurd (true_not_false (sym e));
   };
-  databases = λ g db. fresh 0 [];
+  databases = λ g db. fresh 0 [] (λ _. None);
 }
 
 pub legal_is_formed : LegalIsFormed

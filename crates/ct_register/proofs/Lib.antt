@@ -2,4 +2,6 @@ pub mod Small
 pub mod Places
 pub mod Ways
 pub mod Formed
+pub mod Fronts
+pub mod Descent
 pub mod Opened

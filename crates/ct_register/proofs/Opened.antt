@@ -81,7 +81,7 @@ pub opened_below : (c : Config) (n : ℕ) → nat_lt n c.nodes ≡ true → clus
 unfolding cluster.node_at cluster.opening
 opened_below c n lt = one_below (node.opening c (cluster.everyone c)) c.nodes n lt
 
-opened_up : (c : Config) (n : ℕ) → cluster.is_up n (cluster.opening c) ≡ true → nat_lt n c.nodes ≡ true
+pub opened_up : (c : Config) (n : ℕ) → cluster.is_up n (cluster.opening c) ≡ true → nat_lt n c.nodes ≡ true
 unfolding cluster.is_up cluster.opening
 opened_up c n up = up_below c.nodes n up
 
@@ -105,12 +105,17 @@ opening_records_stand c = record {
   readers = λ n db key copy has is. absurd (no_copy c n db key copy has);
 }
 
+no_commit : (c : Config) (n db : ℕ) → is_some (node.db_at db (cluster.node_at n (cluster.opening c))).commit ≡ true → ⊥
+unfolding node.untouched
+no_commit c n db has = false_not_true (subst (λ (d : node.Database). is_some d.commit ≡ true) (opened_db c n db) has)
+
 pub opening_stands : OpeningStands
 unfolding Updates.contents node.untouched
 opening_stands c = record {
   records = opening_records_stand c;
   generations = λ n up. in_line_one c n (opened_up c n up);
   bases = λ n lt. of_base_one c n lt;
+  commits = λ n db. ((λ waits. absurd (no_commit c n db waits)), λ begun. absurd (none_not_some begun.2));
   holds = λ n a up. ((λ has. absurd (no_address c n a has)), λ held. absurd (false_not_true held));
   assigned = λ n a up has. absurd (no_address c n a has);
   databases = λ n db there kind. (0, (let e = opened_db c n db in record { number = ap (λ (d : node.Database). d.store.seq) e; pairs = ap (λ (d : node.Database). d.store.pairs) e; acked = nought 0; seen = nought 0; within = nought 0 }));

@@ -42,8 +42,8 @@ register_after n (op.Apply db key function arg) (answer.Applied v) x = Register.
 register_after n asked given x = x
 
 abbrev pub database_after : List ℕ → Answer → Database → Database
-database_after members (answer.Committed number) d = record d { acked = length d.commits; seen = Database.all_seen (length d.commits) members [] d.seen }
-database_after members (answer.Unsure number missing) d = record d { seen = Database.all_seen (length d.commits) members missing d.seen }
+database_after members (answer.Committed number) d = record d { committer = None; acked = length d.commits; seen = Database.all_seen (length d.commits) members [] d.seen }
+database_after members (answer.Unsure number missing) d = record d { committer = None; seen = Database.all_seen (length d.commits) members missing d.seen }
 database_after members given d = d
 
 abbrev pub begun_after : ℕ → List Pair → Database → Database
@@ -155,9 +155,9 @@ answer_one : (config : Config) (rules : Rules) (n : ℕ) (asked : ClientOp) (giv
 answer_one config rules n asked (answer.Refused (why.TooLong m)) r s c p =
     record_one config n (db_of asked) (key_of asked) (Register.Accepts rules n asked (answer.Refused (why.TooLong m))) (register_after n asked (answer.Refused (why.TooLong m))) r s
     (register_one rules n asked (answer.Refused (why.TooLong m))) p
-answer_one config rules n asked (answer.Refused w) r s c p = p
+answer_one config rules n asked (answer.Refused w) r s c p = p.1
 answer_one config rules n (op.Commit db writes) given r s c p =
-    database_one config n db (Database.AcceptsCommit (r.members (r.line n)) n writes given) (database_after (r.members (r.line n)) given) r s (commit_one (r.members (r.line n)) n writes given) p
+    database_one config n db (Database.AcceptsCommit (r.members (r.line n)) n writes given) (database_after (r.members (r.line n)) given) r s (commit_one (r.members (r.line n)) n writes given) p.2
 answer_one config rules n (op.Read db key) (answer.Read v) r s c p = read_one config rules n db key v r s c p
 answer_one config rules n asked given r s c p =
     record_one config n (db_of asked) (key_of asked) (Register.Accepts rules n asked given) (register_after n asked given) r s (register_one rules n asked given) p

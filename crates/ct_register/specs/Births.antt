@@ -45,14 +45,14 @@ pub record PersistentBirth (r : Lines) (g : ℕ) (ms : List ℕ) (q : ℕ) (coun
   pub acked : (db : ℕ) → (r.databases q db).acked ≤ counts db
   pub seen : (db m : ℕ) → is_among m ms ≡ true → r.pline m ≡ q → (r.databases q db).seen m ≤ counts db
 
--- a database begins with what it takes over: the first j commits
-abbrev pub base_of : ℕ → Database → Database
-base_of j d = Database.newborn (d.seq + j) (contents_after j d)
+-- a database begins with what it takes over of line q: the first j commits, and with these what line q took over
+abbrev pub base_of : ℕ → ℕ → Database → Database
+base_of q j d = Database.newborn (d.seq + j) (contents_after j d) (at q (Some (d.seq + j)) d.from)
 
 -- line g is born of its parents
 abbrev pub born_of : ℕ → ℕ → (ℕ → List ℕ → ℕ) → ℕ → (ℕ → ℕ) → Lines → Lines
 born_of g p counts q kept r = record r {
   born = at g true r.born;
   records = at g (λ db key. Register.newborn (birth_list r p counts db key)) r.records;
-  databases = at g (λ db. base_of (kept db) (r.databases q db)) r.databases;
+  databases = at g (λ db. base_of q (kept db) (r.databases q db)) r.databases;
 }

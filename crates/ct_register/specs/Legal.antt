@@ -1,12 +1,13 @@
 -- Which labels the registers accept, one after the other. Only what a birth takes over, and how many commits a read has
 -- seen, is left open.
-use Rattle.std.specs.Prelude.{◌≡◌, ◌≢◌, ◌⊎◌, ℕ, ◌+◌, ◌<◌, true, false, List, [], ◌∷◌, Option, None, Some}
+use Rattle.std.specs.Prelude.{◌≡◌, ◌≢◌, ◌⊎◌, ℕ, ◌+◌, ◌<◌, ◌≤◌, true, false, List, [], ◌∷◌, Option, None, Some}
 use Rattle.ct_values.specs.declared.address.Address.{Address}
 use Rattle.ct_values.specs.Client.{db_of, key_of}
 use Rattle.ct_values.specs.declared.client.Answer.{Answer}
 use Rattle.ct_values.specs.declared.client.Answer.TheVariants as answer
 use Rattle.ct_values.specs.declared.client.ClientOp.{ClientOp}
 use Rattle.ct_values.specs.declared.client.ClientOp.TheVariants as op
+use Rattle.ct_values.specs.declared.client.Why.{Why}
 use Rattle.ct_values.specs.declared.client.Why.TheVariants as why
 use Rattle.ct_values.specs.declared.config.Config.{Config}
 use Rattle.ct_values.specs.declared.config.DbKind.TheVariants.{Persistent}
@@ -49,13 +50,35 @@ lock_owner config g db r = (r.records g 0 (name_of config db)).owner
 
 -- ---- answers
 
--- A client's request at node n is answered so. A refusal changes nothing, and only that of a value that is too long needs
--- anything. A commit is of a persistent database, a read of either kind, and all others are of records.
+-- Every member of line g has the commit of this number: it has installed line g, and where it has gone on to a line that took over from
+-- line g, step by step, that has the commit. For no line that took over from line g lacks it, whether a node has installed it or not.
+abbrev pub AllHave : ℕ → ℕ → ℕ → Lines → Type 0
+AllHave g db number r = ((m : ℕ) → is_among m (r.members g) ≡ true → g ≤ r.pline m) × ((l k : ℕ) → (r.databases l db).from g ≡ Some k → number ≤ k)
+
+-- A commit is told as acknowledged only where all members have it.
+abbrev pub IfAllHave : ℕ → ℕ → Answer → Lines → Type 0
+IfAllHave g db (answer.Committed number) r = AllHave g db number r
+IfAllHave g db given r = Unit {0}
+
+-- A commit of the database waits at node n: it began there, in the line that the node is in, and is not answered.
+abbrev pub CommitWaits : Config → ℕ → ℕ → Lines → Type 0
+CommitWaits config n db r = (r.line n ≢ 0) × (kind_at config db ≡ Some Persistent) × ((r.databases (r.line n) db).committer ≡ Some n)
+
+-- While a commit of a database waits at a node, no commit of that database is refused there but for this: so a commit that began is never
+-- refused because of what befell its node.
+abbrev pub MayRefuse : Config → ℕ → ClientOp → Why → Lines → Type 0
+MayRefuse config n (op.Commit db writes) w r = CommitWaits config n db r → w ≡ why.CommitPending
+MayRefuse config n asked w r = Unit {0}
+
+-- A client's request at node n is answered so. A refusal changes nothing, and needs something only where it is that of a value that is too
+-- long, or of a commit while one waits. A commit is of a persistent database and is answered at the owner of its lock, a read is of either
+-- kind, and all others are of records.
 abbrev pub AcceptsAnswer : Config → Rules → ℕ → ClientOp → Answer → Lines → Lines → Type 0
 AcceptsAnswer config rules n asked (answer.Refused (why.TooLong m)) r s =
     AtRecord config n (db_of asked) (key_of asked) (Register.Accepts rules n asked (answer.Refused (why.TooLong m))) r s
-AcceptsAnswer config rules n asked (answer.Refused w) r s = s ≡ r
-AcceptsAnswer config rules n (op.Commit db writes) given r s = AtDatabase config n db (AcceptsCommit (r.members (r.line n)) n writes given) r s
+AcceptsAnswer config rules n asked (answer.Refused w) r s = MayRefuse config n asked w r × (s ≡ r)
+AcceptsAnswer config rules n (op.Commit db writes) given r s =
+    (lock_owner config (r.line n) db r ≡ Some n) × IfAllHave (r.line n) db given r × AtDatabase config n db (AcceptsCommit (r.members (r.line n)) n writes given) r s
 AcceptsAnswer config rules n (op.Read db key) (answer.Read v) r s =
     AtRecord config n db key (Register.Accepts rules n (op.Read db key) (answer.Read v)) r s ⊎ AtDatabase config n db (Database.AcceptsRead n key v) r s
 AcceptsAnswer config rules n asked given r s = AtRecord config n (db_of asked) (key_of asked) (Register.Accepts rules n asked given) r s

@@ -8,5 +8,6 @@ pub mod Legal
 pub mod Marks
 pub mod Laws
 pub mod Formed
+pub mod Descent
 pub mod Stands
 pub mod Handed

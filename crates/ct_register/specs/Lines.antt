@@ -106,7 +106,7 @@ with_address n a is_held r = record r { held = at n (at_address a is_held (r.hel
 abbrev pub opening : Config → Lines
 opening config = record {
   records = λ g db key. Register.newborn [];
-  databases = λ g db. Database.newborn 0 [];
+  databases = λ g db. Database.newborn 0 [] (λ _. None);
   placing = λ g. nothing_placed;
   born = λ g. nat_eq g 1;
   last = 1;

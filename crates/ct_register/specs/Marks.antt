@@ -1,5 +1,5 @@
 -- RSN marks: for each RSN that a record had in its line, how many of its versions that RSN stands for.
-use Rattle.std.specs.Prelude.{◌≡◌, ℕ, ◌+◌, ◌<◌, ◌≤◌, nat_eq, nat_lt, Bool, true, false, if◌then◌else◌, List, [], ◌∷◌, length, take, Option, None, Some}
+use Rattle.std.specs.Prelude.{◌≡◌, ◌⊎◌, ℕ, ◌+◌, ◌<◌, ◌≤◌, nat_eq, nat_lt, Bool, true, false, if◌then◌else◌, List, [], ◌∷◌, length, take, Option, None, Some}
 use Rattle.ct_register.specs.Register.{reading}
 
 -- an RSN, and the place that it stands for: a number of first versions
@@ -73,20 +73,42 @@ unfoldable pub AreBelow : ℕ → List Mark → Type 0
 AreBelow high [] = Unit {0}
 AreBelow high (m ∷ ms) = (m.rsn < high) × AreBelow high ms
 
+-- where a record is: at the node that its location master's entry names, or on the way to it, with that entry's least RSN
+pub record Site : Type 0 where
+  pub holder : ℕ
+  pub least : ℕ
+
 -- the marks of one record in one line
 pub record Marks : Type 0 where
   pub marks : List Mark
   -- above the RSN of every mark that there is and that there was
   pub low : ℕ
+  pub site : Option Site
+
+-- some mark has this RSN or a lower one
+unfoldable pub BeginBy : ℕ → List Mark → Type 0
+BeginBy high [] = ⊥
+BeginBy high (m ∷ ms) = (m.rsn ≤ high) ⊎ BeginBy high ms
+
+-- a record is nowhere exactly where it has no marks; else some mark is at or below the least RSN of where it is
+unfoldable pub IsSiteOf : List Mark → Option Site → Type 0
+IsSiteOf ms None = ms ≡ []
+IsSiteOf ms (Some s) = BeginBy s.least ms
 
 -- what holds of them beside these versions
 pub record AreMarks (versions : List (List ℕ)) (m : Marks) : Type 0 where
   pub rise : Rises m.marks
   pub ends : EndsAt (length versions) m.marks
   pub below : AreBelow m.low m.marks
+  pub sited : IsSiteOf m.marks m.site
 
--- a step that removes the record leaves no mark; any other adds marks above all that there ever were, or raises the place
--- of the last one. What is above all marks stays so.
+-- a record that is somewhere stays there, or comes to where the least RSN is above all marks that there ever were
+unfoldable pub SiteStep : (low : ℕ) → Option Site → Option Site → Type 0
+SiteStep low None after = Unit {0}
+SiteStep low (Some s) after = (after ≡ Some s) ⊎ ((t : Site) × (after ≡ Some t) × (low ≤ t.least))
+
+-- a step that removes the record leaves no mark, and the record nowhere; any other adds marks above all that there ever
+-- were, or raises the place of the last one, and the record stays or moves on. What is above all marks stays so.
 abbrev pub MarksStep : (is_vacuumed : Bool) → Marks → Marks → Type 0
-MarksStep true m n = (n.marks ≡ []) × (m.low ≤ n.low)
-MarksStep false m n = GoOn m.low m.marks n.marks × (m.low ≤ n.low)
+MarksStep true m n = (n.marks ≡ []) × (m.low ≤ n.low) × (n.site ≡ None)
+MarksStep false m n = GoOn m.low m.marks n.marks × (m.low ≤ n.low) × SiteStep m.low m.site n.site

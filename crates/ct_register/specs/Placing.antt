@@ -1,5 +1,5 @@
 -- Where the addresses of one generation are placed: by its push, and then by its takeover runs.
-use Rattle.std.specs.Prelude.{◌≡◌, ℕ, ◌+◌, nat_eq, Bool, true, false, ◌&&◌, List, filter, Option, None, Some, is_some}
+use Rattle.std.specs.Prelude.{◌≡◌, ℕ, ◌+◌, Bool, true, ◌&&◌, List, filter, Option, None, Some, is_some}
 use Rattle.std.specs.List.{list_any}
 use Rattle.ct_values.specs.Words.{is_this_node}
 use Rattle.ct_values.specs.Address.{same_address}

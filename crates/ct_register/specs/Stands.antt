@@ -17,6 +17,7 @@ use Rattle.ct_frame.specs.declared.frame.Assigned.{Assigned}
 use Rattle.ct_register.specs.Placing.{given_placement}
 use Rattle.ct_register.specs.Lines
 use Rattle.ct_register.specs.Lines.{Lines}
+use Rattle.ct_register.specs.Legal.{CommitWaits}
 
 -- a node has the number and the pairs of a database after its first j commits: all that are acknowledged, and all that the
 -- node has seen
@@ -61,6 +62,8 @@ pub record StandsFor (config : Config) (w : Cluster) (r : Lines) : Type 0 where
   -- each node, running or not, has each persistent database as it was after some of its line's commits
   pub databases : (n db : ℕ) → nat_lt n config.nodes ≡ true → kind_at config db ≡ Some Persistent →
       (j : ℕ) × IsAfter j n (r.databases (r.pline n) db) (db_at db (node_at n w)).store
+  -- a commit of a database waits at a node exactly where one began there, in its line, that is not answered
+  pub commits : (n db : ℕ) → (is_some (db_at db (node_at n w)).commit ≡ true) ↔ CommitWaits config n db r
   -- a running node holds exactly the addresses that it took, without those that it released since
   pub holds : (n : ℕ) (a : Address) → is_up n w ≡ true → HoldsAddress w n a ↔ (r.held n a ≡ true)
   -- it holds an address only where the last take of its line assigns it, or the push before any take

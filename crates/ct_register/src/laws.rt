@@ -1,4 +1,5 @@
 //! What follows of the registers alone.
+ghost use Rattle.ct_register.specs.Descent.{AcknowledgedIsTakenOver};
 ghost use Rattle.ct_register.specs.Laws.{GoOnInOneWay};
 ghost use Rattle.ct_register.specs.Formed.{LegalIsFormed};
 ghost use Rattle.ct_register.specs.Stands.{OpeningRecordsStand, OpeningStands};
@@ -14,6 +15,13 @@ pub fn go_on_in_one_way()
 #[tactic(auto, using(crate::proofs::Formed::legal_is_formed))]
 pub fn legal_is_formed()
     ensures { LegalIsFormed }
+{}
+
+/// After every legal trace a line that took over from another, step by step, has all that was acknowledged there, whether it was born
+/// before that or after it.
+#[tactic(auto, using(crate::proofs::Descent::acknowledged_taken))]
+pub fn acknowledged_is_taken_over()
+    ensures { AcknowledgedIsTakenOver }
 {}
 
 /// At the opening the cluster stands for the registers of records.

@@ -49,17 +49,17 @@ ended_seen : Everywhere SeenNone (Words.at 0 (Words.at_key (112 ∷ []) (Registe
 ended_seen = everywhere_at SeenNone 0 (112 ∷ []) (Register.released locked) locked_line locked_seen locked_line_seen
 
 begun_line : ℕ → Database
-begun_line = Words.at 2 (begun_after 0 one_write (Database.newborn 0 [])) (λ _. Database.newborn 0 [])
+begun_line = Words.at 2 (begun_after 0 one_write (Database.newborn 0 [] (λ _. None))) (λ _. Database.newborn 0 [] (λ _. None))
 
 unsure : Database
-unsure = database_after both (answer.Unsure 1 (1 ∷ [])) (begun_after 0 one_write (Database.newborn 0 []))
+unsure = database_after both (answer.Unsure 1 (1 ∷ [])) (begun_after 0 one_write (Database.newborn 0 [] (λ _. None)))
 
-begun_seen : (m : ℕ) → (begun_after 0 one_write (Database.newborn 0 [])).seen m ≤ 1
+begun_seen : (m : ℕ) → (begun_after 0 one_write (Database.newborn 0 [] (λ _. None))).seen m ≤ 1
 begun_seen = at_all (λ (c : ℕ). c ≤ 1) 0 1 (λ _. 0) (same 1) (λ _. nought 1)
 
 unsure_within : (db : ℕ) → Within (Words.at 2 unsure begun_line db)
 unfolding unsure begun_line
-unsure_within = at_all Within 2 unsure begun_line (nought 1, all_seen_counted 1 both (1 ∷ []) _ begun_seen) (at_all Within 2 (begun_after 0 one_write (Database.newborn 0 [])) (λ _. Database.newborn 0 []) (nought 1, begun_seen) (λ _. (nought 0, λ m. nought 0)))
+unsure_within = at_all Within 2 unsure begun_line (nought 1, all_seen_counted 1 both (1 ∷ []) _ begun_seen) (at_all Within 2 (begun_after 0 one_write (Database.newborn 0 [] (λ _. None))) (λ _. Database.newborn 0 [] (λ _. None)) (nought 1, begun_seen) (λ _. (nought 0, λ m. nought 0)))
 
 -- ---- a round that keeps it
 
@@ -100,7 +100,7 @@ kept_unowned = unowned_at 2 (λ db key. kept_born.records 2 db key) ended_record
 pub unsure_may_be_kept : UnsureMayBeKept
 unfolding kept_born kept_front all_commits Words.at Words.at_key is_among Database.newest Database.all_seen Lines.also_had Register.reading kind_at kind_in name_in name_of has_records Updates.contents Persisted.written
 unsure_may_be_kept =
-    (_, (_, (one_not_zero, refl, _, (refl, refl, refl), refl), (_, (one_not_zero, refl, _, (refl, refl, refl), refl), (_, (one_not_zero, refl, _, (record { begun = refl; newest = refl; unacknowledged = below_next 0; numbered = refl }, (λ e. cc), refl), refl), (_, (one_not_zero, refl, _, (refl, refl), refl), (_, (refl, tt, refl), (kept_born, ((λ _ _. 0), all_commits kept_front, kept_births, kept_persistent, refl), (Lines.joined 2 1 kept_born, (refl, refl, below_next 1, unowned_by 1 kept_born.records kept_unowned, refl), refl))))))), ((refl, refl, refl, refl), refl, refl))
+    (_, (_, (one_not_zero, refl, _, (refl, refl, refl), refl), (_, (one_not_zero, refl, _, (refl, refl, refl), refl), (_, (refl, tt, (one_not_zero, refl, _, (record { begun = refl; newest = refl; unacknowledged = below_next 0; numbered = refl }, ((λ e. cc), refl, refl), refl), refl)), (_, (one_not_zero, refl, _, (refl, refl), refl), (_, (refl, tt, refl), (kept_born, ((λ _ _. 0), all_commits kept_front, kept_births, kept_persistent, refl), (Lines.joined 2 1 kept_born, (refl, refl, below_next 1, unowned_by 1 kept_born.records kept_unowned, refl), refl))))))), ((refl, refl, refl, refl), refl, refl))
 
 -- ---- a round that loses it
 
@@ -116,11 +116,11 @@ lost_births = births lost_front 1 (1 ∷ []) (λ _ _. 0) 1 refl refl refl refl r
 
 lost_seen : (db : ℕ) → (Words.at 2 unsure begun_line db).seen 1 ≤ 0
 unfolding unsure begun_line Words.at Database.all_seen is_among
-lost_seen = at_all (λ (d : Database). d.seen 1 ≤ 0) 2 unsure begun_line (nought 0) (at_all (λ (d : Database). d.seen 1 ≤ 0) 2 (begun_after 0 one_write (Database.newborn 0 [])) (λ _. Database.newborn 0 []) (nought 0) (λ _. nought 0))
+lost_seen = at_all (λ (d : Database). d.seen 1 ≤ 0) 2 unsure begun_line (nought 0) (at_all (λ (d : Database). d.seen 1 ≤ 0) 2 (begun_after 0 one_write (Database.newborn 0 [] (λ _. None))) (λ _. Database.newborn 0 [] (λ _. None)) (nought 0) (λ _. nought 0))
 
 lost_persistent : Births.PersistentBirth lost_front 2 (1 ∷ []) 1 (λ _. 0)
 unfolding lost_front unsure begun_line Words.at is_among
-lost_persistent = persistent_births lost_front (1 ∷ []) (λ _. 0) 1 refl refl (λ db. nought _) (at_all (λ (d : Database). d.acked ≤ 0) 2 unsure begun_line (nought 0) (at_all (λ (d : Database). d.acked ≤ 0) 2 (begun_after 0 one_write (Database.newborn 0 [])) (λ _. Database.newborn 0 []) (nought 0) (λ _. nought 0)))
+lost_persistent = persistent_births lost_front (1 ∷ []) (λ _. 0) 1 refl refl (λ db. nought _) (at_all (λ (d : Database). d.acked ≤ 0) 2 unsure begun_line (nought 0) (at_all (λ (d : Database). d.acked ≤ 0) 2 (begun_after 0 one_write (Database.newborn 0 [] (λ _. None))) (λ _. Database.newborn 0 [] (λ _. None)) (nought 0) (λ _. nought 0)))
     (λ db k among. of_one (λ k. (lost_front.databases 1 db).seen k ≤ 0) 1 (lost_seen db) k among)
 
 lost_born : Lines
@@ -137,4 +137,4 @@ lost_unowned = unowned_at 2 (λ db key. lost_born.records 2 db key) _ (λ db key
 pub unsure_may_be_lost : UnsureMayBeLost
 unfolding lost_born lost_front Words.at Words.at_key is_among Database.newest Database.all_seen Lines.also_had Register.reading kind_at kind_in name_in name_of has_records Updates.contents Persisted.written Register.owner_without
 unsure_may_be_lost =
-    (_, (_, (one_not_zero, refl, _, (refl, refl, refl), refl), (_, (one_not_zero, refl, _, (refl, refl, refl), refl), (_, (one_not_zero, refl, _, (record { begun = refl; newest = refl; unacknowledged = below_next 0; numbered = refl }, (λ e. cc), refl), refl), (_, (one_not_zero, refl, _, (refl, refl), refl), (_, refl, (_, (refl, tt, refl), (lost_born, ((λ _ _. 0), (λ _. 0), lost_births, lost_persistent, refl), (Lines.joined 2 1 lost_born, (refl, refl, below_next 1, unowned_by 1 lost_born.records lost_unowned, refl), refl)))))))), ((refl, refl, refl, refl), refl, refl))
+    (_, (_, (one_not_zero, refl, _, (refl, refl, refl), refl), (_, (one_not_zero, refl, _, (refl, refl, refl), refl), (_, (refl, tt, (one_not_zero, refl, _, (record { begun = refl; newest = refl; unacknowledged = below_next 0; numbered = refl }, ((λ e. cc), refl, refl), refl), refl)), (_, (one_not_zero, refl, _, (refl, refl), refl), (_, refl, (_, (refl, tt, refl), (lost_born, ((λ _ _. 0), (λ _. 0), lost_births, lost_persistent, refl), (Lines.joined 2 1 lost_born, (refl, refl, below_next 1, unowned_by 1 lost_born.records lost_unowned, refl), refl)))))))), ((refl, refl, refl, refl), refl, refl))

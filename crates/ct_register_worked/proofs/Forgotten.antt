@@ -1,5 +1,5 @@
 -- The runs that are refused: runs through a round.
-use Rattle.std.proofs.Common.{◌≡◌, ℕ, zero, suc, ◌∙◌, ap, true, false, ◌≤◌, List, [], ◌∷◌, length, refl, sym, arith, ⊎_elim, subst}
+use Rattle.std.proofs.Common.{◌≡◌, ℕ, zero, suc, ◌∙◌, ap, true, false, ◌+◌, ◌≤◌, List, [], ◌∷◌, length, refl, sym, arith, ⊎_elim, subst}
 use Rattle.std.specs.Prelude.{nat_eq, nat_lt, if◌then◌else◌, ◌++◌, take, Some}
 use Rattle.std.proofs.lemmas.Bool.{cond_both}
 use Rattle.ct_values.specs.Words.{or_empty}
@@ -20,7 +20,7 @@ use Rattle.ct_register.specs.Lines.{Lines}
 use Rattle.ct_register.specs.Births
 use Rattle.ct_register.specs.Legal
 use Rattle.ct_register_worked.specs.Runs.{config, functions, a, x, both, one_write, locks, reads, writes, locks_database, begins, commits, reads_database, round, installs, thaws}
-use Rattle.ct_register_worked.specs.Refused.{RoundForgets, RoundForgetsCommit, RoundOfAnother, RoundOfOtherMembers, RoundFromNowhere, RoundFromNothing, SecondRound, InstalledTwice, InstalledUnderLock, ThawedTooEarly, PersistentParentTooOld, InstalledByAnother, InstalledUnborn, OldReadAfterCommit, OldReadOfOwn, OldReadAfterRead}
+use Rattle.ct_register_worked.specs.Refused.{RoundForgets, RoundForgetsCommit, RoundOfAnother, RoundOfOtherMembers, RoundFromNowhere, RoundFromNothing, SecondRound, InstalledTwice, InstalledUnderLock, ThawedTooEarly, PersistentParentTooOld, InstalledByAnother, InstalledUnborn, AcknowledgedWithoutMember, AcknowledgedBeforeInstalled, OldReadAfterCommit, OldReadOfOwn, OldReadAfterRead}
 use Rattle.ct_register.proofs.Ways.{labels_after, leave_no_choice, refused_after}
 use Rattle.ct_register.proofs.Small.{one_not_zero, not_below, below_next}
 use Rattle.ct_register_worked.proofs.Refusals.{from_opening, read_of_record}
@@ -93,6 +93,19 @@ installed_under_lock s = through_round (Ticket 2 0 both ∷ []) 0 both 1 1 (lock
 pub thawed_too_early : ThawedTooEarly
 unfolding Words.at is_among
 thawed_too_early s = through_round (Ticket 2 0 both ∷ []) 0 both 1 1 (installs 0 ∷ []) (thaws 0 ∷ []) s refl refl (λ counts kept b d h. (let e : false ≡ true = h.1.2 1 refl in absurd (cc)))
+
+-- ---- acknowledged, though a member lacks it
+
+one_below : (j : ℕ) → 1 ≤ 0 + j → j ≤ 0 → ⊥
+one_below j low high = absurd (omega arith)
+
+pub acknowledged_without_member : AcknowledgedWithoutMember
+unfolding Words.at Words.at_key
+acknowledged_without_member s = through_round (Ticket 2 1 (1 ∷ []) ∷ []) 1 (1 ∷ []) 1 1 (installs 1 ∷ locks_database 0 ∷ begins 0 ∷ []) (commits 0 1 ∷ []) s refl refl (λ counts kept b d h. one_below (kept 2) (h.1.1.1 2 (0 + kept 2) refl) (d.within 2))
+
+pub acknowledged_before_installed : AcknowledgedBeforeInstalled
+unfolding Words.at Words.at_key is_among
+acknowledged_before_installed s = through_round (Ticket 2 0 both ∷ []) 0 both 1 1 (installs 0 ∷ locks_database 0 ∷ begins 0 ∷ []) (commits 0 1 ∷ []) s refl refl (λ counts kept b d h. not_two_one (h.1.1.0 1 refl))
 
 -- ---- what is not forgotten
 

@@ -1,5 +1,5 @@
 -- The runs that are refused.
-use Rattle.std.proofs.Common.{◌≡◌, ℕ, true, ◌<◌, List, [], ◌∷◌, refl, ap, arith, ⊎_elim}
+use Rattle.std.proofs.Common.{◌≡◌, ℕ, true, false, List, [], ◌∷◌, refl, ap, arith, ⊎_elim}
 use Rattle.std.specs.Prelude.{◌++◌, Some, Result, Err}
 use Rattle.ct_call.specs.declared.fault.CallFault.{CallFault}
 use Rattle.ct_call.specs.declared.fault.CallFault.TheVariants as fault
@@ -14,12 +14,12 @@ use Rattle.ct_register.specs.Database
 use Rattle.ct_register.specs.Lines
 use Rattle.ct_register.specs.Lines.{Lines}
 use Rattle.ct_register.specs.Legal
-use Rattle.ct_register_worked.specs.Runs.{config, functions, a, x, y, both, locks, reads, writes, stores, unlocks, appends, is_too_long, vacuums, ends, locks_database, begins, commits, is_unsure}
-use Rattle.ct_register_worked.specs.Refused.{SecondLock, OldRead, ReadUnderLock, WriteUnderLock, StoreOfNoOwner, UnlockOfNoOwner, WrongAnswer, VacuumOfValue, ReadAfterStop, VacuumedUnderLock, EndedUnlocked, WrongLength, TooLongUnderLock, WriteKeptEmpty, LockAnsweredAgain, AnsweredAfterRefusal, AnsweredAfterStop, CommitUnlocked, CommitBesideAnother, WrongNumber, AcknowledgedTwice, CommitOfAnother, UnsureOfNobody, TicketWhileHeld, TicketLeftOut, YieldedByAnother}
+use Rattle.ct_register_worked.specs.Runs.{config, functions, a, x, y, both, locks, reads, writes, stores, unlocks, appends, is_too_long, vacuums, ends, locks_database, unlocks_database, begins, commits, is_unsure, refuses, reads_database}
+use Rattle.ct_register_worked.specs.Refused.{SecondLock, OldRead, ReadUnderLock, WriteUnderLock, StoreOfNoOwner, UnlockOfNoOwner, WrongAnswer, VacuumOfValue, ReadAfterStop, VacuumedUnderLock, EndedUnlocked, WrongLength, TooLongUnderLock, WriteKeptEmpty, LockAnsweredAgain, AnsweredAfterRefusal, AnsweredAfterStop, CommitUnlocked, CommitBesideAnother, WrongNumber, AcknowledgedTwice, CommitOfAnother, UnsureOfNobody, AnsweredWithoutLock, UnsureOfOwn, UnsureOfNoMember, UnsureTwice, UnsureAnew, RefusedAfterBegin, TicketWhileHeld, TicketLeftOut, YieldedByAnother}
 use Rattle.ct_register.proofs.Ways
 use Rattle.ct_register.proofs.Ways.{labels_after, refused_after}
-use Rattle.ct_register.proofs.Small.{some_not_none, none_not_some, not_below}
-use Rattle.ct_rules_node.specs.Node.{kind_at, kind_in, name_in, name_of}
+use Rattle.ct_register.proofs.Small.{one_not_zero, some_not_none, none_not_some, not_below}
+use Rattle.ct_rules_node.specs.Node.{is_among, kind_at, kind_in, name_in, name_of}
 
 -- these labels come first, and the rest is refused then
 pub from_opening : (front rest : List Label) (s : Lines) → Ways.leave_no_choice config front ≡ true → (Legal.AcceptsLabels config functions (labels_after front (Lines.opening config)) rest s → ⊥) → Legal.Legal config functions (front ++ rest) s → ⊥
@@ -77,18 +77,41 @@ commit_beside_another s = from_opening (locks_database 0 ∷ begins 0 ∷ []) (b
 
 pub wrong_number : WrongNumber
 unfolding Words.at
-wrong_number s = from_opening (locks_database 0 ∷ begins 0 ∷ []) (commits 0 2 ∷ []) s refl (λ h. (let e : ◌≡◌ {A = ℕ} 2 1 = h.1.3.0.numbered in absurd (cc)))
+wrong_number s = from_opening (locks_database 0 ∷ begins 0 ∷ []) (commits 0 2 ∷ []) s refl (λ h. (let e : ◌≡◌ {A = ℕ} 2 1 = h.1.2.3.0.numbered in absurd (cc)))
 
 pub acknowledged_twice : AcknowledgedTwice
 unfolding Words.at
-acknowledged_twice s = from_opening (locks_database 0 ∷ begins 0 ∷ commits 0 1 ∷ []) (commits 0 1 ∷ []) s refl (λ h. (let e : ◌<◌ 1 1 = h.1.3.0.unacknowledged in absurd (not_below e)))
+acknowledged_twice s = from_opening (locks_database 0 ∷ begins 0 ∷ commits 0 1 ∷ []) (commits 0 1 ∷ []) s refl (λ h. none_not_some h.1.2.3.0.begun)
 
 pub commit_of_another : CommitOfAnother
 unfolding Words.at
-commit_of_another s = from_opening (locks_database 0 ∷ begins 0 ∷ []) (commits 1 1 ∷ []) s refl (λ h. (let e : Some 0 ≡ Some 1 = h.1.3.0.begun in absurd (cc)))
+commit_of_another s = from_opening (locks_database 0 ∷ begins 0 ∷ []) (commits 1 1 ∷ []) s refl (λ h. (let e : Some 0 ≡ Some 1 = h.1.2.3.0.begun in absurd (cc)))
 
 pub unsure_of_nobody : UnsureOfNobody
-unsure_of_nobody s = from_opening (locks_database 0 ∷ begins 0 ∷ []) (is_unsure 0 1 [] ∷ []) s refl (λ h. h.1.3.1 refl)
+unsure_of_nobody s = from_opening (locks_database 0 ∷ begins 0 ∷ []) (is_unsure 0 1 [] ∷ []) s refl (λ h. h.1.2.3.1.0 refl)
+
+pub answered_without_lock : AnsweredWithoutLock
+unfolding Words.at Words.at_key name_of name_in
+answered_without_lock s = from_opening (locks_database 0 ∷ begins 0 ∷ unlocks_database 0 ∷ locks_database 1 ∷ []) (commits 0 1 ∷ []) s refl (λ h. (let e : Some 1 ≡ Some 0 = h.1.0 in absurd (cc)))
+
+pub unsure_of_own : UnsureOfOwn
+unfolding Words.at is_among
+unsure_of_own s = from_opening (locks_database 0 ∷ begins 0 ∷ []) (is_unsure 0 1 (0 ∷ []) ∷ []) s refl (λ h. (let e : false ≡ true = h.1.2.3.1.2 in absurd (cc)))
+
+pub unsure_of_no_member : UnsureOfNoMember
+unfolding Words.at is_among
+unsure_of_no_member s = from_opening (locks_database 0 ∷ begins 0 ∷ []) (is_unsure 0 1 (99 ∷ []) ∷ []) s refl (λ h. (let e : false ≡ true = h.1.2.3.1.2 in absurd (cc)))
+
+pub unsure_twice : UnsureTwice
+unsure_twice s = from_opening (locks_database 0 ∷ begins 0 ∷ []) (is_unsure 0 1 (1 ∷ 1 ∷ []) ∷ []) s refl (λ h. (let e : false ≡ true = h.1.2.3.1.1 in absurd (cc)))
+
+pub unsure_anew : UnsureAnew
+unfolding Words.at
+unsure_anew s = from_opening (locks_database 0 ∷ begins 0 ∷ is_unsure 0 1 (1 ∷ []) ∷ []) (is_unsure 0 1 (1 ∷ []) ∷ []) s refl (λ h. none_not_some h.1.2.3.0.begun)
+
+pub refused_after_begin : RefusedAfterBegin
+unfolding Words.at Words.at_key kind_at kind_in
+refused_after_begin s = from_opening (locks_database 0 ∷ begins 0 ∷ []) (refuses 0 why.NotServing ∷ reads_database 0 x ∷ []) s refl (λ h. (let e : why.NotServing ≡ why.CommitPending = h.1.0 (one_not_zero, refl, refl) in absurd (cc)))
 
 pub ticket_while_held : TicketWhileHeld
 ticket_while_held s = from_opening (Ticket 2 0 both ∷ []) (Ticket 3 1 both ∷ []) s refl (λ h. (let e : ◌≡◌ {A = ℕ} 0 1 = h.1.1 in absurd (cc)))

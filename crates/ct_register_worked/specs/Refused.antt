@@ -9,7 +9,7 @@ use Rattle.ct_rules_cluster.specs.Labels.{Label, Noted, Ticket, Yielded, Stopped
 use Rattle.ct_rules_cluster.specs.declared.step.Line.TheVariants as line
 use Rattle.ct_register.specs.Lines.{Lines}
 use Rattle.ct_register.specs.Legal.{Legal}
-use Rattle.ct_register_worked.specs.Runs.{config, functions, a, x, y, both, locks, reads, writes, stores, unlocks, appends, is_too_long, vacuums, ends, asks, printed, locks_database, begins, commits, is_unsure, reads_database, round, installs, thaws, first_at_zero, one_each, both_at_one, takes}
+use Rattle.ct_register_worked.specs.Runs.{config, functions, a, x, y, both, locks, reads, writes, stores, unlocks, appends, is_too_long, vacuums, ends, asks, printed, locks_database, unlocks_database, begins, commits, is_unsure, refuses, reads_database, round, installs, thaws, first_at_zero, one_each, both_at_one, takes}
 
 -- whatever is taken over and seen, the registers do not accept these labels
 abbrev pub IsIllegal : List Label → Type 0
@@ -97,6 +97,36 @@ CommitOfAnother = IsIllegal (locks_database 0 ∷ begins 0 ∷ commits 1 1 ∷ [
 
 abbrev pub UnsureOfNobody : Type 0
 UnsureOfNobody = IsIllegal (locks_database 0 ∷ begins 0 ∷ is_unsure 0 1 [] ∷ [])
+
+-- the node of the commit is missing itself
+abbrev pub UnsureOfOwn : Type 0
+UnsureOfOwn = IsIllegal (locks_database 0 ∷ begins 0 ∷ is_unsure 0 1 (0 ∷ []) ∷ [])
+
+abbrev pub UnsureOfNoMember : Type 0
+UnsureOfNoMember = IsIllegal (locks_database 0 ∷ begins 0 ∷ is_unsure 0 1 (99 ∷ []) ∷ [])
+
+abbrev pub UnsureTwice : Type 0
+UnsureTwice = IsIllegal (locks_database 0 ∷ begins 0 ∷ is_unsure 0 1 (1 ∷ 1 ∷ []) ∷ [])
+
+-- a commit that was answered is answered once more
+abbrev pub UnsureAnew : Type 0
+UnsureAnew = IsIllegal (locks_database 0 ∷ begins 0 ∷ is_unsure 0 1 (1 ∷ []) ∷ is_unsure 0 1 (1 ∷ []) ∷ [])
+
+-- a commit that began is refused, and is read then
+abbrev pub RefusedAfterBegin : Type 0
+RefusedAfterBegin = IsIllegal (locks_database 0 ∷ begins 0 ∷ refuses 0 why.NotServing ∷ reads_database 0 x ∷ [])
+
+-- node 1, a member of line 1, left it for a line that took over nothing of the commit
+abbrev pub AcknowledgedWithoutMember : Type 0
+AcknowledgedWithoutMember = IsIllegal (Ticket 2 1 (1 ∷ []) ∷ round 1 (1 ∷ []) ∷ installs 1 ∷ locks_database 0 ∷ begins 0 ∷ commits 0 1 ∷ [])
+
+-- node 1, a member of line 2, has not installed it
+abbrev pub AcknowledgedBeforeInstalled : Type 0
+AcknowledgedBeforeInstalled = IsIllegal (Ticket 2 0 both ∷ round 0 both ∷ installs 0 ∷ locks_database 0 ∷ begins 0 ∷ commits 0 1 ∷ [])
+
+-- the lock was given up under the commit, and another node has it
+abbrev pub AnsweredWithoutLock : Type 0
+AnsweredWithoutLock = IsIllegal (locks_database 0 ∷ begins 0 ∷ unlocks_database 0 ∷ locks_database 1 ∷ commits 0 1 ∷ [])
 
 abbrev pub OldReadAfterCommit : Type 0
 OldReadAfterCommit = IsIllegal (locks_database 0 ∷ begins 0 ∷ commits 0 1 ∷ reads_database 1 [] ∷ [])

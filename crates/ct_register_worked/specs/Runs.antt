@@ -7,6 +7,7 @@ use Rattle.ct_values.specs.declared.client.Answer.TheVariants as answer
 use Rattle.ct_values.specs.declared.client.ClientOp.{ClientOp}
 use Rattle.ct_values.specs.declared.client.ClientOp.TheVariants as op
 use Rattle.ct_values.specs.declared.client.Pair.{Pair}
+use Rattle.ct_values.specs.declared.client.Why.{Why}
 use Rattle.ct_values.specs.declared.client.Why.TheVariants as why
 use Rattle.ct_values.specs.declared.config.Config.{Config}
 use Rattle.ct_values.specs.declared.config.DbKind.TheVariants.{Volatile, Persistent}
@@ -79,9 +80,12 @@ vacuums n = Noted n (note.Vacuumed 1 a)
 abbrev pub ends : ℕ → Label
 ends n = Noted n (note.Ended 1 a)
 
--- the lock that a commit needs, and its end without the client
+-- the lock that a commit needs, and its end, by the client or without it
 abbrev pub locks_database : ℕ → Label
 locks_database n = Answered n (op.Lock 0 (112 ∷ [])) (answer.Locked [])
+
+abbrev pub unlocks_database : ℕ → Label
+unlocks_database n = Answered n (op.Unlock 0 (112 ∷ [])) answer.Unlocked
 
 abbrev pub ends_database : ℕ → Label
 ends_database n = Noted n (note.Ended 0 (112 ∷ []))
@@ -98,6 +102,9 @@ commits n number = Answered n (op.Commit 2 one_write) (answer.Committed number)
 
 abbrev pub is_unsure : ℕ → ℕ → List ℕ → Label
 is_unsure n number missing = Answered n (op.Commit 2 one_write) (answer.Unsure number missing)
+
+abbrev pub refuses : ℕ → Why → Label
+refuses n reason = Answered n (op.Commit 2 one_write) (answer.Refused reason)
 
 abbrev pub reads_database : ℕ → List ℕ → Label
 reads_database n v = Answered n (op.Read 2 a) (answer.Read v)
@@ -201,6 +208,10 @@ RoundMayLose = Reaches (writes 1 x ∷ Stopped 1 ∷ Ticket 2 0 (0 ∷ []) ∷ r
 abbrev pub CommitIsRead : Type 0
 CommitIsRead =
     Reaches (locks_database 0 ∷ begins 0 ∷ reads_database 1 [] ∷ reads_database 0 x ∷ commits 0 1 ∷ reads_database 1 x ∷ []) (λ s. Counts 1 1 1 1 (s.databases 1 2))
+
+-- while a commit waits, another is refused for it, and that changes nothing
+abbrev pub AnotherIsRefused : Type 0
+AnotherIsRefused = Reaches (locks_database 0 ∷ begins 0 ∷ refuses 0 why.CommitPending ∷ reads_database 0 x ∷ []) (λ s. Counts 1 0 1 0 (s.databases 1 2))
 
 -- a commit that is unsure is seen by all members but the missing ones, and is not acknowledged
 abbrev pub UnsureIsOpen : Type 0

@@ -1,5 +1,5 @@
 //! Small runs that are not legal.
-ghost use Rattle.ct_register_worked.specs.Refused.{SecondLock, OldRead, ReadUnderLock, WriteUnderLock, StoreOfNoOwner, UnlockOfNoOwner, WrongAnswer, VacuumOfValue, ReadAfterStop, VacuumedUnderLock, EndedUnlocked, WrongLength, TooLongUnderLock, WriteKeptEmpty, LockAnsweredAgain, AnsweredAfterRefusal, AnsweredAfterStop, CommitUnlocked, CommitBesideAnother, WrongNumber, AcknowledgedTwice, CommitOfAnother, UnsureOfNobody, OldReadAfterCommit, OldReadOfOwn, OldReadAfterRead, RoundForgets, RoundForgetsCommit, RoundOfAnother, RoundOfOtherMembers, RoundFromNowhere, RoundFromNothing, PersistentParentTooOld, SecondRound, InstalledByAnother, InstalledUnborn, InstalledTwice, InstalledUnderLock, ThawedTooEarly, TicketWhileHeld, TicketLeftOut, YieldedByAnother, TookUnassigned, TookWhileHeld, WrongTake, TakeOfNoRun, PushedAnew, PushedUnborn};
+ghost use Rattle.ct_register_worked.specs.Refused.{SecondLock, OldRead, ReadUnderLock, WriteUnderLock, StoreOfNoOwner, UnlockOfNoOwner, WrongAnswer, VacuumOfValue, ReadAfterStop, VacuumedUnderLock, EndedUnlocked, WrongLength, TooLongUnderLock, WriteKeptEmpty, LockAnsweredAgain, AnsweredAfterRefusal, AnsweredAfterStop, CommitUnlocked, CommitBesideAnother, WrongNumber, AcknowledgedTwice, CommitOfAnother, AnsweredWithoutLock, UnsureOfNobody, UnsureOfOwn, UnsureOfNoMember, UnsureTwice, UnsureAnew, RefusedAfterBegin, AcknowledgedWithoutMember, AcknowledgedBeforeInstalled, OldReadAfterCommit, OldReadOfOwn, OldReadAfterRead, RoundForgets, RoundForgetsCommit, RoundOfAnother, RoundOfOtherMembers, RoundFromNowhere, RoundFromNothing, PersistentParentTooOld, SecondRound, InstalledByAnother, InstalledUnborn, InstalledTwice, InstalledUnderLock, ThawedTooEarly, TicketWhileHeld, TicketLeftOut, YieldedByAnother, TookUnassigned, TookWhileHeld, WrongTake, TakeOfNoRun, PushedAnew, PushedUnborn};
 
 /// A second lock; a read of an old value, or while another node owns the record, or at a node in no line; a write while a
 /// node owns the record; a store or an unlock of no owner; a wrong answer of a function, a refusal of its value with a wrong
@@ -30,7 +30,9 @@ pub fn calls()
 {}
 
 /// A commit without the database's lock, or beside one that is not acknowledged; an answer with a wrong number, or a second
-/// one, or of another node's commit; an unsure one though nobody is missing; a read without what is acknowledged, or one's own,
+/// one, or of another node's commit, or once another node has the lock; an unsure one though nobody is missing, or that names its own node, no member or a node twice; a
+/// refusal of a commit that began; an
+/// acknowledgment though a member left for a line without the commit, or has not installed the line; a read without what is acknowledged, or one's own,
 /// or read before.
 pub fn commits()
     ensures commit_unlocked { CommitUnlocked }
@@ -38,7 +40,15 @@ pub fn commits()
     ensures wrong_number { WrongNumber }
     ensures acknowledged_twice { AcknowledgedTwice }
     ensures commit_of_another { CommitOfAnother }
+    ensures answered_without_lock { AnsweredWithoutLock }
     ensures unsure_of_nobody { UnsureOfNobody }
+    ensures unsure_of_own { UnsureOfOwn }
+    ensures unsure_of_no_member { UnsureOfNoMember }
+    ensures unsure_twice { UnsureTwice }
+    ensures unsure_anew { UnsureAnew }
+    ensures refused_after_begin { RefusedAfterBegin }
+    ensures acknowledged_without_member { AcknowledgedWithoutMember }
+    ensures acknowledged_before_installed { AcknowledgedBeforeInstalled }
     ensures old_read_after_commit { OldReadAfterCommit }
     ensures old_read_of_own { OldReadOfOwn }
     ensures old_read_after_read { OldReadAfterRead }

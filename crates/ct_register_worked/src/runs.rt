@@ -1,6 +1,6 @@
 //! Small runs that are legal, and what the registers show then.
 ghost use Rattle.ct_register_worked.specs.Marked.{ThreeAreMarks, CopiesHaveMarks, EntriesHaveMarks, MarksGoOn, MarksDoNotGoBack};
-ghost use Rattle.ct_register_worked.specs.Runs.{LockMoves, ReadersSee, FunctionsAnswer, VacuumForgets, StopEndsLocks, RefusalsChangeNothing, CommitIsRead, UnsureIsOpen, TicketsCount, RoundKeeps, RoundEmpties, RoundMayLose, UnsureMayBeLost, UnsureMayBeKept, AddressesArePlaced};
+ghost use Rattle.ct_register_worked.specs.Runs.{LockMoves, ReadersSee, FunctionsAnswer, VacuumForgets, StopEndsLocks, RefusalsChangeNothing, CommitIsRead, AnotherIsRefused, UnsureIsOpen, TicketsCount, RoundKeeps, RoundEmpties, RoundMayLose, UnsureMayBeLost, UnsureMayBeKept, AddressesArePlaced};
 
 /// A lock moves with what was stored under it; a read sees all versions; a function answers its rule's value; a vacuum forgets;
 /// a stop ends locks; refusals change nothing.
@@ -13,10 +13,11 @@ pub fn records()
     ensures refusals_change_nothing { RefusalsChangeNothing }
 {}
 
-/// A commit may be read before it is acknowledged, and must be after that. One that is unsure is seen by the members that
-/// are not missing.
+/// A commit may be read before it is acknowledged, and must be after that. While it waits another is refused. One that is
+/// unsure is seen by the members that are not missing.
 pub fn commits()
     ensures commit_is_read { CommitIsRead }
+    ensures another_is_refused { AnotherIsRefused }
     ensures unsure_is_open { UnsureIsOpen }
 {}
 
