@@ -23,7 +23,7 @@ use Rattle.ct_rules_node.specs.Records.{out_of, place_of, view, acted, at_record
 use Rattle.ct_rules_node.specs.Rounds.{Called, want_again, want_all}
 use Rattle.ct_rules_node.specs.Retries.{call_all, revoke_all, revoke_in}
 use Rattle.ct_rules_node.specs.Steps.{vacuum_all}
-use Rattle.ct_law_record_wishes.proofs.Wishing.{Wishful, vacuum_wish}
+use Rattle.ct_law_wishes.proofs.Wishing.{Wishful, vacuum_wish}
 use Rattle.ct_law_acts.proofs.Waiting.{calls_at, look_wish, at_record_calls}
 use Rattle.ct_law_acts.proofs.Telling.{IsOf, Ofs, want_tells, store_tells, release_tells, unlock_tells, vacuum_tells, call_again_tells, revoke_again_tells, arrive_tells, want_again_tells}
 use Rattle.ct_law_acts.proofs.Whole.{CallsAre, want_again_calls, call_again_calls, revoke_again_calls}

@@ -15,10 +15,10 @@ use Rattle.ct_rules.specs.declared.state.RecState.{RecState}
 use Rattle.ct_rules.specs.declared.state.Wish.{Wish}
 use Rattle.ct_rules_node.specs.Node.{Node, Database, Committing, is_persistent, has_records, kind_at}
 use Rattle.ct_rules_node.specs.Refusals.{refused_if}
-use Rattle.ct_rules_node.specs.Clients.{refusal, no_such_db, wrong_kind, is_commit}
+use Rattle.ct_rules_node.specs.Clients.{refusal, no_such_db, wrong_kind, is_commit, is_unlock}
 use Rattle.ct_law_rules_node.proofs.Refusals.{first_none, not_refused}
-use Rattle.ct_law_record_wishes.proofs.Wishing.{Wishful}
-use Rattle.ct_law_generation_node.proofs.Pending.{Callers, Known}
+use Rattle.ct_law_wishes.proofs.Wishing.{Wishful}
+use Rattle.ct_law_generation.proofs.Pending.{Callers, Known}
 use Rattle.ct_law_acts.proofs.Waiting.{EachWish, OfCommit, EachCall}
 use Rattle.ct_law_acts.proofs.Whole.{IsNew}
 use Rattle.ct_law_acts.proofs.Known.{Waits, Commits, NodeCalls}
@@ -38,7 +38,7 @@ old_call calls k x y who l e = ap (λ (b : Bool). cond b x (who k)) (ne_eqb k (c
 more_wish : (c : Config) (who : Callers) (calls n db : ℕ) (key : List ℕ) (x : ℕ × ClientOp) (w : Option Wish) → Wishful (Waits c who calls n db key) w → Wishful (Waits c (called (calls + 1) x who) (calls + 1) n db key) w
 unfolding Wishful Waits Known
 more_wish c who calls n db key x None h = tt
-more_wish c who calls n db key x (Some w) h = ((old_call calls w.call x (n, w.op) who h.0.1 h.0.0, (let l = h.0.1 in omega arith), h.0.2, h.0.3), h.1, h.2)
+more_wish c who calls n db key x (Some w) h = ((old_call calls w.call x (n, w.op) who h.0.1 h.0.0, (let l = h.0.1 in omega arith), h.0.2, h.0.3), h.1, h.2, h.3)
 
 more_wishes : (c : Config) (who : Callers) (calls n db : ℕ) (x : ℕ × ClientOp) (m : Pairs RecState) → EachWish (Waits c who calls n) (Commits who calls n) db m → EachWish (Waits c (called (calls + 1) x who) (calls + 1) n) (Commits (called (calls + 1) x who) (calls + 1) n) db m
 unfolding EachWish
@@ -80,11 +80,17 @@ kind_of_call c rules n o e f g = (let a = (first_none _ _ (first_none _ _ e).1).
 
 -- the next call, of node n, is known
 pub new_known : (c : Config) (rules : Rules) (who : Callers) (calls n : ℕ) (asked : ClientOp) (node : Node) → IsNew (Waits c (called (calls + 1) (n, asked) who) (calls + 1) n) (Commits (called (calls + 1) (n, asked) who) (calls + 1) n) c rules node (calls + 1) asked
-unfolding IsNew Waits Known Commits is_commit is_read
+unfolding IsNew Waits Known Commits is_commit is_unlock is_read
 new_known c rules who calls n (op.Commit db writes) node = λ e. (own_call (calls + 1) (n, op.Commit db writes) who, omega arith)
-new_known c rules who calls n (op.Read db key) node = λ e f. ((own_call (calls + 1) (n, op.Read db key) who, omega arith, refl, refl), there c rules node (op.Read db key) e f, refl)
-new_known c rules who calls n (op.Lock db key) node = λ e. ((own_call (calls + 1) (n, op.Lock db key) who, omega arith, refl, refl), there c rules node (op.Lock db key) e (kind_of_call c rules node (op.Lock db key) e refl refl), refl)
-new_known c rules who calls n (op.Write db key v) node = λ e. ((own_call (calls + 1) (n, op.Write db key v) who, omega arith, refl, refl), there c rules node (op.Write db key v) e (kind_of_call c rules node (op.Write db key v) e refl refl), refl)
-new_known c rules who calls n (op.Apply db key f arg) node = λ e. ((own_call (calls + 1) (n, op.Apply db key f arg) who, omega arith, refl, refl), there c rules node (op.Apply db key f arg) e (kind_of_call c rules node (op.Apply db key f arg) e refl refl), refl)
-new_known c rules who calls n (op.Store db key v) node = λ e. ((own_call (calls + 1) (n, op.Store db key v) who, omega arith, refl, refl), there c rules node (op.Store db key v) e (kind_of_call c rules node (op.Store db key v) e refl refl), refl)
-new_known c rules who calls n (op.Unlock db key) node = λ e. ((own_call (calls + 1) (n, op.Unlock db key) who, omega arith, refl, refl), there c rules node (op.Unlock db key) e (kind_of_call c rules node (op.Unlock db key) e refl refl), refl)
+new_known c rules who calls n (op.Read db key) node = λ e f. ((own_call (calls + 1) (n, op.Read db key) who, omega arith, refl, refl), there c rules node (op.Read db key) e f, refl, refl)
+new_known c rules who calls n (op.Lock db key) node = λ e. ((own_call (calls + 1) (n, op.Lock db key) who, omega arith, refl, refl), there c rules node (op.Lock db key) e (kind_of_call c rules node (op.Lock db key) e refl refl), refl, refl)
+new_known c rules who calls n (op.Write db key v) node = λ e. ((own_call (calls + 1) (n, op.Write db key v) who, omega arith, refl, refl), there c rules node (op.Write db key v) e (kind_of_call c rules node (op.Write db key v) e refl refl), refl, refl)
+new_known c rules who calls n (op.Apply db key f arg) node = λ e. ((own_call (calls + 1) (n, op.Apply db key f arg) who, omega arith, refl, refl), there c rules node (op.Apply db key f arg) e (kind_of_call c rules node (op.Apply db key f arg) e refl refl), refl, refl)
+new_known c rules who calls n (op.Store db key v) node = λ e. ((own_call (calls + 1) (n, op.Store db key v) who, omega arith, refl, refl), there c rules node (op.Store db key v) e (kind_of_call c rules node (op.Store db key v) e refl refl), refl, refl)
+new_known c rules who calls n (op.Unlock db key) node = tt
+
+-- an unlock that is not refused is known, too, and its database has records
+pub unlock_known : (c : Config) (rules : Rules) (who : Callers) (calls n db : ℕ) (key : List ℕ) (node : Node) → refusal c rules node (op.Unlock db key) ≡ None →
+    Known (called (calls + 1) (n, op.Unlock db key) who) (calls + 1) n db key (calls + 1) (op.Unlock db key) × (has_records (kind_at c db) ≡ true)
+unfolding Known is_commit is_read
+unlock_known c rules who calls n db key node e = ((own_call (calls + 1) (n, op.Unlock db key) who, omega arith, refl, refl), there c rules node (op.Unlock db key) e (kind_of_call c rules node (op.Unlock db key) e refl refl))

@@ -16,8 +16,8 @@ use Rattle.ct_rules_cluster.specs.Labels.{Label, Answered, Unasked, Begun, Noted
 use Rattle.ct_rules_cluster.specs.Steps.{frames_of}
 use Rattle.ct_rules_cluster.specs.Traces.{sent_label}
 use Rattle.ct_rules_cluster.specs.declared.step.PendingCall.{PendingCall}
-use Rattle.ct_law_generation_node.specs.Shown.{labels_of}
-use Rattle.ct_law_generation_node.specs.Waiting.{answered}
+use Rattle.ct_law_generation.specs.Shown.{labels_of}
+use Rattle.ct_law_generation.specs.Waiting.{answered}
 use Rattle.ct_law_plain.proofs.Steady.{IsOwn}
 use Rattle.ct_law_acts.proofs.Steps.{is_note}
 

@@ -13,19 +13,19 @@ use Rattle.ct_store.specs.Map.{Pairs}
 use Rattle.ct_rules.specs.declared.state.RecState.{RecState}
 use Rattle.ct_rules.specs.declared.state.Wish.{Wish}
 use Rattle.ct_rules_node.specs.Node.{Node, Database, Committing, untouched, or_untouched, db_at, has_records, kind_at}
-use Rattle.ct_rules_node.specs.Clients.{is_commit}
+use Rattle.ct_rules_node.specs.Clients.{is_commit, is_unlock}
 use Rattle.ct_law_rules_node.proofs.Numbered.{numbered_all, numbered_any}
 use Rattle.ct_rules_cluster.specs.Cluster.{Cluster, node_at, or_absent, absent, wished, wished_in, committing, pending_in, pending_from, pending}
 use Rattle.ct_rules_cluster.specs.Labels.{Answered}
-use Rattle.ct_law_generation_node.specs.Waiting.{answered}
+use Rattle.ct_law_generation.specs.Waiting.{answered}
 use Rattle.ct_rules_cluster.specs.declared.step.PendingCall.{PendingCall}
-use Rattle.ct_law_record_wishes.proofs.Wishing.{Wishful}
-use Rattle.ct_law_generation_node.proofs.Pending.{Callers, Fits, is_call, answered_as, Known}
+use Rattle.ct_law_wishes.proofs.Wishing.{Wishful}
+use Rattle.ct_law_generation.proofs.Pending.{Callers, Fits, is_call, answered_as, Known}
 use Rattle.ct_law_acts.proofs.Waiting.{EachWish, OfCommit, EachCall, calls_at}
 
--- a call that waits for a record: it is known, its database has records, and it is no commit
+-- a call that waits for a record: it is known, its database has records, and it is no commit and no unlock
 unfoldable pub Waits : Config → Callers → ℕ → ℕ → ℕ → List ℕ → ℕ → ClientOp → Type 0
-Waits c who calls n db key call asked = Known who calls n db key call asked × (has_records (kind_at c db) ≡ true) × (is_commit asked ≡ false)
+Waits c who calls n db key call asked = Known who calls n db key call asked × (has_records (kind_at c db) ≡ true) × (is_commit asked ≡ false) × (is_unlock asked ≡ false)
 
 -- a call whose commit waits is known
 unfoldable pub Commits : Callers → ℕ → ℕ → ℕ → ℕ → List Pair → Type 0

@@ -13,7 +13,7 @@ use Rattle.ct_rules_cluster.specs.declared.step.Line.TheVariants as line
 use Rattle.ct_rules_cluster.specs.declared.step.Step.{Step}
 use Rattle.ct_rules_cluster.specs.declared.step.Step.TheVariants as step
 use Rattle.ct_rules_cluster.specs.declared.step.StepFault.{StepFault}
-use Rattle.ct_law_generation_cluster.proofs.Fed.{fed_is}
+use Rattle.ct_law_generation.proofs.Fed.{fed_is}
 use Rattle.ct_law_acts.proofs.CallerSteps.{is_client}
 
 fed_calls : (c : Config) (rules : Rules) (n : ℕ) (e : Event) (own : List Line) (v : Cluster) (x : Stepped) → fed c rules n e own v ≡ Ok x → x.cluster.calls ≡ v.calls

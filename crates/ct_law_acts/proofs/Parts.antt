@@ -12,8 +12,8 @@ use Rattle.ct_rules_cluster.specs.declared.step.PendingCall.{PendingCall}
 use Rattle.ct_rules_cluster.specs.declared.step.Step.{Step}
 use Rattle.ct_register.proofs.Places.{at_same, at_other}
 use Rattle.ct_register.specs.Words.{at}
-use Rattle.ct_law_generation_node.specs.Waiting.{told_line, told_lines}
-use Rattle.ct_law_generation_node.proofs.Putting.{own_node, other_node}
+use Rattle.ct_law_generation.specs.Waiting.{told_line, told_lines}
+use Rattle.ct_law_generation.proofs.Putting.{own_node, other_node}
 
 -- the nodes, by number
 abbrev pub nodes_of : Cluster → ℕ → Node

@@ -18,7 +18,7 @@ use Rattle.ct_rules_cluster.specs.declared.step.Step.TheVariants as step
 use Rattle.ct_rules_cluster.specs.declared.step.StepFault.{StepFault}
 use Rattle.ct_law_plain.proofs.Locked.{waits_in, CommitLocked, NoneWaits, locked_none}
 use Rattle.ct_law_plain.proofs.Whole.{happens_locked, opening_locked, restarted_locked}
-use Rattle.ct_law_generation_node.proofs.Pending.{Callers}
+use Rattle.ct_law_generation.proofs.Pending.{Callers}
 use Rattle.ct_law_acts.proofs.Waiting.{EachCall}
 use Rattle.ct_law_acts.proofs.Whole.{IsNewCall, happens_calls, opening_calls, stopped_calls}
 use Rattle.ct_law_acts.proofs.Known.{Waits, Commits, NodeCalls}

@@ -23,12 +23,12 @@ use Rattle.ct_rules_cluster.specs.declared.step.PendingCall.{PendingCall}
 use Rattle.ct_rules_cluster.specs.declared.step.Step.{Step}
 use Rattle.ct_rules_cluster.specs.declared.step.Step.TheVariants as step
 use Rattle.ct_rules_cluster.specs.declared.step.StepFault.{StepFault}
-use Rattle.ct_law_generation_node.specs.Shown.{labels_of}
-use Rattle.ct_law_generation_node.specs.Waiting.{answerable, told_line, told_lines, told_step}
-use Rattle.ct_law_generation_node.proofs.Hearing.{labels_are}
-use Rattle.ct_law_generation_node.proofs.Putting.{own_node, other_node}
-use Rattle.ct_law_generation_cluster.proofs.Fed.{fed_is}
-use Rattle.ct_law_generation_cluster.proofs.Faulting.{runs}
+use Rattle.ct_law_generation.specs.Shown.{labels_of}
+use Rattle.ct_law_generation.specs.Waiting.{answerable, told_line, told_lines, told_step}
+use Rattle.ct_law_generation.proofs.Hearing.{labels_are}
+use Rattle.ct_law_generation.proofs.Putting.{own_node, other_node}
+use Rattle.ct_law_generation.proofs.Fed.{fed_is}
+use Rattle.ct_law_generation.proofs.Faulting.{runs}
 use Rattle.ct_law_acts.proofs.Parts.{fate_frames, fate_nodes, sent_more}
 
 -- is the label a node's note, or that it stopped?

@@ -23,7 +23,7 @@ use Rattle.ct_values.specs.declared.client.ClientOp.TheVariants as op
 use Rattle.ct_call.specs.declared.fault.CallFault.{CallFault}
 use Rattle.ct_call.specs.declared.fault.CallFault.TheVariants as fault
 use Rattle.ct_rules_node.specs.Rounds.{want_again_of, want_again}
-use Rattle.ct_law_record_wishes.proofs.Wishing.{Wishful, drain_wish, drained_wish, end_revocation_wish, grant_wish, handle_wish, home_opened_wish, own_wish, read_here_wish, release_wish, satisfied_wish, send_all_wish, take_wish}
+use Rattle.ct_law_wishes.proofs.Wishing.{Wishful, drain_wish, drained_wish, end_revocation_wish, grant_wish, handle_wish, home_opened_wish, own_wish, read_here_wish, release_wish, satisfied_wish, send_all_wish, take_wish}
 
 -- the answer is to a call that has this
 unfoldable pub IsOf : (ℕ → ClientOp → Type 0) → Act → Type 0

@@ -17,11 +17,12 @@ use Rattle.ct_rules.specs.State.{is_blank}
 use Rattle.ct_rules.specs.Parts.{Moving}
 use Rattle.ct_rules.specs.declared.event.Place.{Place}
 use Rattle.ct_rules.specs.declared.state.RecState.{RecState}
+use Rattle.ct_rules.specs.declared.state.Wish.{Wish}
 use Rattle.ct_rules_node.specs.Node.{Database, Committing, untouched, or_untouched, or_nothing, db_at, with_db, state_at, untouched_all, restarted_db}
 use Rattle.ct_rules_node.specs.Turn.{Turn}
 use Rattle.ct_rules_node.specs.Records.{kept, view, put_back, acted, at_record}
 use Rattle.ct_rules_node.specs.Rounds.{frozen_state, frozen_db, changed, bared, installed_state, install_row, install_rows, installed_db, installed_dbs}
-use Rattle.ct_law_record_wishes.proofs.Wishing.{Wishful}
+use Rattle.ct_law_wishes.proofs.Wishing.{Wishful}
 
 -- P is what a call that waits for a record has, by database and key; and Q what one has whose commit waits, by database
 module _ (P : ℕ → List ℕ → ℕ → ClientOp → Type 0) (Q : ℕ → ℕ → List Pair → Type 0) where
@@ -144,3 +145,27 @@ module _ (P : ℕ → List ℕ → ℕ → ClientOp → Type 0) (Q : ℕ → ℕ
   unfolding EachCall untouched_all untouched EachWish OfCommit
   untouched_calls {X} i [] = tt
   untouched_calls {X} i (x ∷ xs) = (record { wishes = tt; commit = tt }, untouched_calls (i + 1) xs)
+
+-- ---- more of every call
+
+module _ (P R : ℕ → List ℕ → ℕ → ClientOp → Type 0) (Q : ℕ → ℕ → List Pair → Type 0) (of : (db : ℕ) (key : List ℕ) (call : ℕ) (asked : ClientOp) → P db key call asked → R db key call asked) where
+  wish_of : (db : ℕ) (key : List ℕ) (w : Option Wish) → Wishful (P db key) w → Wishful (R db key) w
+  unfolding Wishful
+  wish_of db key None h = tt
+  wish_of db key (Some w) h = of db key w.call w.op h
+
+  wishes_of : (db : ℕ) (m : Pairs RecState) → EachWish P Q db m → EachWish R Q db m
+  unfolding EachWish
+  wishes_of db [] h = tt
+  wishes_of db (e ∷ m) h = (wish_of db e.0 e.1.wish h.0, wishes_of db m h.1)
+
+  commit_of : (db : ℕ) (o : Option Committing) → OfCommit P Q db o → OfCommit R Q db o
+  unfolding OfCommit
+  commit_of db None h = tt
+  commit_of db (Some x) h = h
+
+  -- what follows of each call that waits for a record holds of all of them
+  pub each_of : (i : ℕ) (ds : List Database) → EachCall P Q i ds → EachCall R Q i ds
+  unfolding EachCall
+  each_of i [] h = tt
+  each_of i (d ∷ ds) h = (record { wishes = wishes_of i d.records h.0.wishes; commit = commit_of i d.commit h.0.commit }, each_of (i + 1) ds h.1)

@@ -24,11 +24,11 @@ use Rattle.ct_rules_cluster.specs.declared.step.Step.{Step}
 use Rattle.ct_rules_cluster.specs.declared.step.Step.TheVariants as step
 use Rattle.ct_rules_cluster.specs.declared.step.StepFault.{StepFault}
 use Rattle.ct_register.specs.Words.{at}
-use Rattle.ct_law_generation_node.proofs.Hearing.{labels_are}
-use Rattle.ct_law_generation_node.specs.Shown.{labels_of}
-use Rattle.ct_law_generation_node.specs.Waiting.{answerable, told_line, told_lines, told_step}
-use Rattle.ct_law_generation_cluster.proofs.Fed.{fed_is}
-use Rattle.ct_law_generation_cluster.proofs.Faulting.{runs}
+use Rattle.ct_law_generation.proofs.Hearing.{labels_are}
+use Rattle.ct_law_generation.specs.Shown.{labels_of}
+use Rattle.ct_law_generation.specs.Waiting.{answerable, told_line, told_lines, told_step}
+use Rattle.ct_law_generation.proofs.Fed.{fed_is}
+use Rattle.ct_law_generation.proofs.Faulting.{runs}
 use Rattle.ct_law_acts.proofs.Parts.{nodes_of, frames_in, frame_list, put_nodes, sent_more, fate_frames, fate_nodes, sent_in, gone_told}
 
 -- what a law says of a step from one cluster on: of the nodes after it, of what it tells, and of the messages that it sends

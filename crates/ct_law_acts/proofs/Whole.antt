@@ -31,7 +31,7 @@ use Rattle.ct_rules_node.specs.Rounds.{Called, want_again_of, want_again, want_a
 use Rattle.ct_rules_node.specs.Retries.{call_all, revoke_all, revoke_in, retry_records, retry}
 use Rattle.ct_rules_node.specs.Steps.{on_record_of, if_persistent, if_sound, if_taken_over, arrives, vacuum_all, vacuums, happens}
 use Rattle.ct_rules_node.specs.Admission.{record_in}
-use Rattle.ct_law_record_wishes.proofs.Wishing.{Wishful, send_all_same, want_wish, store_wish, release_wish, unlock_wish, vacuum_wish, arrive_wish}
+use Rattle.ct_law_wishes.proofs.Wishing.{Wishful, send_all_same, want_wish, store_wish, release_wish, unlock_wish, vacuum_wish, arrive_wish}
 use Rattle.ct_law_plain.proofs.Asides.{Alike, alike_same, begin_round_alike, on_freezeack_alike, on_pull_alike, on_pullreply_alike, on_pushack_alike, begin_takeover_alike, on_release_alike, on_releaseack_alike, on_take_alike, update_in_alike, retry_lead_alike, releases_alike}
 use Rattle.ct_law_acts.proofs.Waiting.{OfCommit, EachCall, KeepsWish, kept_wish, look_wish, calls_set, calls_at, at_record_calls, frozen_calls, installed_calls, restarted_calls, untouched_calls}
 
@@ -192,10 +192,11 @@ module _ (P : ℕ → List ℕ → ℕ → ClientOp → Type 0) (Q : ℕ → ℕ
 
   -- ---- clients
 
-  -- what the call of an event is to have, where it may wait
+  -- what the call of an event is to have, where it may wait: an unlock does not
   unfoldable pub IsNew : Config → Rules → Node → ℕ → ClientOp → Type 0
   IsNew c rules n call (op.Commit db writes) = refusal c rules n (op.Commit db writes) ≡ None → Q db call writes
   IsNew c rules n call (op.Read db key) = refusal c rules n (op.Read db key) ≡ None → is_persistent (kind_at c db) ≡ false → P db key call (op.Read db key)
+  IsNew c rules n call (op.Unlock db key) = Unit {0}
   IsNew c rules n call asked = refusal c rules n asked ≡ None → P (db_of asked) (key_of asked) call asked
 
   wants_calls : (c : Config) (rules : Rules) (me call db : ℕ) (key : List ℕ) (asked : ClientOp) (t : Turn) → P db key call asked → CallsAre t.node → CallsAre (at_record c me db key (λ at o. want at rules call asked o) t).node

@@ -1,9 +1,8 @@
-//! The law of addresses, through every list of steps.
+//! The law of addresses, rule by rule.
 //!
-//! The law of addresses over one step: whatever step is taken, what holds of addresses is kept, and its labels need no more.
+//! Where addresses are in every run: each step keeps what holds of placements, and the registers accept its labels.
 //!
-//! The law of records, of generations and of addresses through every list of steps: the registers accept all that is told but of
-//! persistent databases, and the cluster stands for them.
+//! What takeover runs and rounds do to addresses: the facts of addresses hold after each rule, and its labels need no more.
+//!
+//! What rounds, stops and retries do to addresses: the facts of addresses hold after each, and its labels need no more.
 #![tactic(auto)]
-
-pub mod laws;

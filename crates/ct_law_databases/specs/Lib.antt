@@ -1,1 +1,1 @@
-pub mod Databases
+pub mod Placeless

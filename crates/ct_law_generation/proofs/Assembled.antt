@@ -20,36 +20,36 @@ use Rattle.ct_rules_cluster.specs.declared.step.PendingCall.{PendingCall}
 use Rattle.ct_rules_cluster.specs.Steps.{Stepped, steps, steps_or, applied, done, drop, put}
 use Rattle.ct_rules_cluster.specs.Traces as traces
 use Rattle.ct_rules_cluster.specs.Traces.{own_labels}
-use Rattle.ct_law_generation_node.specs.Waiting.{outcome, unchanged, came_of, told_lines, answerable, told_step}
+use Rattle.ct_law_generation.specs.Waiting.{outcome, unchanged, came_of, told_lines, answerable, told_step}
 use Rattle.ct_rules_cluster.specs.declared.step.Step.{Step}
 use Rattle.ct_rules_cluster.specs.declared.step.Step.TheVariants as step
 use Rattle.ct_rules_cluster.specs.declared.step.StepFault.{StepFault}
 use Rattle.ct_register.specs.Lines.{Lines}
 use Rattle.ct_promise.specs.Generation.{speaks_of_records, record_labels}
-use Rattle.ct_law_generation_node.specs.Shown.{Era, IsOfLine, told_by_all, labels_of, Schedules, AllInstalled}
-use Rattle.ct_law_generation_node.proofs.Pending.{Callers}
-use Rattle.ct_law_generation_cluster.proofs.Clusters.{ClusterStays}
-use Rattle.ct_law_generation_node.proofs.Lining.{Is_fit, fit_own, fit_told}
-use Rattle.ct_law_generation_beside.proofs.Retrying.{retry_cluster}
+use Rattle.ct_law_generation.specs.Shown.{Era, IsOfLine, told_by_all, labels_of, Schedules, AllInstalled}
+use Rattle.ct_law_generation.proofs.Pending.{Callers}
+use Rattle.ct_law_generation.proofs.Clusters.{ClusterStays}
+use Rattle.ct_law_generation.proofs.Lining.{Is_fit, fit_own, fit_told}
+use Rattle.ct_law_generation.proofs.Retrying.{retry_cluster}
 use Rattle.ct_rules_cluster.specs.declared.step.Line.{Line}
 use Rattle.ct_rules_node.specs.Clients as clients
 use Rattle.ct_rules_node.specs.Clients.{client, refusal}
-use Rattle.ct_law_generation_cluster.proofs.Admitted.{admits, may_lock, may_read, may_write, may_apply}
-use Rattle.ct_law_generation_cluster.proofs.Served.{call_kind, has_database, serves_lock, serves_read, serves_write, serves_apply}
-use Rattle.ct_law_generation_cluster.proofs.Clients.{wants_go}
-use Rattle.ct_law_generation_cluster.proofs.Locked.{stores_go, unlocks_go}
-use Rattle.ct_law_record_facts.specs.World as law
-use Rattle.ct_law_record_facts.specs.Labels as law_labels
-use Rattle.ct_law_generation_node.proofs.Following.{IsEra}
-use Rattle.ct_law_generation_node.proofs.Hearing.{told_by_more, labels_are}
+use Rattle.ct_law_generation.proofs.Admitted.{admits, may_lock, may_read, may_write, may_apply}
+use Rattle.ct_law_generation.proofs.Served.{call_kind, has_database, serves_lock, serves_read, serves_write, serves_apply}
+use Rattle.ct_law_generation.proofs.Clients.{wants_go}
+use Rattle.ct_law_generation.proofs.Locked.{stores_go, unlocks_go}
+use Rattle.ct_law_record.specs.World as law
+use Rattle.ct_law_record.specs.Labels as law_labels
+use Rattle.ct_law_generation.proofs.Following.{IsEra}
+use Rattle.ct_law_generation.proofs.Hearing.{told_by_more, labels_are}
 use Rattle.ct_frame.specs.Fields.{is_db}
-use Rattle.ct_law_generation_cluster.proofs.Called.{counted, called_by}
-use Rattle.ct_law_generation_node.proofs.Calling.{own_pending}
-use Rattle.ct_law_generation_cluster.proofs.Fed.{fed_is}
-use Rattle.ct_law_generation_cluster.proofs.Vacuumed.{vacuum_fed}
-use Rattle.ct_law_generation_cluster.proofs.Coming.{Cluster_goes, fate_goes, able_goes}
+use Rattle.ct_law_generation.proofs.Called.{counted, called_by}
+use Rattle.ct_law_generation.proofs.Calling.{own_pending}
+use Rattle.ct_law_generation.proofs.Fed.{fed_is}
+use Rattle.ct_law_generation.proofs.Vacuumed.{vacuum_fed}
+use Rattle.ct_law_generation.proofs.Coming.{Cluster_goes, fate_goes, able_goes}
 use Rattle.ct_lcp2.proofs.Choices.{all_append}
-use Rattle.ct_law_generation_cluster.proofs.Faulting.{runs}
+use Rattle.ct_law_generation.proofs.Faulting.{runs}
 use Rattle.ct_promise.proofs.Follows.{filter_more}
 
 -- the cluster goes on, and tells these labels, all of the line

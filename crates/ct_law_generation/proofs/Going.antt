@@ -6,7 +6,7 @@ use Rattle.ct_frame.specs.Fields.{is_node}
 use Rattle.ct_call.specs.Rules.{Rules}
 use Rattle.ct_rules_node.specs.Node.{master_of, state_at}
 use Rattle.ct_rules_cluster.specs.Cluster.{Cluster, is_up, node_at}
-use Rattle.ct_law_generation_node.specs.Waiting.{Outcome, outcome}
+use Rattle.ct_law_generation.specs.Waiting.{Outcome, outcome}
 use Rattle.ct_rules_cluster.specs.declared.step.Step.{Step}
 use Rattle.ct_register.specs.Register.{Register}
 use Rattle.ct_register.specs.Lines.{Lines}
@@ -15,21 +15,21 @@ use Rattle.ct_register.specs.Marks.{Marks, MarksStep}
 use Rattle.ct_promise.specs.Generation.{record_labels}
 use Rattle.ct_promise.specs.Marked.{LineMarks, MarksGoOnIn, is_removed}
 use Rattle.ct_promise.specs.Kept.{RecordsHold}
-use Rattle.ct_law_record_facts.specs.Labels.{AcceptsAll}
-use Rattle.ct_law_record_facts.specs.Labels as law
-use Rattle.ct_law_record_facts.specs.World.{Scene, World, Event, trace, last}
-use Rattle.ct_law_record_facts.specs.Marked as law_marked
-use Rattle.ct_law_record_facts.proofs.Rule
-use Rattle.ct_law_record_facts.proofs.Invariant.{Ghost}
+use Rattle.ct_law_record.specs.Labels.{AcceptsAll}
+use Rattle.ct_law_record.specs.Labels as law
+use Rattle.ct_law_record.specs.World.{Scene, World, Event, trace, last}
+use Rattle.ct_law_record.specs.Marked as law_marked
+use Rattle.ct_law_record.proofs.Rule
+use Rattle.ct_law_record.proofs.Invariant.{Ghost}
 use Rattle.ct_law_record.proofs.Worlds.{WorldInv, nodes_at}
 use Rattle.ct_law_record.proofs.Law
 use Rattle.ct_law_record.proofs.MarkedRun.{Through, marks_of, marks_hold, unmarked, run_marks}
-use Rattle.ct_law_generation_node.specs.Shown.{Era, scene, project, IsOfLine, Schedules}
-use Rattle.ct_law_generation_node.proofs.Weave.{weave}
-use Rattle.ct_law_generation_node.proofs.Hearing.{accepts_heard}
-use Rattle.ct_law_generation_cluster.proofs.Holding.{Lined, SeenWithin, records_hold}
-use Rattle.ct_law_generation_entries.proofs.Removing.{removed_as_told, removed_in_records, removed_heard}
-use Rattle.ct_law_generation_entries.proofs.Clearing.{AllAscend, step_clears}
+use Rattle.ct_law_generation.specs.Shown.{Era, scene, project, IsOfLine, Schedules}
+use Rattle.ct_law_generation.proofs.Weave.{weave}
+use Rattle.ct_law_generation.proofs.Hearing.{accepts_heard}
+use Rattle.ct_law_generation.proofs.Holding.{Lined, SeenWithin, records_hold}
+use Rattle.ct_law_generation.proofs.Removing.{removed_as_told, removed_in_records, removed_heard}
+use Rattle.ct_law_generation.proofs.Clearing.{AllAscend, step_clears}
 
 -- ---- one record
 
@@ -41,9 +41,9 @@ pub seen_within : (s : Scene) (w : World) (r : Register) (g : Ghost) → WorldIn
 seen_within s w r g h = subst SeenWithin h.register (λ n. (let a = (h.nodes n).seen in let b = h.all.within (Rule.rank (nodes_at s w n).copy) in omega arith))
 
 -- the marks of a record that is removed only with its entry make one step through a schedule
-pub marks_step : (b : Bool) (m n : Marks) → Through b m n → (b ≡ true → n.marks ≡ []) → MarksStep b m n
+pub marks_step : (b : Bool) (m n : Marks) → Through b m n → (b ≡ true → (n.marks ≡ []) × (n.site ≡ None)) → MarksStep b m n
 unfolding Through
-marks_step true m n h none = (none refl, h.1)
+marks_step true m n h none = (let k = none refl in (k.0, h.1, k.1))
 marks_step false m n h none = h
 
 -- ---- all records
@@ -120,7 +120,7 @@ step_goes c era rules w r ghosts s es may f sched =
     same db key = sym (removed_in_records c r era.number db key (outcome c rules w s).trace) ∙ removed_as_told c r era.number db key (record_labels c (outcome c rules w s).trace) may.line
         ∙ sym (ap law_marked.is_removed (sched db key).1) ∙ removed_heard (trace (at db key) (now db key) (es db key))
 
-    emptied : (db : ℕ) (key : List ℕ) → is_removed r era.number db key (outcome c rules w s).trace ≡ true → (marks_of (went db key).1).marks ≡ []
+    emptied : (db : ℕ) (key : List ℕ) → is_removed r era.number db key (outcome c rules w s).trace ≡ true → ((marks_of (went db key).1).marks ≡ []) × ((marks_of (went db key).1).site ≡ None)
     emptied db key t =
         let k = step_clears c rules r era.number db key w s may.order t in
         let home : k.node ≡ master_of era.members key = k.master ∙ ap (λ (ms : List ℕ). master_of ms key) (may.knows k.node k.up) in

@@ -1,7 +1,7 @@
 -- A client's call, refused, on a record or on a persistent database: the run goes on.
-use Rattle.std.proofs.Common.{◌≡◌, ℕ, ◌+◌, Bool, true, false, cond, List, [], ◌∷◌, ◌++◌, Option, Some, None, refl, sym, ap, ◌∙◌, arith, subst, ⊎_elim, ◌≤◌}
+use Rattle.std.proofs.Common.{◌≡◌, ℕ, ◌+◌, Bool, true, false, not, cond, List, [], ◌∷◌, ◌++◌, Option, Some, None, refl, sym, ap, ◌∙◌, arith, subst, ⊎_elim, ◌≤◌}
 use Rattle.std.specs.List.{AllByRecursion}
-use Rattle.std.proofs.lemmas.Bool.{eq-eqb, cases_Bool}
+use Rattle.std.proofs.lemmas.Bool.{eq-eqb, not-true, cases_Bool}
 use Rattle.ct_values.specs.Client.{db_of, is_read}
 use Rattle.ct_values.specs.declared.client.Answer.TheVariants as answer
 use Rattle.ct_values.specs.declared.client.ClientOp.{ClientOp}
@@ -26,30 +26,30 @@ use Rattle.ct_rules_cluster.specs.Labels.{Label, Answered, Begun}
 use Rattle.ct_rules_cluster.specs.Steps.{Stepped, put, steps}
 use Rattle.ct_rules_cluster.specs.Traces as traces
 use Rattle.ct_rules_cluster.specs.Traces.{own_labels}
-use Rattle.ct_law_generation_node.specs.Waiting.{answered, told_lines, answerable, told_step}
+use Rattle.ct_law_generation.specs.Waiting.{answered, told_lines, answerable, told_step}
 use Rattle.ct_rules_cluster.specs.declared.step.Line.{Line}
 use Rattle.ct_rules_cluster.specs.declared.step.PendingCall.{PendingCall}
 use Rattle.ct_rules_cluster.specs.declared.step.Step.TheVariants as step
 use Rattle.ct_promise.specs.Generation.{speaks_of_records, record_labels}
-use Rattle.ct_law_record_facts.specs.World as law
-use Rattle.ct_law_generation_node.specs.Shown.{Era, is_telling, told_by, told_by_all, labels_of, IsOfLine, Schedules}
-use Rattle.ct_law_generation_node.proofs.Hearing.{told_by_more}
-use Rattle.ct_law_generation_node.proofs.Pending.{Callers}
-use Rattle.ct_law_generation_cluster.proofs.Clusters.{ClusterStays}
-use Rattle.ct_law_generation_cluster.proofs.Coming.{Cluster_goes}
-use Rattle.ct_law_generation_cluster.proofs.Counting.{own_caller, more_calls}
-use Rattle.ct_law_generation_node.proofs.Delivering.{projected}
-use Rattle.ct_law_generation_node.proofs.Calling.{own_pending, Goes}
-use Rattle.ct_law_generation_cluster.proofs.Called.{counted, called_by, call_goes}
-use Rattle.ct_law_generation_cluster.proofs.Admitted.{admits}
-use Rattle.ct_law_generation_cluster.proofs.Served.{client_serves, record_kind}
-use Rattle.ct_law_generation_cluster.proofs.Refused.{untold, refused_follows}
-use Rattle.ct_law_generation_cluster.proofs.Configured.{refusals_silent}
-use Rattle.ct_law_generation_cluster.proofs.Fed.{fed_is}
-use Rattle.ct_law_generation_beside.proofs.Committed.{own_untold, commit_beside, not_after, read_pair_beside, commit_kind, commit_goes, read_pair_goes}
+use Rattle.ct_law_record.specs.World as law
+use Rattle.ct_law_generation.specs.Shown.{Era, is_telling, told_by, told_by_all, labels_of, IsOfLine, Schedules}
+use Rattle.ct_law_generation.proofs.Hearing.{told_by_more}
+use Rattle.ct_law_generation.proofs.Pending.{Callers}
+use Rattle.ct_law_generation.proofs.Clusters.{ClusterStays}
+use Rattle.ct_law_generation.proofs.Coming.{Cluster_goes}
+use Rattle.ct_law_generation.proofs.Counting.{own_caller, more_calls}
+use Rattle.ct_law_generation.proofs.Delivering.{projected}
+use Rattle.ct_law_generation.proofs.Calling.{own_pending, Goes}
+use Rattle.ct_law_generation.proofs.Called.{counted, called_by, call_goes}
+use Rattle.ct_law_generation.proofs.Admitted.{admits}
+use Rattle.ct_law_generation.proofs.Served.{client_serves, record_kind}
+use Rattle.ct_law_generation.proofs.Refused.{untold, refused_follows}
+use Rattle.ct_law_generation.proofs.Configured.{refusals_silent}
+use Rattle.ct_law_generation.proofs.Fed.{fed_is}
+use Rattle.ct_law_generation.proofs.Committed.{own_untold, commit_beside, not_after, read_pair_beside, commit_kind, commit_goes, read_pair_goes}
 use Rattle.ct_law_generation.proofs.Assembled.{Starts, Run_goes, Taken_goes, client_turn, counted_calls, lock_taken, read_taken, write_taken, apply_taken, store_taken, unlock_taken}
-use Rattle.ct_law_generation_cluster.proofs.Faulting.{runs}
-use Rattle.ct_law_generation_node.proofs.Hearing.{labels_are}
+use Rattle.ct_law_generation.proofs.Faulting.{runs}
+use Rattle.ct_law_generation.proofs.Hearing.{labels_are}
 use Rattle.ct_register.specs.Lines.{Lines}
 use Rattle.ct_law_generation.proofs.Kept.{client_tells}
 use Rattle.ct_lcp2.proofs.Choices.{all_append}
@@ -138,10 +138,15 @@ unfolding told_by_all told_by
 silent_told db key n o reason true e = refl
 silent_told db key n o reason false e = untold db key n o reason (is_telling (answer.Refused reason)) refl e
 
-silent_own : (c : Config) (line : ℕ) (reg : Lines) (n : ℕ) (o : ClientOp) (reason : Why) (b : Bool) → is_telling (answer.Refused reason) ≡ false → AllByRecursion (IsOfLine c line reg) (cond b (Answered n o (answer.Refused reason) ∷ []) [])
+-- of which database a label of records speaks
+speaking : (c : Config) (n : ℕ) (o : ClientOp) (reason : Why) → not (node.is_persistent (node.kind_at c (db_of o))) ≡ speaks_of_records c (Answered n o (answer.Refused reason))
+unfolding speaks_of_records
+speaking c n o reason = refl
+
+silent_own : (c : Config) (line : ℕ) (reg : Lines) (n : ℕ) (o : ClientOp) (reason : Why) (b : Bool) → not (node.is_persistent (node.kind_at c (db_of o))) ≡ b → is_telling (answer.Refused reason) ≡ false → AllByRecursion (IsOfLine c line reg) (cond b (Answered n o (answer.Refused reason) ∷ []) [])
 unfolding IsOfLine
-silent_own c line reg n o reason true e = ((λ t. absurd (cc)), tt)
-silent_own c line reg n o reason false e = tt
+silent_own c line reg n o reason true speaks e = ((not-true (node.is_persistent (node.kind_at c (db_of o))) speaks, λ t. absurd (cc)), tt)
+silent_own c line reg n o reason false speaks e = tt
 
 refused_goes : (c : Config) (era : Era) (rules : Rules) (who : Callers) (w : Cluster) (ls : List Label) (n : ℕ) (o : ClientOp) (reason : Why) (es : ℕ → List ℕ → List law.Event) → refusal c rules (node_at n (counted w)) o ≡ Some reason → ClusterStays c era rules who w → Schedules c era rules w ls es → is_up n w ≡ true →
     Cluster_goes c era rules (called_by n o w who) (put n (client_turn c rules w n o) [] (counted w)).cluster (ls ++ told_by_call c rules w n o)
@@ -159,7 +164,7 @@ pub refused_taken : (c : Config) (era : Era) (rules : Rules) (reg : Lines) (w : 
 refused_taken c era rules reg w ls n o reason why h =
     call_taken c era rules reg w ls n o
     (subst (λ (l : List Label). AllByRecursion (IsOfLine c era.number reg) (record_labels c l)) (sym (refused_labels c rules w n o reason why))
-    (silent_own c era.number reg n o reason (speaks_of_records c (Answered n o (answer.Refused reason))) (refusals_silent c rules (node_at n (counted w)) o reason why)))
+    (silent_own c era.number reg n o reason (speaks_of_records c (Answered n o (answer.Refused reason))) (speaking c n o reason) (refusals_silent c rules (node_at n (counted w)) o reason why)))
     (λ who es stays sched up. refused_goes c era rules who w ls n o reason es why stays sched up) h
 
 -- ---- a call on a persistent database

@@ -16,20 +16,20 @@ use Rattle.ct_rules_node.specs.Steps.{arrives, vacuum_all, vacuums}
 use Rattle.ct_rules_cluster.specs.Cluster.{Cluster, Sent, is_up, node_at, pending}
 use Rattle.ct_rules_cluster.specs.Labels.{Label}
 use Rattle.ct_rules_cluster.specs.declared.step.PendingCall.{PendingCall}
-use Rattle.ct_law_record_facts.specs.World.{World, Vacuums, waiting_call}
-use Rattle.ct_law_generation_node.specs.Shown.{Era, Finds, scene, project, amid, labels_of}
-use Rattle.ct_law_generation_node.proofs.Pending.{Callers}
-use Rattle.ct_law_generation_node.proofs.Staying.{NodeStays, AllWishes}
-use Rattle.ct_law_generation_node.proofs.Events.{arrives_at, arrives_not}
-use Rattle.ct_law_generation_node.proofs.Following.{Asks, Goes_on, follows, finds_waiting, asks_here}
-use Rattle.ct_law_generation_node.proofs.Delivering.{IsShown, projected, project_shown, shown_begins, has_place, current_here, delivery_comes}
-use Rattle.ct_law_generation_cluster.proofs.Clusters.{all_known}
-use Rattle.ct_law_generation_cluster.proofs.Vacuumed.{Found, vacuumed, vacuum_comes, finds_waited, waited_on, whole_before, asks_amid, goes_more}
+use Rattle.ct_law_record.specs.World.{World, Vacuums, waiting_call}
+use Rattle.ct_law_generation.specs.Shown.{Era, Finds, scene, project, amid, labels_of}
+use Rattle.ct_law_generation.proofs.Pending.{Callers}
+use Rattle.ct_law_generation.proofs.Staying.{NodeStays, AllWishes}
+use Rattle.ct_law_generation.proofs.Events.{arrives_at, arrives_not}
+use Rattle.ct_law_generation.proofs.Following.{Asks, Goes_on, follows, finds_waiting, asks_here}
+use Rattle.ct_law_generation.proofs.Delivering.{IsShown, projected, project_shown, shown_begins, has_place, current_here, delivery_comes}
+use Rattle.ct_law_generation.proofs.Clusters.{all_known}
+use Rattle.ct_law_generation.proofs.Vacuumed.{Found, vacuumed, vacuum_comes, finds_waited, waited_on, whole_before, asks_amid, goes_more}
 use Rattle.ct_law_generation.proofs.Assembled.{Starts, Starts_at, starts_at, Run_goes, Tells}
 use Rattle.ct_law_generation.proofs.Kept.{event_kept}
-use Rattle.ct_law_generation_node.proofs.Plain.{plain_at}
+use Rattle.ct_law_generation.proofs.Plain.{plain_at}
 use Rattle.ct_register.specs.Lines.{Lines}
-use Rattle.ct_law_generation_cluster.proofs.Coming.{goes_nowhere}
+use Rattle.ct_law_generation.proofs.Coming.{goes_nowhere}
 
 -- ---- a message of a record
 

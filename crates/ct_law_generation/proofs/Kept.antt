@@ -26,22 +26,22 @@ use Rattle.ct_rules_cluster.specs.Faults.{fault_of}
 use Rattle.ct_rules_cluster.specs.Steps.{Stepped, steps}
 use Rattle.ct_rules_cluster.specs.declared.step.PendingCall.{PendingCall}
 use Rattle.ct_rules_cluster.specs.declared.step.Step.TheVariants as step
-use Rattle.ct_law_record_facts.specs.World.{World, Event, Wants, Stores, Unlocks, own_call, may_want}
-use Rattle.ct_law_generation_node.specs.Shown.{Era, project, labels_of}
-use Rattle.ct_law_generation_node.proofs.Hearing.{labels_more}
-use Rattle.ct_law_generation_node.proofs.Pending.{Callers}
-use Rattle.ct_law_generation_node.proofs.Staying.{NodeStays, phase_of}
-use Rattle.ct_law_generation_node.proofs.Following.{Comes_to, fair}
-use Rattle.ct_law_generation_node.proofs.Delivering.{projected}
-use Rattle.ct_law_generation_node.proofs.Calling.{own_pending, Calls_at, wants_come, stores_come, unlocks_come}
-use Rattle.ct_law_generation_cluster.proofs.Called.{counted, called_by, calls_at}
-use Rattle.ct_law_generation_cluster.proofs.Admitted.{admits, may_lock, may_read, may_write, may_apply, may_store, may_unlock}
-use Rattle.ct_law_generation_cluster.proofs.Served.{client_serves, call_kind, serves_lock, serves_read, serves_write, serves_apply, serves_store, serves_unlock}
-use Rattle.ct_law_generation_beside.proofs.Committed.{commit_kind}
-use Rattle.ct_law_generation_node.proofs.Lining.{Is_fit, kept_fit, labels_kept}
-use Rattle.ct_law_generation_cluster.proofs.Fed.{fed_is}
+use Rattle.ct_law_record.specs.World.{World, Event, Wants, Stores, Unlocks, own_call, may_want}
+use Rattle.ct_law_generation.specs.Shown.{Era, project, labels_of}
+use Rattle.ct_law_generation.proofs.Hearing.{labels_more}
+use Rattle.ct_law_generation.proofs.Pending.{Callers}
+use Rattle.ct_law_generation.proofs.Staying.{NodeStays, phase_of}
+use Rattle.ct_law_generation.proofs.Following.{Comes_to, fair}
+use Rattle.ct_law_generation.proofs.Delivering.{projected}
+use Rattle.ct_law_generation.proofs.Calling.{own_pending, Calls_at, wants_come, stores_come, unlocks_come}
+use Rattle.ct_law_generation.proofs.Called.{counted, called_by, calls_at}
+use Rattle.ct_law_generation.proofs.Admitted.{admits, may_lock, may_read, may_write, may_apply, may_store, may_unlock}
+use Rattle.ct_law_generation.proofs.Served.{client_serves, call_kind, serves_lock, serves_read, serves_write, serves_apply, serves_store, serves_unlock}
+use Rattle.ct_law_generation.proofs.Committed.{commit_kind}
+use Rattle.ct_law_generation.proofs.Lining.{Is_fit, kept_fit, labels_kept}
+use Rattle.ct_law_generation.proofs.Fed.{fed_is}
 use Rattle.ct_law_generation.proofs.Assembled.{Starts, Starts_at, starts_at, Run_goes, Tells, client_turn}
-use Rattle.ct_law_generation_cluster.proofs.Faulting.{runs}
+use Rattle.ct_law_generation.proofs.Faulting.{runs}
 use Rattle.ct_register.specs.Lines.{Lines}
 use Rattle.ct_lcp2.proofs.Choices.{all_append}
 

@@ -13,26 +13,27 @@ use Rattle.ct_promise.specs.Born.{Rows, IsBornWith, log_of, BornRegisters, Promi
 use Rattle.ct_promise.specs.Marked.{LineMarks}
 use Rattle.ct_promise.specs.Kept.{RunsFrom, LawOfOneGeneration, LawFromRows}
 use Rattle.ct_promise.specs.Generation.{PromiseOfOneGeneration}
+use Rattle.ct_promise.proofs.Opened.{everyone_is}
 use Rattle.ct_promise.proofs.Follows.{one_generation_follows, rows_follow}
-use Rattle.ct_law_record_facts.specs.World.{World}
-use Rattle.ct_law_record_facts.proofs.Invariant.{Ghost}
+use Rattle.ct_law_record.specs.World.{World}
+use Rattle.ct_law_record.proofs.Invariant.{Ghost}
 use Rattle.ct_law_record.proofs.Worlds.{WorldInv}
 use Rattle.ct_law_record.proofs.Law.{bare_ghost, bare_holds}
 use Rattle.ct_law_record.proofs.Births.{born_ghost, born_holds}
 use Rattle.ct_law_record.proofs.MarkedLaw.{bare_marks}
-use Rattle.ct_law_generation_node.specs.Shown.{scene, project}
-use Rattle.ct_law_generation_node.proofs.Pending.{Callers}
-use Rattle.ct_law_generation_cluster.proofs.Clusters.{all_known}
-use Rattle.ct_law_generation_cluster.proofs.Configured.{all_real, all_small}
-use Rattle.ct_law_generation_cluster.proofs.Opening.{first_era, first_is_era, below_everyone, opened_world, opened_stays}
-use Rattle.ct_law_generation_births.proofs.BornWorlds.{era_from}
-use Rattle.ct_law_generation_births.proofs.BornStarts.{born_real, each_begins, born_line, born_installed, born_holder}
-use Rattle.ct_law_generation_births.proofs.BornCalls.{callers_in}
-use Rattle.ct_law_generation_births.proofs.BornStays.{born_stays}
-use Rattle.ct_law_generation_calls.proofs.Running.{opened_calls}
-use Rattle.ct_law_generation_calls.proofs.Born.{born_calls}
+use Rattle.ct_law_generation.specs.Shown.{scene, project}
+use Rattle.ct_law_generation.proofs.Pending.{Callers}
+use Rattle.ct_law_generation.proofs.Clusters.{all_known}
+use Rattle.ct_law_generation.proofs.Configured.{all_real, all_small}
+use Rattle.ct_law_generation.proofs.Opening.{first_era, first_is_era, below_everyone, opened_world, opened_stays}
+use Rattle.ct_law_generation.proofs.BornWorlds.{era_from}
+use Rattle.ct_law_generation.proofs.BornStarts.{born_real, each_begins, born_line, born_installed, born_holder}
+use Rattle.ct_law_generation.proofs.BornCalls.{callers_in}
+use Rattle.ct_law_generation.proofs.BornStays.{born_stays}
+use Rattle.ct_law_generation.proofs.CallsRun.{opened_calls}
+use Rattle.ct_law_generation.proofs.Born.{born_calls}
 use Rattle.ct_law_generation.proofs.Going.{Ghosts, marks_of_all, Followed}
-use Rattle.ct_law_generation_entries.proofs.Entries.{opening_home, born_home}
+use Rattle.ct_law_generation.proofs.Entries.{opening_home, born_home}
 use Rattle.ct_law_generation.proofs.Running.{IsGeneration, Lives, restart, runs_from}
 
 -- ---- from the opening
@@ -57,7 +58,7 @@ unfolding opening
 opened_lives c rules = record {
   who = no_callers;
   stays = restart c (first_era c) rules no_callers (opening c) (λ db key. project 1 db key (opening c)) (opened_stays c rules no_callers);
-  line = record { inside = λ n among. ap (λ b. cond b 1 0) (below_everyone c n among); ready = λ cold. absurd (cc); holder = refl };
+  line = record { born = refl; named = everyone_is c; inside = λ n among. ap (λ b. cond b 1 0) (below_everyone c n among); ready = λ cold. absurd (cc); holder = refl };
   home = opening_home c (λ n. (all_known c (first_era c) rules no_callers (opening c) (opened_stays c rules no_callers) n).order);
   followed = opened_followed c rules;
 }
@@ -85,7 +86,7 @@ born_lives : (config : Config) (g : ℕ) (members : List ℕ) (rules : Rules) (r
 born_lives config g members rules row w r is h b = record {
   who = callers_in w;
   stays = born_stays config (era_from g members w) rules row w refl h;
-  line = record { inside = born_line config w g members row r b; ready = λ _. born_installed config w g members row r b; holder = born_holder config w g members row r b };
+  line = record { born = b.born; named = b.named; inside = born_line config w g members row r b; ready = λ _. born_installed config w g members row r b; holder = born_holder config w g members row r b };
   home = born_home config g members row w h;
   followed = λ db key. (born_ghosts config g members rules row w r is h b db key).1;
 }

@@ -3,18 +3,18 @@ use Rattle.std.proofs.Common.{refl, sym, ap, ◌∷◌, ◌++◌, ◌⊎◌, ◌
 use Rattle.ct_values.specs.declared.config.Config.{Config}
 use Rattle.ct_rules_cluster.specs.Steps.{done, steps, with_fate, deliver, repeat, Stepped, fed, put}
 use Rattle.ct_rules_node.specs.Admission.{record_in}
-use Rattle.ct_law_generation_node.specs.Shown.{Era}
+use Rattle.ct_law_generation.specs.Shown.{Era}
 use Rattle.ct_rules_cluster.specs.Cluster.{Sent, is_up, pending, Fate, Cluster, sent_at, Delivered, Dropped, node_at}
 use Rattle.ct_law_generation.proofs.Passing.{beside_taken, commit_comes, round_comes, is_of_commit}
 use Rattle.ct_rules_cluster.specs.Traces.{own_labels}
-use Rattle.ct_law_generation_node.specs.Waiting.{told_lines, answerable, told_line, told_step}
+use Rattle.ct_law_generation.specs.Waiting.{told_lines, answerable, told_line, told_step}
 use Rattle.ct_call.specs.Rules.{Rules}
-use Rattle.ct_law_generation_beside.proofs.Rounding.{is_beside_records}
+use Rattle.ct_law_generation.proofs.Rounding.{is_beside_records}
 use Rattle.ct_register.specs.Lines.{Lines}
 use Rattle.ct_frame.specs.declared.frame.Msg.{Msg}
 use Rattle.ct_rules_cluster.specs.Labels.{Label}
 use Rattle.ct_law_generation.proofs.Assembled.{Run_goes, Starts, Taken_goes, silent, pending_tells}
-use Rattle.ct_law_generation_cluster.proofs.Coming.{fate_goes}
+use Rattle.ct_law_generation.proofs.Coming.{fate_goes}
 use Rattle.ct_rules_cluster.specs.declared.step.Line.TheVariants as line
 use Rattle.ct_rules_node.specs.Steps as node_steps
 use Rattle.ct_frame.specs.declared.event.Event.TheVariants as event
@@ -27,11 +27,11 @@ use Rattle.std.proofs.lemmas.Bool.{cond_both}
 use Rattle.ct_rules_node.specs.Turn.{Turn, begins}
 use Rattle.ct_rules_cluster.specs.declared.step.StepFault.{StepFault}
 use Rattle.ct_rules_node.specs.Steps.{arrives}
-use Rattle.ct_law_generation_cluster.proofs.Fed.{Taken, fed_is}
+use Rattle.ct_law_generation.proofs.Fed.{Taken, fed_is}
 use Rattle.ct_law_generation.proofs.Keeping.{message_kept}
 use Rattle.ct_law_generation.proofs.Thawing.{thaw_taken}
-use Rattle.ct_law_generation_cluster.proofs.Delivered.{fed_goes}
-use Rattle.ct_law_generation_node.proofs.Plain.{not_newer, plain_at}
+use Rattle.ct_law_generation.proofs.Delivered.{fed_goes}
+use Rattle.ct_law_generation.proofs.Plain.{not_newer, plain_at}
 
 -- ---- every message
 

@@ -20,33 +20,33 @@ use Rattle.ct_rules_cluster.specs.Cluster.{Cluster, is_up, node_at, pending, abl
 use Rattle.ct_rules_cluster.specs.Labels.{Label}
 use Rattle.ct_rules_cluster.specs.Steps.{Stepped, put, steps}
 use Rattle.ct_rules_cluster.specs.Traces as traces
-use Rattle.ct_law_generation_node.specs.Waiting.{answerable, told_step}
+use Rattle.ct_law_generation.specs.Waiting.{answerable, told_step}
 use Rattle.ct_rules_cluster.specs.Traces.{own_labels}
 use Rattle.ct_rules_cluster.specs.declared.step.PendingCall.{PendingCall}
 use Rattle.ct_rules_cluster.specs.declared.step.Step.{Step}
 use Rattle.ct_rules_cluster.specs.declared.step.Step.TheVariants as step
 use Rattle.ct_promise.specs.Generation.{record_labels, speaks_of_records}
-use Rattle.ct_law_generation_node.specs.Shown.{Era, labels_of, IsOfLine, scene}
-use Rattle.ct_law_generation_node.proofs.Pending.{Callers, pending_fits, NodeKnown, DatabaseKnown}
-use Rattle.ct_law_generation_cluster.proofs.Clusters.{all_known}
-use Rattle.ct_law_generation_cluster.proofs.Coming.{Cluster_goes}
-use Rattle.ct_law_generation_cluster.proofs.Fed.{fed_is}
-use Rattle.ct_law_generation_beside.proofs.Committed.{beside_none, not_after, pupdate_beside, pack_beside, waiting_untold, Goes_beside, beside_goes}
+use Rattle.ct_law_generation.specs.Shown.{Era, labels_of, IsOfLine, scene}
+use Rattle.ct_law_generation.proofs.Pending.{Callers, pending_fits, NodeKnown, DatabaseKnown}
+use Rattle.ct_law_generation.proofs.Clusters.{all_known}
+use Rattle.ct_law_generation.proofs.Coming.{Cluster_goes}
+use Rattle.ct_law_generation.proofs.Fed.{fed_is}
+use Rattle.ct_law_generation.proofs.Committed.{beside_none, not_after, pupdate_beside, pack_beside, waiting_untold, Goes_beside, beside_goes}
 use Rattle.ct_law_generation.proofs.Assembled.{Run_goes, Taken_goes, turn_taken}
-use Rattle.ct_law_generation_cluster.proofs.Faulting.{runs}
+use Rattle.ct_law_generation.proofs.Faulting.{runs}
 use Rattle.ct_register.specs.Lines.{Lines}
-use Rattle.ct_law_generation_beside.proofs.Asides.{Beside, beside_views, Settled, beside_mail, beside_keeps, beside_labels}
-use Rattle.ct_law_generation_node.proofs.Plain.{IsPlain}
+use Rattle.ct_law_generation.proofs.Asides.{Beside, beside_views, Settled, beside_mail, beside_keeps, beside_labels}
+use Rattle.ct_law_generation.proofs.Plain.{IsPlain}
 use Rattle.ct_rules_node.specs.Node.{Node, db_at, Database, or_untouched}
 use Rattle.ct_rules_cluster.specs.Faults.{fault_of}
-use Rattle.ct_law_generation_beside.proofs.Rounding.{is_beside_records, arrives_beside, begin_takeover_beside}
-use Rattle.ct_law_generation_node.proofs.Staying.{NodeStays, Of_records}
-use Rattle.ct_law_generation_node.proofs.Delivering.{begun}
+use Rattle.ct_law_generation.proofs.Rounding.{is_beside_records, arrives_beside, begin_takeover_beside}
+use Rattle.ct_law_generation.proofs.Staying.{NodeStays, Of_records}
+use Rattle.ct_law_generation.proofs.Delivering.{begun}
 use Rattle.ct_law_rules_node.specs.NodeLaws.{AllAscend}
 use Rattle.ct_rules_node.specs.Takeovers.{begin_takeover}
-use Rattle.ct_law_record_facts.specs.World.{View}
-use Rattle.ct_law_record_wishes.proofs.Wishing.{Wishful}
-use Rattle.ct_law_generation_node.proofs.Forming.{Is_formed}
+use Rattle.ct_law_record.specs.World.{View}
+use Rattle.ct_law_wishes.proofs.Wishing.{Wishful}
+use Rattle.ct_law_generation.proofs.Forming.{Is_formed}
 
 -- ---- a step beside the records
 

@@ -13,10 +13,10 @@ use Rattle.ct_rules_cluster.specs.Cluster.{Cluster, Sent, Fate, Delivered, Dropp
 use Rattle.ct_rules_cluster.specs.Faults.{fault_of, is_allowed}
 use Rattle.ct_rules_cluster.specs.Steps.{Stepped, with_node, put, fed, done, with_fate, deliver, drop, repeat, steps, steps_or, applied}
 use Rattle.ct_rules_cluster.specs.Traces.{OpenCall, ran_one}
-use Rattle.ct_law_generation_node.specs.Waiting.{Outcome, unchanged, came_of, outcome, outcome_of}
-use Rattle.ct_law_generation_calls.proofs.Clusters.{Calls}
-use Rattle.ct_law_generation_calls.proofs.Telling.{by_log, calls_stand}
-use Rattle.ct_law_generation_calls.proofs.Running.{one_logs}
+use Rattle.ct_law_generation.specs.Waiting.{Outcome, unchanged, came_of, outcome, outcome_of}
+use Rattle.ct_law_generation.proofs.CallsOpen.{Calls}
+use Rattle.ct_law_generation.proofs.CallsTold.{by_log, calls_stand}
+use Rattle.ct_law_generation.proofs.CallsRun.{one_logs}
 use Rattle.ct_rules_cluster.specs.declared.step.Line.{Line}
 use Rattle.ct_rules_cluster.specs.declared.step.Line.TheVariants as line
 use Rattle.ct_rules_cluster.specs.declared.step.Step.{Step}
@@ -29,25 +29,25 @@ use Rattle.ct_register.specs.Marks.{Mark, Marks, GoOn, AreFrom, MarksStep}
 use Rattle.ct_promise.specs.Generation.{is_of_one_generation, speaks_of_records, record_labels}
 use Rattle.ct_promise.specs.Marked.{MarksGoOnIn, is_removal}
 use Rattle.ct_promise.specs.Kept.{RecordsHold, RecordsRun, RunsFrom}
-use Rattle.ct_law_record_facts.specs.World as law
-use Rattle.ct_law_record_facts.specs.World.{Scene, World, LeadsTo}
-use Rattle.ct_law_record_facts.proofs.Invariant.{Ghost}
+use Rattle.ct_law_record.specs.World as law
+use Rattle.ct_law_record.specs.World.{Scene, World, LeadsTo}
+use Rattle.ct_law_record.proofs.Invariant.{Ghost}
 use Rattle.ct_law_record.proofs.Worlds.{WorldInv}
 use Rattle.ct_law_record.proofs.Law.{leads}
 use Rattle.ct_law_record.proofs.MarkLists.{marks_stay}
 use Rattle.ct_law_record.proofs.MarkedRun.{marks_of}
-use Rattle.ct_law_generation_node.specs.Shown.{Era, scene, project, AllInstalled, heard, told_by_all, Schedules}
-use Rattle.ct_law_generation_node.proofs.Pending.{Callers}
-use Rattle.ct_law_generation_node.proofs.Staying.{NodeStays}
-use Rattle.ct_law_generation_cluster.proofs.Clusters.{ClusterStays}
-use Rattle.ct_law_generation_node.proofs.Following.{asks_by_law}
-use Rattle.ct_law_generation_cluster.proofs.Fed.{fed_is}
+use Rattle.ct_law_generation.specs.Shown.{Era, scene, project, AllInstalled, heard, told_by_all, Schedules}
+use Rattle.ct_law_generation.proofs.Pending.{Callers}
+use Rattle.ct_law_generation.proofs.Staying.{NodeStays}
+use Rattle.ct_law_generation.proofs.Clusters.{ClusterStays}
+use Rattle.ct_law_generation.proofs.Following.{asks_by_law}
+use Rattle.ct_law_generation.proofs.Fed.{fed_is}
 use Rattle.ct_law_generation.proofs.Assembled.{Run_goes, Starts}
 use Rattle.ct_law_generation.proofs.Stepping.{is_yield, step_goes_on}
-use Rattle.ct_law_generation_beside.proofs.Yielding.{yielded, yields, yield_runs, yield_accepted}
+use Rattle.ct_law_generation.proofs.Yielding.{yielded, yields, yield_runs, yield_accepted}
 use Rattle.ct_law_generation.proofs.Going.{Ghosts, marks_of_all, Followed, followed_hold, era_from, step_goes}
-use Rattle.ct_law_generation_entries.proofs.AtHome.{AllAtHome, step_home}
-use Rattle.ct_law_generation_entries.proofs.Entries.{lined}
+use Rattle.ct_law_generation.proofs.AtHome.{AllAtHome, step_home}
+use Rattle.ct_law_generation.proofs.Entries.{lined}
 
 -- ---- the recovery lock stays where it is
 
@@ -129,9 +129,11 @@ pub record IsGeneration (c : Config) (era : Era) : Type 0 where
   pub positive : 1 ≤ era.number
   pub small : (db : ℕ) → db < length c.dbs → is_db db ≡ true
 
--- the members are in the line of the generation, which they all have installed where not all serve yet; the recovery lock is
--- where the cluster has it
+-- the line of the generation was born with the members, which are in it, and all have installed it where not all serve yet; the
+-- recovery lock is where the cluster has it
 pub record InLine (era : Era) (w : Cluster) (r : Lines) : Type 0 where
+  pub born : r.born era.number ≡ true
+  pub named : r.members era.number ≡ era.members
   pub inside : (n : ℕ) → is_among n era.members ≡ true → r.line n ≡ era.number
   pub ready : era.thawed ≡ false → AllInstalled era.number r
   pub holder : r.holder ≡ w.holder
@@ -147,8 +149,8 @@ pub record Lives (c : Config) (era : Era) (rules : Rules) (w : Cluster) (r : Lin
 -- so the records of the cluster hold with the registers and marks of the line
 pub lives_hold : (c : Config) (era : Era) (rules : Rules) (w : Cluster) (r : Lines) (ghosts : Ghosts) → IsGeneration c era → Lives c era rules w r ghosts → RecordsHold era.number w r (marks_of_all ghosts)
 lives_hold c era rules w r ghosts is h =
-    let l = lined c (era_from era w) rules h.who w r is.positive h.stays h.line.inside h.home in
-    followed_hold c era rules w r ghosts (record { real = l.real; line = l.line; entry = l.entry }) h.followed
+    let l = lined c (era_from era w) rules h.who w r is.positive h.stays h.line.inside h.line.born h.line.named h.home in
+    followed_hold c era rules w r ghosts (record { real = l.real; line = l.line; entry = l.entry; born = l.born; named = l.named; knows = l.knows }) h.followed
 
 -- ---- a generation may be followed from any of its clusters on
 
@@ -209,6 +211,8 @@ pub record After (c : Config) (era : Era) (rules : Rules) (r : Lines) (ghosts : 
 
 still_in_line : (era : Era) (w v : Cluster) (r t : Lines) → t ≡ record r { records = t.records } → v.holder ≡ w.holder → InLine era w r → InLine era v t
 still_in_line era w v r t rest held h = record {
+  born = ap (λ (l : Lines). l.born era.number) rest ∙ h.born;
+  named = ap (λ (l : Lines). l.members era.number) rest ∙ h.named;
   inside = λ n among. ap (λ (l : Lines). l.line n) rest ∙ h.inside n among;
   ready = λ cold m among. ap (λ (l : Lines). l.installed era.number m) rest ∙ h.ready cold m (ap (λ (l : Lines). is_among m (l.members era.number)) (sym rest) ∙ among);
   holder = ap (λ (l : Lines). l.holder) rest ∙ h.holder ∙ sym held;
@@ -255,7 +259,7 @@ unfolding node_at
 yielded_lives c era rules w r ghosts h = record {
   who = h.who;
   stays = restart c (era_from era w) rules h.who (yielded w) (λ db key. project era.number db key (yielded w)) (yielded_stays c (era_from era w) rules h.who w h.stays);
-  line = record { inside = h.line.inside; ready = h.line.ready; holder = refl };
+  line = record { born = h.line.born; named = h.line.named; inside = h.line.inside; ready = h.line.ready; holder = refl };
   home = h.home;
   followed = h.followed;
 }

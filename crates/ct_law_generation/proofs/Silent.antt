@@ -24,18 +24,18 @@ use Rattle.ct_rules_cluster.specs.Cluster.{Cluster, is_up, node_at, pending}
 use Rattle.ct_rules_cluster.specs.Labels.{Label}
 use Rattle.ct_rules_cluster.specs.Traces.{sent_label}
 use Rattle.ct_rules_cluster.specs.declared.step.PendingCall.{PendingCall}
-use Rattle.ct_law_record_facts.specs.World.{View, told, answers, call_of}
-use Rattle.ct_law_generation_node.specs.Shown.{Era, labels_of}
-use Rattle.ct_law_generation_node.proofs.Speaking.{About, Told}
-use Rattle.ct_law_generation_node.proofs.Hearing.{labels_more}
-use Rattle.ct_law_generation_node.proofs.Pending.{Callers}
-use Rattle.ct_law_generation_node.proofs.Staying.{NodeStays, phase_of}
-use Rattle.ct_law_generation_node.proofs.Lining.{record_quiet, Is_fit, sent_fits}
-use Rattle.ct_law_generation_beside.proofs.Retried.{nothing_asked, Just_sends, outs_are, just_passes, calls_at, revokes_at, Retries_at, calls_just, revokes_just, at_all, Sends_each, AllInside, all_passes}
-use Rattle.ct_law_generation_beside.proofs.Resending.{places_in, call_all_is, revoke_in_is, all_inside, pending_inside, resends_of}
-use Rattle.ct_law_generation_beside.proofs.Retrying.{retry_is}
+use Rattle.ct_law_record.specs.World.{View, told, answers, call_of}
+use Rattle.ct_law_generation.specs.Shown.{Era, labels_of}
+use Rattle.ct_law_generation.proofs.Speaking.{About, Told}
+use Rattle.ct_law_generation.proofs.Hearing.{labels_more}
+use Rattle.ct_law_generation.proofs.Pending.{Callers}
+use Rattle.ct_law_generation.proofs.Staying.{NodeStays, phase_of}
+use Rattle.ct_law_generation.proofs.Lining.{record_quiet, Is_fit, sent_fits}
+use Rattle.ct_law_generation.proofs.Retried.{nothing_asked, Just_sends, outs_are, just_passes, calls_at, revokes_at, Retries_at, calls_just, revokes_just, at_all, Sends_each, AllInside, all_passes}
+use Rattle.ct_law_generation.proofs.Resending.{places_in, call_all_is, revoke_in_is, all_inside, pending_inside, resends_of}
+use Rattle.ct_law_generation.proofs.Retrying.{retry_is}
 use Rattle.ct_law_generation.proofs.Assembled.{Starts, Run_goes, Tells}
-use Rattle.ct_law_generation_node.proofs.Following.{node_of}
+use Rattle.ct_law_generation.proofs.Following.{node_of}
 use Rattle.ct_register.specs.Lines.{Lines}
 use Rattle.ct_lcp2.proofs.Choices.{all_append}
 

@@ -3,14 +3,14 @@ use Rattle.std.proofs.Common.{◌≡◌, Bool, true, false, []}
 use Rattle.ct_values.specs.declared.config.Config.{Config}
 use Rattle.ct_rules_cluster.specs.declared.step.Step.{Step}
 use Rattle.ct_promise.specs.Generation.{is_of_one_generation, record_labels}
-use Rattle.ct_law_generation_node.specs.Shown.{Era}
+use Rattle.ct_law_generation.specs.Shown.{Era}
 use Rattle.ct_rules_cluster.specs.Faults.{fault_of}
 use Rattle.ct_call.specs.Rules.{Rules}
 use Rattle.ct_register.specs.Lines.{Lines}
 use Rattle.ct_rules_cluster.specs.Cluster.{Cluster}
 use Rattle.ct_law_generation.proofs.Assembled.{Starts, Run_goes, Taken_goes, step_goes, drop_taken, retry_taken, vacuum_taken, able_taken}
-use Rattle.ct_law_generation_cluster.proofs.Faulting.{runs, vacuum_kind}
-use Rattle.ct_law_generation_node.specs.Waiting.{outcome}
+use Rattle.ct_law_generation.proofs.Faulting.{runs, vacuum_kind}
+use Rattle.ct_law_generation.specs.Waiting.{outcome}
 use Rattle.ct_rules_cluster.specs.declared.step.Step.TheVariants as step
 use Rattle.ct_law_generation.proofs.Joined.{client_joined}
 use Rattle.ct_law_generation.proofs.Messages.{deliver_taken, repeat_taken}

@@ -17,33 +17,33 @@ use Rattle.ct_law_rules_node.specs.NodeLaws.{left_by}
 use Rattle.ct_rules_cluster.specs.Labels.{Noted, Label}
 use Rattle.ct_rules_cluster.specs.declared.step.PendingCall.{PendingCall}
 use Rattle.ct_register.specs.Lines.{Lines}
-use Rattle.ct_law_record_facts.specs.World.{World, waiting_call}
-use Rattle.ct_law_generation_node.specs.Shown.{Era, labels_of, IsOfLine, AllInstalled, Finds, project, scene}
-use Rattle.ct_law_generation_node.proofs.Pending.{Callers}
-use Rattle.ct_law_generation_node.proofs.Following.{Goes_on, known_wish, Asks, asks_here, finds_waiting}
-use Rattle.ct_law_generation_node.proofs.Lining.{Is_fit, kept_fit, labels_kept}
-use Rattle.ct_law_generation_node.proofs.Staying.{NodeStays, AllWishes, Of_records}
-use Rattle.ct_law_generation_cluster.proofs.Vacuumed.{Found, goes_more, finds_waited}
-use Rattle.ct_law_generation_beside.proofs.Thawed.{Thaws_from, Thaws_at, again_fair, again_goes, again_wishes, wants_before, thaws_at, thawing, thawing_goes, thaws_go}
+use Rattle.ct_law_record.specs.World.{World, waiting_call}
+use Rattle.ct_law_generation.specs.Shown.{Era, labels_of, IsOfLine, AllInstalled, Finds, project, scene}
+use Rattle.ct_law_generation.proofs.Pending.{Callers}
+use Rattle.ct_law_generation.proofs.Following.{Goes_on, known_wish, Asks, asks_here, finds_waiting}
+use Rattle.ct_law_generation.proofs.Lining.{Is_fit, kept_fit, labels_kept}
+use Rattle.ct_law_generation.proofs.Staying.{NodeStays, AllWishes, Of_records}
+use Rattle.ct_law_generation.proofs.Vacuumed.{Found, goes_more, finds_waited}
+use Rattle.ct_law_generation.proofs.Thawed.{Thaws_from, Thaws_at, again_fair, again_goes, again_wishes, wants_before, thaws_at, thawing, thawing_goes, thaws_go}
 use Rattle.ct_law_generation.proofs.Assembled.{Starts, Starts_at, starts_at, Tells, Run_goes, pending_tells}
 use Rattle.ct_promise.specs.Generation.{speaks_of_records, is_note_of_records, record_labels}
-use Rattle.ct_law_generation_beside.proofs.Retried.{AllInside}
+use Rattle.ct_law_generation.proofs.Retried.{AllInside}
 use Rattle.ct_law_generation.proofs.Kept.{tells_more}
-use Rattle.ct_law_generation_beside.proofs.Resending.{pending_inside}
+use Rattle.ct_law_generation.proofs.Resending.{pending_inside}
 use Rattle.ct_rules_cluster.specs.Steps.{Stepped, put}
 use Rattle.ct_rules_cluster.specs.Cluster.{Cluster, pending, is_up, node_at}
 use Rattle.ct_frame.specs.declared.frame.Frame.{Frame}
 use Rattle.ct_rules_cluster.specs.declared.step.Step.{Step}
 use Rattle.ct_rules_node.specs.Steps.{arrives}
 use Rattle.ct_rules_cluster.specs.Traces as traces
-use Rattle.ct_law_generation_node.specs.Waiting.{answerable, told_step}
+use Rattle.ct_law_generation.specs.Waiting.{answerable, told_step}
 use Rattle.ct_frame.specs.declared.frame.Msg.TheVariants as msg
 use Rattle.ct_rules_cluster.specs.Traces.{own_labels}
-use Rattle.ct_law_generation_node.proofs.Delivering.{begun}
-use Rattle.ct_law_generation_cluster.proofs.Coming.{Cluster_goes, put_goes, goes_nowhere}
-use Rattle.ct_law_generation_cluster.proofs.Clusters.{all_known}
+use Rattle.ct_law_generation.proofs.Delivering.{begun}
+use Rattle.ct_law_generation.proofs.Coming.{Cluster_goes, put_goes, goes_nowhere}
+use Rattle.ct_law_generation.proofs.Clusters.{all_known}
 use Rattle.ct_rules_node.specs.Admission.{is_sound}
-use Rattle.ct_law_generation_beside.proofs.Rounding.{arrives_thaw}
+use Rattle.ct_law_generation.proofs.Rounding.{arrives_thaw}
 
 -- ---- at one record
 

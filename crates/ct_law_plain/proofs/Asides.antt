@@ -14,7 +14,7 @@ use Rattle.ct_frame.specs.declared.round.Pull.{Pull}
 use Rattle.ct_frame.specs.declared.round.PushBody.{PushBody}
 use Rattle.ct_merge.specs.Gathered.{Gathered}
 use Rattle.ct_store.specs.Map.{look}
-use Rattle.ct_rules_node.specs.Node.{is_frozen_in, Node, Phase, Frozen, Database, Committing, Lead, Nothing, Freezes, Pulls, Installs, Completed, Takeover, Run, NoRun, Releasing, Taking, is_present, is_present_in, master_of, or_untouched, or_nothing, untouched, db_at, with_db, restarted_db, restarted, untouched_all, opening}
+use Rattle.ct_rules_node.specs.Node.{is_frozen_in, Node, Phase, Frozen, Database, Committing, Lead, Nothing, Freezes, Pulls, Installs, Completed, Takeover, Run, NoRun, Releasing, Taking, is_serving, is_present_in, master_of, or_untouched, or_nothing, untouched, db_at, with_db, restarted_db, restarted, untouched_all, opening}
 use Rattle.ct_rules_node.specs.Turn.{Turn, does, with_node, with_lead, with_phase, makes, answers, notes, posts, posts_all}
 use Rattle.ct_rules_node.specs.Records.{with_state}
 use Rattle.ct_rules_node.specs.Clients.{frozen_if_unlocked, any_locked}
@@ -41,7 +41,7 @@ alike_either t u v false f g = g
 
 pub alike_keeps : (t u : Turn) → Alike t u → KeepsCommits t u
 alike_keeps t u a = record {
-  present = λ h. subst (λ (p : Phase). is_present p ≡ true) (sym a.phase) h;
+  serving = λ h. subst (λ (p : Phase). is_serving p ≡ true) (sym a.phase) h;
   waits = λ db w. subst (λ (ds : List Database). waits_in db ds ≡ true) a.dbs w;
   locks = λ key h. subst (λ (ds : List Database). locked_in key ds ≡ true) (sym a.dbs) h;
 }
@@ -179,7 +179,7 @@ retry_lead_alike me t (Completed g members x) =
 pub updates_keeps : (db seq : ℕ) (writes : List Pair) (t : Turn) → KeepsCommits t (updates db seq writes t)
 unfolding updates with_node with_db db_at waits_in locked_in
 updates_keeps db seq writes t = record {
-  present = λ h. h;
+  serving = λ h. h;
   waits = λ k w. sym (like_set (λ (d : Database). is_some d.commit) t.node.dbs db _ refl k) ∙ w;
   locks = λ key h. like_set (λ (d : Database). is_some (or_nothing (look key d.records)).locked) t.node.dbs db _ refl 0 ∙ h;
 }
@@ -191,7 +191,7 @@ on_pupdate_keeps me sender db seq writes t = either_keeps t _ _ _ (updates_keeps
 with_commit_keeps : (db : ℕ) (x : Option Committing) (t : Turn) → (is_some x ≡ true → waits_in db t.node.dbs ≡ true) → KeepsCommits t (with_commit db x t)
 unfolding with_commit with_node with_db db_at locked_in
 with_commit_keeps db x t f = record {
-  present = λ h. h;
+  serving = λ h. h;
   waits = waits_set t.node.dbs db _ f;
   locks = λ key h. like_set (λ (d : Database). is_some (or_nothing (look key d.records)).locked) t.node.dbs db _ refl 0 ∙ h;
 }

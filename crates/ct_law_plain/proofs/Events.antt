@@ -22,7 +22,7 @@ use Rattle.ct_rules_node.specs.Clients.{is_commit, is_unlock, refusal, unlocks, 
 use Rattle.ct_rules_node.specs.Rounds.{Called, want_again_of, want_again, want_all}
 use Rattle.ct_rules_node.specs.Retries.{call_all, revoke_all, revoke_in}
 use Rattle.ct_rules_node.specs.Steps.{vacuum_all, vacuums}
-use Rattle.ct_law_generation_node.proofs.Speaking.{Told, want_told, store_told, unlock_told, vacuum_told, call_again_told, revoke_again_told}
+use Rattle.ct_law_generation.proofs.Speaking.{Told, want_told, store_told, unlock_told, vacuum_told, call_again_told, revoke_again_told}
 use Rattle.ct_law_plain.proofs.Plainly.{IsOfRecord, Speaks, SamePlain, plain_same, plain_after, either_plain, at_record_plain}
 
 -- ---- small words

@@ -1,4 +1,4 @@
--- A commit waits only at a node that is present, and under the lock of its database, from its beginning to its end.
+-- A commit waits only at a node that serves, and under the lock of its database, from its beginning to its end.
 use Rattle.std.proofs.Common.{◌≡◌, ◌≢◌, ℕ, zero, suc, Bool, true, false, cond, List, [], ◌∷◌, set, Option, Some, None, refl, sym, ap, ◌∙◌, subst, arith, inl, inr, ⊎_elim}
 use Rattle.std.specs.Prelude.{◌⊎◌, slice_get, is_some, bytes_eq}
 use Rattle.std.proofs.lemmas.Slice.Eq.{bytes_eq-Decides}
@@ -9,13 +9,19 @@ use Rattle.ct_rules.specs.State.{is_blank}
 use Rattle.ct_rules.specs.Parts.{Moving}
 use Rattle.ct_rules.specs.declared.event.Place.{Place}
 use Rattle.ct_rules.specs.declared.state.RecState.{RecState}
-use Rattle.ct_rules_node.specs.Node.{Node, Phase, Database, is_present, is_persistent, kind_at, name_of, or_untouched, or_nothing, untouched, db_at, state_at, with_db}
+use Rattle.ct_rules_node.specs.Node.{Node, Phase, Serving, Database, is_serving, is_present, is_persistent, kind_at, name_of, or_untouched, or_nothing, untouched, db_at, state_at, with_db}
 use Rattle.ct_rules_node.specs.Turn.{Turn}
 use Rattle.ct_rules_node.specs.Records.{kept, view, put_back, acted, at_record}
 use Rattle.ct_rules_node.specs.Clients.{is_locked, is_committing}
 use Rattle.ct_law_rules_node.proofs.Keys.{kept_others}
 use Rattle.ct_law_plain.proofs.Plainly.{like_set}
 use Rattle.ct_law_plain.proofs.Locking.{KeepsLock}
+
+-- a node that serves is present
+pub serves_present : (p : Phase) → is_serving p ≡ true → is_present p ≡ true
+unfolding is_serving is_present
+serves_present Serving e = refl
+serves_present _ e = absurd (cc)
 
 -- does a commit of the database wait in these?
 unfoldable pub waits_in : ℕ → List Database → Bool
@@ -28,27 +34,32 @@ locked_in key ds = is_some (or_nothing (look key (or_untouched (slice_get ds 0))
 -- what a commit of the database needs while it waits
 pub record UnderLock (c : Config) (db : ℕ) (p : Phase) (ds : List Database) : Type 0 where
   pub kind : is_persistent (kind_at c db) ≡ true
-  pub present : is_present p ≡ true
+  pub serving : is_serving p ≡ true
   pub lock : locked_in (name_of c db) ds ≡ true
 
 -- every commit that waits has it
 unfoldable pub Locked : Config → Phase → List Database → Type 0
 Locked c p ds = (db : ℕ) → waits_in db ds ≡ true → UnderLock c db p ds
 
--- every commit that waits at the node is of a persistent database, under its lock, and the node is present
+-- every commit that waits at the node is of a persistent database, under its lock, and the node serves
 abbrev pub CommitLocked : Config → Node → Type 0
 CommitLocked c n = Locked c n.phase n.dbs
 
 -- the same in the words of a node
 pub commit_locked : (c : Config) (n : Node) (db : ℕ) → CommitLocked c n → is_committing db n ≡ true → (is_persistent (kind_at c db) ≡ true) × (is_present n.phase ≡ true) × (is_locked 0 (name_of c db) n ≡ true)
 unfolding Locked waits_in locked_in is_committing is_locked state_at db_at
-commit_locked c n db h w = (let l = h db w in (l.kind, l.present, l.lock))
+commit_locked c n db h w = (let l = h db w in (l.kind, serves_present n.phase l.serving, l.lock))
+
+-- a node where a commit waits serves
+pub commit_serves : (c : Config) (n : Node) (db : ℕ) → CommitLocked c n → is_committing db n ≡ true → is_serving n.phase ≡ true
+unfolding Locked waits_in is_committing db_at
+commit_serves c n db h w = (h db w).serving
 
 -- ---- what keeps it
 
--- a node that was present still is, no commit begins, and no lock of the database of locks ends
+-- a node that served still does, no commit begins, and no lock of the database of locks ends
 pub record Keeps (p q : Phase) (ds es : List Database) : Type 0 where
-  pub present : is_present p ≡ true → is_present q ≡ true
+  pub serving : is_serving p ≡ true → is_serving q ≡ true
   pub waits : (db : ℕ) → waits_in db es ≡ true → waits_in db ds ≡ true
   pub locks : (key : List ℕ) → locked_in key ds ≡ true → locked_in key es ≡ true
 
@@ -56,10 +67,10 @@ abbrev pub KeepsCommits : Turn → Turn → Type 0
 KeepsCommits t u = Keeps t.node.phase u.node.phase t.node.dbs u.node.dbs
 
 pub keeps_same : {p : Phase} {ds : List Database} → Keeps p p ds ds
-keeps_same {p} {ds} = record { present = λ h. h; waits = λ db h. h; locks = λ key h. h }
+keeps_same {p} {ds} = record { serving = λ h. h; waits = λ db h. h; locks = λ key h. h }
 
 pub keeps_after : {p q o : Phase} {ds es fs : List Database} → Keeps p q ds es → Keeps q o es fs → Keeps p o ds fs
-keeps_after {p} {q} {o} {ds} {es} {fs} a b = record { present = λ h. b.present (a.present h); waits = λ db h. a.waits db (b.waits db h); locks = λ key h. b.locks key (a.locks key h) }
+keeps_after {p} {q} {o} {ds} {es} {fs} a b = record { serving = λ h. b.serving (a.serving h); waits = λ db h. a.waits db (b.waits db h); locks = λ key h. b.locks key (a.locks key h) }
 
 pub either_keeps : (t u v : Turn) (b : Bool) → KeepsCommits t u → KeepsCommits t v → KeepsCommits t (cond b u v)
 either_keeps t u v true a b = a
@@ -67,7 +78,7 @@ either_keeps t u v false a b = b
 
 pub locked_kept : (c : Config) (p q : Phase) (ds es : List Database) → Keeps p q ds es → Locked c p ds → Locked c q es
 unfolding Locked
-locked_kept c p q ds es k h db w = (let l = h db (k.waits db w) in record { kind = l.kind; present = k.present l.present; lock = k.locks (name_of c db) l.lock })
+locked_kept c p q ds es k h db w = (let l = h db (k.waits db w) in record { kind = l.kind; serving = k.serving l.serving; lock = k.locks (name_of c db) l.lock })
 
 -- no commit waits
 abbrev pub NoneWaits : List Database → Type 0
@@ -80,7 +91,7 @@ locked_none c p ds none db w = absurd (none db w)
 -- nor at a node that is not present
 pub none_waits : (c : Config) (p : Phase) (ds : List Database) → Locked c p ds → is_present p ≡ false → NoneWaits ds
 unfolding Locked
-none_waits c p ds h f db w = (let l = (h db w).present in absurd (cc))
+none_waits c p ds h f db w = (let l = serves_present p (h db w).serving in absurd (cc))
 
 -- ---- one database put in its place
 
@@ -161,4 +172,4 @@ phase_at_record c me db key part t = refl
 
 pub at_record_keeps : (c : Config) (me db : ℕ) (key : List ℕ) (part : Place → Moving → Moving) (t : Turn) → KeepsLock part → KeepsCommits t (at_record c me db key part t)
 unfolding at_record acted put_back
-at_record_keeps c me db key part t keeps = record { present = λ h. h; waits = waits_at_record c me db key part t; locks = λ q h. lock_at_record c me db key part t q (λ e f. keeps) h }
+at_record_keeps c me db key part t keeps = record { serving = λ h. h; waits = waits_at_record c me db key part t; locks = λ q h. lock_at_record c me db key part t q (λ e f. keeps) h }

@@ -17,7 +17,7 @@ use Rattle.ct_rules_node.specs.Node.{Database, or_untouched, db_at, with_db}
 use Rattle.ct_rules_node.specs.Turn.{Turn}
 use Rattle.ct_rules_node.specs.Records.{out_of, place_of, view, put_back, acted, at_record}
 use Rattle.ct_rules_node.specs.Admission.{record_in}
-use Rattle.ct_law_generation_node.proofs.Speaking.{About, Told}
+use Rattle.ct_law_generation.proofs.Speaking.{About, Told}
 
 -- a message of a record, of node me in generation g; an answer; or the note that a record was vacuumed
 unfoldable pub IsOfRecord : ℕ → ℕ → Out → Type 0

@@ -24,7 +24,7 @@ use Rattle.ct_rules_node.specs.Rounds.{pending_calls, freezes, ends_commits, on_
 use Rattle.ct_rules_node.specs.Retries.{retry_records, retry}
 use Rattle.ct_rules_node.specs.Steps.{on_record_of, if_persistent, if_sound, if_taken_over, arrives, vacuums, happens}
 use Rattle.ct_rules_node.specs.Admission.{record_in, is_sound}
-use Rattle.ct_law_generation_node.proofs.Speaking.{want_told, store_told, release_told, unlock_told, arrive_told}
+use Rattle.ct_law_generation.proofs.Speaking.{want_told, store_told, release_told, unlock_told, arrive_told}
 use Rattle.ct_law_plain.proofs.Plainly.{at_record_plain}
 use Rattle.ct_law_plain.proofs.Events.{want_all_plain, resends_plain, vacuums_plain}
 use Rattle.ct_law_plain.proofs.Steady.{IsOwn, Steady, steady_same, steady_after, either_steady, steady_still, makes_steady, answers_steady, notes_steady, posts_steady, plain_steady}

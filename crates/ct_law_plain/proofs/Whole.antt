@@ -1,4 +1,4 @@
--- Whatever comes to a node: after it each commit that waits is under its lock, and the node is present.
+-- Whatever comes to a node: after it each commit that waits is under its lock, and the node serves.
 use Rattle.std.proofs.Common.{◌≡◌, ◌≢◌, ℕ, zero, suc, ◌+◌, Bool, true, false, cond, List, [], ◌∷◌, set, Option, Some, None, refl, sym, ap, ◌∙◌, subst, arith, ⊎_elim}
 use Rattle.std.specs.Prelude.{◌&&◌, ◌||◌, slice_get, is_some, nat_eq, nat_lt}
 use Rattle.std.specs.Cmp.Lexicographic.{pointwise}
@@ -84,8 +84,8 @@ on_record_of_keeps c rules me f t None = keeps_same
 on_record_of_keeps c rules me f t (Some r) = either_keeps t _ t _ (at_record_keeps c me r.0 r.1 _ t (arrive_held rules f.sender f.msg)) keeps_same
 
 on_thaw_keeps : (c : Config) (rules : Rules) (me g : ℕ) (t : Turn) (p : Phase) → KeepsCommits t (on_thaw c rules me g t p)
-unfolding on_thaw thaws with_phase notes does is_present
-on_thaw_keeps c rules me g t Installed = either_keeps t _ t _ (keeps_after (record { present = λ h. refl; waits = λ db h. h; locks = λ key h. h }) (want_all_keeps c rules me (pending_calls t.node) _)) keeps_same
+unfolding on_thaw thaws with_phase notes does is_serving
+on_thaw_keeps c rules me g t Installed = either_keeps t _ t _ (keeps_after (record { serving = λ h. refl; waits = λ db h. h; locks = λ key h. h }) (want_all_keeps c rules me (pending_calls t.node) _)) keeps_same
 on_thaw_keeps c rules me g t _ = keeps_same
 
 -- ---- the refusals of a commit and of an unlock
@@ -104,11 +104,6 @@ allowed c rules n o e =
     let pending = first_none _ _ wish.1 in let lock = first_none _ _ pending.1 in let under = first_none _ _ lock.1 in
     record { kind = kind.0; serving = serving.0; pending = pending.0; under = under.0 }
 
-pub serves_present : (p : Phase) → is_serving p ≡ true → is_present p ≡ true
-unfolding is_serving is_present
-serves_present Serving e = refl
-serves_present _ e = absurd (cc)
-
 commit_serving : (n : Node) (db : ℕ) (writes : List Pair) → not_serving n (op.Commit db writes) ≡ None → is_serving n.phase ≡ true
 unfolding not_serving may_finish is_under_lock is_read refused_if
 commit_serving n db writes e = grind arith
@@ -122,7 +117,7 @@ under_lock : (c : Config) (rules : Rules) (n : Node) (db : ℕ) (writes : List P
 unfolding wrong_kind is_commit locked_in is_locked state_at db_at
 under_lock c rules n db writes e =
     let a = allowed c rules n (op.Commit db writes) e in
-    record { kind = required (is_persistent (kind_at c db)) _ a.kind; present = serves_present n.phase (commit_serving n db writes a.serving); lock = commit_locks c n db writes a.under }
+    record { kind = required (is_persistent (kind_at c db)) _ a.kind; serving = commit_serving n db writes a.serving; lock = commit_locks c n db writes a.under }
 
 or_right : (a b : Bool) → cond a true b ≡ false → b ≡ false
 or_right true b e = absurd (cc)
@@ -144,7 +139,7 @@ name_found c key i (d ∷ ds) (suc k) w e =
     or_true false = refl
 
 -- an unlock that is not refused is of no such name
-no_name : (c : Config) (rules : Rules) (n : Node) (db : ℕ) (key : List ℕ) → refusal c rules n (op.Unlock db key) ≡ None → db ≡ 0 → (k : ℕ) → waits_in k n.dbs ≡ true → key ≢ name_of c k
+pub no_name : (c : Config) (rules : Rules) (n : Node) (db : ℕ) (key : List ℕ) → refusal c rules n (op.Unlock db key) ≡ None → db ≡ 0 → (k : ℕ) → waits_in k n.dbs ≡ true → key ≢ name_of c k
 unfolding commit_pending is_unlock is_commit
 no_name c rules n db key e zero_db k w same =
     let a = (allowed c rules n (op.Unlock db key) e).pending in
@@ -160,7 +155,7 @@ unfolding Locked
 unlocked c me db key part t h other k w =
     let before = waits_at_record c me db key part t k w in
     let l = h k before in
-    record { kind = l.kind; present = ap is_present (phase_at_record c me db key part t) ∙ l.present; lock = lock_at_record c me db key part t (name_of c k) (λ e f. absurd (other e k before (sym f))) l.lock }
+    record { kind = l.kind; serving = ap is_serving (phase_at_record c me db key part t) ∙ l.serving; lock = lock_at_record c me db key part t (name_of c k) (λ e f. absurd (other e k before (sym f))) l.lock }
 
 unlocks_locked : (c : Config) (me call db : ℕ) (key : List ℕ) (t : Turn) (p : Phase) → t.node.phase ≡ p → CommitLocked c t.node → (db ≡ 0 → (k : ℕ) → waits_in k t.node.dbs ≡ true → key ≢ name_of c k) → CommitLocked c (unlocks c me call db key t p).node
 unfolding unlocks is_present
@@ -186,7 +181,7 @@ unfolding with_commit with_node with_db db_at Locked
 begun_locked c db x t h own k w = ⊎_elim (λ (is : k ≡ db). held (subst (λ (i : ℕ). UnderLock c i t.node.phase t.node.dbs) (sym is) own)) (λ (before : waits_in k t.node.dbs ≡ true). held (h k before)) (waits_begun t.node.dbs db _ k w)
   where
     held : UnderLock c k t.node.phase t.node.dbs → UnderLock c k t.node.phase (set t.node.dbs db (record (or_untouched (slice_get t.node.dbs db)) { commit = x }))
-    held l = record { kind = l.kind; present = l.present; lock = same_lock c db x t (name_of c k) l.lock }
+    held l = record { kind = l.kind; serving = l.serving; lock = same_lock c db x t (name_of c k) l.lock }
 
 posts_all_locked : (c : Config) (g me : ℕ) (m : Msg) (ns : List ℕ) (t : Turn) → CommitLocked c t.node → CommitLocked c (posts_all g me ns m t).node
 unfolding posts_all posts does
@@ -203,7 +198,7 @@ unfolding commit commits_at makes
 commit_locked_on c me call db writes t h own =
     let seq = (db_at db t.node).store.seq + 1 in
     let k = updates_keeps db seq writes (makes seq t) in
-    awaits_locked c me call db seq writes _ (updates db seq writes (makes seq t)) (locked_kept c _ _ _ _ k h) (record { kind = own.kind; present = k.present own.present; lock = k.locks (name_of c db) own.lock })
+    awaits_locked c me call db seq writes _ (updates db seq writes (makes seq t)) (locked_kept c _ _ _ _ k h) (record { kind = own.kind; serving = k.serving own.serving; lock = k.locks (name_of c db) own.lock })
 
 serves_locked : (c : Config) (rules : Rules) (me call : ℕ) (t : Turn) (asked : ClientOp) → refusal c rules t.node asked ≡ None → CommitLocked c t.node → CommitLocked c (serves c rules me call t asked).node
 unfolding serves

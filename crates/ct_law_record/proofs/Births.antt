@@ -3,18 +3,18 @@ use Rattle.std.proofs.Common.{◌&&◌, not, ◌≡◌, ◌≢◌, ℕ, ◌+◌,
 use Rattle.ct_frame.specs.Header.{nobody, plain}
 use Rattle.ct_rules.specs.State.{a_copy, nothing_kept}
 use Rattle.ct_rules.specs.declared.state.Wish.{Wish}
-use Rattle.ct_law_record_facts.proofs.Rule
-use Rattle.ct_law_record_facts.proofs.Rule.{Copy}
-use Rattle.ct_law_record_wishes.proofs.SeenNode.{copy_of, frames_of, kind_at, node_of}
-use Rattle.ct_law_record_facts.proofs.Invariant.{Past, Marking, Sent, Ghost, Asked, Waits, Emptied, readers_of, is_revoking, Facts, MasterFacts, NodeInv}
+use Rattle.ct_law_record.proofs.Rule
+use Rattle.ct_law_record.proofs.Rule.{Copy}
+use Rattle.ct_law_record.proofs.SeenNode.{copy_of, frames_of, kind_at, node_of}
+use Rattle.ct_law_record.proofs.Invariant.{Past, Marking, Sent, Ghost, Asked, Waits, Emptied, readers_of, is_revoking, Facts, MasterFacts, NodeInv}
 use Rattle.std.specs.List.{list_all}
 use Rattle.ct_frame.specs.Fields.{is_node}
 use Rattle.ct_register.specs.Register.{reading, newborn}
-use Rattle.ct_law_record_facts.specs.World.{Scene, AreDrawn, waiting_call, opening, bare, born_state, born, SeesAtMost}
-use Rattle.ct_law_record_facts.specs.Calls.{log_of, AreWanting, OpensAsOneRegister, BeginsAsOneRegister, IsBornAsOneRegister}
+use Rattle.ct_law_record.specs.World.{Scene, AreDrawn, waiting_call, opening, bare, born_state, born, SeesAtMost}
+use Rattle.ct_law_record.specs.Calls.{log_of, AreWanting, OpensAsOneRegister, BeginsAsOneRegister, IsBornAsOneRegister}
 use Rattle.ct_law_record.proofs.Logged.{AllWant}
 use Rattle.ct_law_record.proofs.LoggedRun.{leads_on}
-use Rattle.ct_law_record_facts.proofs.Nodes.{past_top, past_none}
+use Rattle.ct_law_record.proofs.Nodes.{past_top, past_none}
 use Rattle.ct_law_record.proofs.Worlds.{WorldInv, member_real}
 use Rattle.ct_law_record.proofs.Law.{drawn_low, bare_ghost, bare_holds}
 use Rattle.ct_rules_node.specs.Rounds.{installed_state, copy_from, row_master, or_nobody, entry_from}
@@ -163,7 +163,7 @@ born_holds s row joined versions seen number wish real lmaster member is sees dr
   all = record { rises = rises; whole = λ a l. rw (le-leb (row.rsn + 1) a (omega arith)) refl; within = within; absent = sym (none_born row.rsn versions); vacuum = λ v e. absurd (cc); marks = marks };
   nodes = nodes;
   master = subst (λ (b : Bool). MasterFacts s.lmaster g.entry g.queue g.vacuum g.base g.top (cond b (inside s.lmaster) (beside s.lmaster)).entry (cond b (inside s.lmaster) (beside s.lmaster)).queue (copy_of s.lmaster (cond b (inside s.lmaster) (beside s.lmaster)).copy) (cond b (inside s.lmaster) (beside s.lmaster)).vacuum 0) (sym lmaster)
-      (record { entry = inl (rw (eq-eqb s.lmaster s.lmaster refl) refl); queue = refl; vacuum = refl });
+      (record { entry = inl (rw (eq-eqb s.lmaster s.lmaster refl) refl, omega arith); queue = refl; vacuum = refl });
   outside = λ n e. subst (λ (b : Bool). (cond b (inside n) (beside n)).copy ≡ None) (sym e) refl;
   senders = λ f h. elim h [ ];
 }

@@ -15,24 +15,24 @@ use Rattle.ct_rules.specs.Parts.{Moving}
 use Rattle.ct_rules.specs.declared.event.Place.{Place}
 use Rattle.ct_rules.specs.declared.state.RecState.{RecState}
 use Rattle.ct_rules.specs.declared.state.Wish.{Wish}
-use Rattle.ct_law_record_facts.specs.World.{sent, own_call, waiting_call, may_want}
-use Rattle.ct_law_record_facts.proofs.Rule
-use Rattle.ct_law_record_facts.proofs.Rule.{Copy, Node, Frame, Body, Out}
-use Rattle.ct_law_record_wishes.proofs.SeenNode.{wish_of, body_of, out_of, mastered_like}
+use Rattle.ct_law_record.specs.World.{sent, own_call, waiting_call, may_want}
+use Rattle.ct_law_record.proofs.Rule
+use Rattle.ct_law_record.proofs.Rule.{Copy, Node, Frame, Body, Out}
+use Rattle.ct_law_record.proofs.SeenNode.{wish_of, body_of, out_of, mastered_like}
 use Rattle.ct_rules.specs.Messages
-use Rattle.ct_law_record_wishes.proofs.SameRequests.{like_called, like_recalled, like_want}
+use Rattle.ct_law_record.proofs.SameRequests.{like_called, like_recalled, like_want}
 use Rattle.ct_rules.specs.Moves
 use Rattle.ct_rules_node.specs.Rounds
-use Rattle.ct_law_record_wishes.proofs.SameEvents.{greater_like, like_on_give_of, like_on_pass, like_on_refuse_of, like_on_grant, like_on_done_of, like_on_revoke_of, like_on_revokeack, like_on_vstore, like_on_vdelete, like_on_vstored_of, like_on_vdeleted_of, like_vacuum, like_store, like_release, like_unlock, like_call_again, like_revoke_again}
-use Rattle.ct_law_record_facts.proofs.Invariant.{Start, Recalled, Sent, Ghost, Says, NodeInv, Holds, Kept}
-use Rattle.ct_law_record_facts.specs.Marked.{is_removed}
-use Rattle.ct_law_record_events.proofs.Acts.{node_holds, revoke_again_holds}
-use Rattle.ct_law_record_events.proofs.Revoking.{Came, on_ack_holds, on_revoke_holds, on_grant_holds}
-use Rattle.ct_law_record_events.proofs.Messages.{on_call_holds, on_recall_holds, on_give_holds, on_pass_holds, on_refuse_holds, on_done_holds, want_holds, store_holds, release_holds, unlock_holds, retry_holds}
-use Rattle.ct_law_record_facts.proofs.Nodes.{NodeInv-nowish}
-use Rattle.ct_law_record_events.proofs.Floor.{raise_floor_holds}
-use Rattle.ct_law_record_events.proofs.Vacuuming.{Apart, on_vstore_holds, on_vstored_holds, on_vdelete_holds, on_vdeleted_holds, vacuum_event_holds}
-use Rattle.ct_law_record_wishes.proofs.Calls.{own_self}
+use Rattle.ct_law_record.proofs.SameEvents.{greater_like, like_on_give_of, like_on_pass, like_on_refuse_of, like_on_grant, like_on_done_of, like_on_revoke_of, like_on_revokeack, like_on_vstore, like_on_vdelete, like_on_vstored_of, like_on_vdeleted_of, like_vacuum, like_store, like_release, like_unlock, like_call_again, like_revoke_again}
+use Rattle.ct_law_record.proofs.Invariant.{Start, Recalled, Sent, Ghost, Says, NodeInv, Holds, Kept}
+use Rattle.ct_law_record.specs.Marked.{is_removed}
+use Rattle.ct_law_record.proofs.Acts.{node_holds, revoke_again_holds}
+use Rattle.ct_law_record.proofs.Revoking.{Came, on_ack_holds, on_revoke_holds, on_grant_holds}
+use Rattle.ct_law_record.proofs.Messages.{on_call_holds, on_recall_holds, on_give_holds, on_pass_holds, on_refuse_holds, on_done_holds, want_holds, store_holds, release_holds, unlock_holds, retry_holds}
+use Rattle.ct_law_record.proofs.Nodes.{NodeInv-nowish}
+use Rattle.ct_law_record.proofs.Floor.{raise_floor_holds}
+use Rattle.ct_law_record.proofs.Vacuuming.{Apart, on_vstore_holds, on_vstored_holds, on_vdelete_holds, on_vdeleted_holds, vacuum_event_holds}
+use Rattle.ct_law_record.proofs.WishedCalls.{own_self}
 
 pub none_none : {X : Type 0} → (x : Option X) → is_none x ≡ true → x ≡ None
 none_none None h = refl

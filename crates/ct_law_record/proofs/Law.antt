@@ -4,15 +4,15 @@ use Rattle.ct_frame.specs.Header.{for_reading, nobody}
 use Rattle.ct_frame.specs.declared.header.RecCopy.{RecCopy}
 use Rattle.ct_rules.specs.State
 use Rattle.ct_rules.specs.declared.state.Wish.{Wish}
-use Rattle.ct_law_record_facts.proofs.Rule
-use Rattle.ct_law_record_wishes.proofs.SeenNode.{copy_of, wish_of, mastered_like, for_reading_like, frames_of}
+use Rattle.ct_law_record.proofs.Rule
+use Rattle.ct_law_record.proofs.SeenNode.{copy_of, wish_of, mastered_like, for_reading_like, frames_of}
 use Rattle.ct_register.specs.Register.{Register, reading, newborn}
-use Rattle.ct_law_record_facts.proofs.Invariant.{Sent, Ghost, GlobalInv, default_entry, Asked, Waits, Emptied, readers_of, is_revoking}
-use Rattle.ct_law_record_facts.specs.World.{Scene, World, Event, peers, last, HasCopy, Stands, StandsFor, NothingIsLost, Parent, LeadsTo, opening, bare, AreDrawn}
+use Rattle.ct_law_record.proofs.Invariant.{Sent, Ghost, GlobalInv, default_entry, Asked, Waits, Emptied, readers_of, is_revoking}
+use Rattle.ct_law_record.specs.World.{Scene, World, Event, peers, last, HasCopy, Stands, StandsFor, NothingIsLost, Parent, LeadsTo, opening, bare, AreDrawn}
 use Rattle.std.specs.List.{list_all}
 use Rattle.ct_frame.specs.Fields.{is_node}
-use Rattle.ct_law_record_events.proofs.Parts.{nobody_has}
-use Rattle.ct_law_record_facts.proofs.Nodes.{past_none}
+use Rattle.ct_law_record.proofs.Parts.{nobody_has}
+use Rattle.ct_law_record.proofs.Nodes.{past_none}
 use Rattle.ct_law_record.proofs.Worlds.{nodes_at, WorldInv, run_holds}
 
 no_owner : (owner : Option ℕ) → ((n : ℕ) → owner ≢ Some n) → owner ≡ None

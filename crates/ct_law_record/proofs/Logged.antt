@@ -15,14 +15,14 @@ use Rattle.ct_rules.specs.declared.state.RecState.{RecState}
 use Rattle.ct_rules.specs.declared.state.Wish.{Wish}
 use Rattle.ct_rules_node.specs.Node.{is_among}
 use Rattle.ct_register.specs.Register.{Register}
-use Rattle.ct_law_record_facts.specs.Labels.{Label, Joined, AcceptsAll}
-use Rattle.ct_law_record_facts.specs.World as world
-use Rattle.ct_law_record_facts.specs.World.{Scene, View, Mail, World, Event, Wants, Stores, Unlocks, Releases, Comes, Vacuums, Resends, Thaws, Ends, Leaves, Joins, Rises, place, starts, peers, may_want, own_call, waiting_call, told, sent, view_of, unlocked}
-use Rattle.ct_law_record_facts.specs.Calls.{Log, with_call, closed_by_all, CallsStand, told_by, Logged, put, happens, stays, calls, comes_logged}
-use Rattle.ct_law_record_facts.proofs.Invariant.{Ghost}
-use Rattle.ct_law_record_wishes.proofs.Wishing.{Wishful, want_wish, store_wish, release_wish, unlock_wish, arrive_wish, vacuum_wish, want_again_wish, call_again_wish, revoke_again_wish}
-use Rattle.ct_law_record_wishes.proofs.Even.{answers_in, Even, number_of, even_is, want_even, store_even, release_even, unlock_even, arrive_even, vacuum_even, want_again_even, call_again_even, revoke_again_even}
-use Rattle.ct_law_record_wishes.proofs.Calls.{closed_calls, closed_at, others_stay, same_call, other_call, other_node, Tells, told_same, accepts_asked, waiting_tells, own_tells, own_self, own_other}
+use Rattle.ct_law_record.specs.Labels.{Label, Joined, AcceptsAll}
+use Rattle.ct_law_record.specs.World as world
+use Rattle.ct_law_record.specs.World.{Scene, View, Mail, World, Event, Wants, Stores, Unlocks, Releases, Comes, Vacuums, Resends, Thaws, Ends, Leaves, Joins, Rises, place, starts, peers, may_want, own_call, waiting_call, told, sent, view_of, unlocked}
+use Rattle.ct_law_record.specs.Calls.{Log, with_call, closed_by_all, CallsStand, told_by, Logged, put, happens, stays, calls, comes_logged}
+use Rattle.ct_law_record.proofs.Invariant.{Ghost}
+use Rattle.ct_law_wishes.proofs.Wishing.{Wishful, want_wish, store_wish, release_wish, unlock_wish, arrive_wish, vacuum_wish, want_again_wish, call_again_wish, revoke_again_wish}
+use Rattle.ct_law_record.proofs.Even.{answers_in, Even, number_of, even_is, want_even, store_even, release_even, unlock_even, arrive_even, vacuum_even, want_again_even, call_again_even, revoke_again_even}
+use Rattle.ct_law_record.proofs.WishedCalls.{closed_calls, closed_at, others_stay, same_call, other_call, other_node, Tells, told_same, accepts_asked, waiting_tells, own_tells, own_self, own_other}
 use Rattle.ct_law_record.proofs.Events.{none_none, may_parts}
 use Rattle.ct_law_record.proofs.Worlds.{WorldInv, Leads, step_holds}
 

@@ -4,12 +4,12 @@ use Rattle.std.specs.List.{list_all}
 use Rattle.ct_frame.specs.Fields.{is_node}
 use Rattle.ct_register.specs.Register.{Register}
 use Rattle.ct_register.specs.Marks.{MarksStep}
-use Rattle.ct_law_record_facts.specs.Labels.{Label, AcceptsAll}
-use Rattle.ct_law_record_facts.specs.Marked.{is_removed, Holds, Runs, RunsFrom}
-use Rattle.ct_law_record_facts.specs.World as world
-use Rattle.ct_law_record_facts.specs.World.{Scene, World, Event}
-use Rattle.ct_law_record_facts.specs.Calls.{Log, CallsStand, Logged, stays, happens, ran, LeadsToLogged}
-use Rattle.ct_law_record_facts.proofs.Invariant.{Ghost}
+use Rattle.ct_law_record.specs.Labels.{Label, AcceptsAll}
+use Rattle.ct_law_record.specs.Marked.{is_removed, Holds, Runs, RunsFrom}
+use Rattle.ct_law_record.specs.World as world
+use Rattle.ct_law_record.specs.World.{Scene, World, Event}
+use Rattle.ct_law_record.specs.Calls.{Log, CallsStand, Logged, stays, happens, ran, LeadsToLogged}
+use Rattle.ct_law_record.proofs.Invariant.{Ghost}
 use Rattle.ct_law_record.proofs.Law.{stands, kept_all, parent}
 use Rattle.ct_law_record.proofs.Logged.{AllWant, Same, step_same}
 use Rattle.ct_law_record.proofs.MarkLists.{marks_stay}

@@ -1,16 +1,21 @@
 -- The marks of a span: one for each RSN from its base to below its top.
-use Rattle.std.proofs.Common.{◌≡◌, ◌≢◌, ℕ, zero, suc, ◌+◌, ◌-◌, ◌<◌, ◌≤◌, Bool, true, false, Some, List, [], ◌∷◌, refl, sym, ap, ◌∙◌, ⊎_elim, arith, subst, nat_lt, cond}
-use Rattle.std.proofs.lemmas.Bool.{cases_eq, eq-eqb, ne_eqb, cond_both, ltb-true, lt-ltb, cases_lt}
-use Rattle.ct_register.specs.Marks.{Mark, Marks, Rises, RisesAfter, EndsAt, AreBelow, AreFrom, GoOn, place_of, place_below_from, MarksStep}
-use Rattle.ct_law_record_facts.proofs.Invariant.{Span, Grows, Goes}
+use Rattle.std.proofs.Common.{◌≡◌, ◌≢◌, ℕ, zero, suc, ◌+◌, ◌-◌, ◌<◌, ◌≤◌, Bool, true, false, Option, None, Some, List, [], ◌∷◌, refl, sym, ap, ◌∙◌, ⊎_elim, inl, inr, arith, subst, nat_lt, cond}
+use Rattle.std.proofs.lemmas.Bool.{cases_eq, eq-eqb, ne_eqb, cond_both, ltb-true, lt-ltb, le-ltb, cases_lt}
+use Rattle.ct_rules.specs.declared.state.Entry.{Entry}
+use Rattle.ct_register.specs.Marks.{Mark, Site, Marks, BeginBy, SiteStep, Rises, RisesAfter, EndsAt, AreBelow, AreFrom, GoOn, place_of, place_below_from, MarksStep}
+use Rattle.ct_law_record.proofs.Invariant.{Span, Grows, Goes}
 
 -- so many marks from an RSN on
 unfoldable pub dense : (from count : ℕ) (mark : ℕ → ℕ) → List Mark
 dense from zero mark = []
 dense from (suc n) mark = record { rsn = from; place = mark (from + 1) } ∷ dense (from + 1) n mark
 
+-- where the record is, if it has marks
+abbrev pub site_in : Span → Option Site
+site_in a = cond (nat_lt a.base a.top) (Some (record { holder = a.entry.holder; least = a.entry.least })) None
+
 abbrev pub marks_in : Span → Marks
-marks_in a = record { marks = dense a.base (a.top - a.base) a.mark; low = a.top }
+marks_in a = record { marks = dense a.base (a.top - a.base) a.mark; low = a.top; site = site_in a }
 
 module _ (mark : ℕ → ℕ) where
   pub dense_from : (low from n : ℕ) → low ≤ from → AreFrom low (dense from n mark)
@@ -83,9 +88,42 @@ dense_goes low from (suc (suc n)) (suc k) mark new is le same raised = (
       (let e : from + suc (suc n) ≡ from + 1 + suc n = omega arith in subst (λ x. mark x ≤ new x) e raised),
 )
 
+-- some mark is up to an RSN from the first on
+pub dense_begins : (high from n : ℕ) (mark : ℕ → ℕ) → from ≤ high → BeginBy high (dense from (suc n) mark)
+unfolding dense BeginBy
+dense_begins high from n mark le = inl le
+
 pub none_in : (a : Span) → a.top ≤ a.base → (marks_in a).marks ≡ []
 unfolding dense
 none_in a le = ap (λ n. dense a.base n a.mark) (let e : a.top - a.base ≡ 0 = omega arith in e)
+
+pub nowhere : (a : Span) → a.top ≤ a.base → site_in a ≡ None
+nowhere a le = ap (λ (b : Bool). cond b (Some (record { holder = a.entry.holder; least = a.entry.least })) None) (le-ltb a.base a.top le)
+
+pub somewhere : (a : Span) → a.base < a.top → site_in a ≡ Some (record { holder = a.entry.holder; least = a.entry.least })
+somewhere a some = ap (λ (b : Bool). cond b (Some (record { holder = a.entry.holder; least = a.entry.least })) None) (lt-ltb a.base a.top some)
+
+-- a record that is somewhere has marks
+pub has_site : (a : Span) (x : Site) → site_in a ≡ Some x → (a.base < a.top) × (x ≡ record { holder = a.entry.holder; least = a.entry.least })
+has_site a x is = ⊎_elim
+    (λ (some : a.base < a.top). (some, (let e = sym is ∙ somewhere a some in cc)))
+    (λ (none : a.top ≤ a.base). absurd (let e = sym is ∙ nowhere a none in cc))
+    (cases_lt a.base a.top)
+
+-- it stays where it is, or moves on
+site_steps : (a c : Span) → Grows a c → SiteStep a.top (site_in a) (site_in c)
+unfolding SiteStep
+site_steps a c h = ⊎_elim
+    (λ (some : a.base < a.top).
+    let base = h.base in let top = h.top in
+    let now : site_in c ≡ Some (record { holder = c.entry.holder; least = c.entry.least }) = somewhere c (omega arith) in
+    subst (λ (x : Option Site). SiteStep a.top x (site_in c)) (sym (somewhere a some))
+    (⊎_elim
+    (λ (same : c.entry ≡ a.entry). inl (now ∙ ap (λ (e : Entry). Some (record { holder = e.holder; least = e.least })) same))
+    (λ (le : a.top ≤ c.entry.least). inr (record { holder = c.entry.holder; least = c.entry.least }, now, le))
+    h.moved))
+    (λ (none : a.top ≤ a.base). subst (λ (x : Option Site). SiteStep a.top x (site_in c)) (sym (nowhere a none)) tt)
+    (cases_lt a.base a.top)
 
 pub marks_grow : (a c : Span) → a.base ≤ a.top → Grows a c → MarksStep false (marks_in a) (marks_in c)
 marks_grow a c le h =
@@ -95,11 +133,12 @@ marks_grow a c le h =
       subst (λ (x : ℕ). GoOn a.top (dense a.base (a.top - a.base) a.mark) (dense x (c.top - x) c.mark)) (sym base)
           (dense_goes a.top a.base (a.top - a.base) (c.top - a.base) a.mark c.mark (omega arith) (omega arith) (λ x l. h.same x (omega arith)) (subst (λ x. a.mark x ≤ c.mark x) (sym all) h.raised)),
       up,
+      site_steps a c h,
     )
 
 pub marks_go : (b : Bool) (a c : Span) → a.base ≤ a.top → Goes b a c → MarksStep b (marks_in a) (marks_in c)
 unfolding Goes
-marks_go true a c le h = (none_in c h.none, h.top)
+marks_go true a c le h = (none_in c h.none, h.top, nowhere c h.none)
 marks_go false a c le h = marks_grow a c le h
 
 pub marks_from : (low : ℕ) (a : Span) → low ≤ a.base → AreFrom low (marks_in a).marks
@@ -112,5 +151,10 @@ go_on_same low [] = tt
 go_on_same low (m ∷ []) = (refl, omega arith, tt)
 go_on_same low (m ∷ k ∷ ms) = (refl, go_on_same low (k ∷ ms))
 
+site_same : (low : ℕ) (x : Option Site) → SiteStep low x x
+unfolding SiteStep
+site_same low None = tt
+site_same low (Some x) = inl refl
+
 pub marks_stay : (m : Marks) → MarksStep false m m
-marks_stay m = (go_on_same m.low m.marks, omega arith)
+marks_stay m = (go_on_same m.low m.marks, omega arith, site_same m.low m.site)

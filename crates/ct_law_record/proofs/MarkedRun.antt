@@ -1,19 +1,21 @@
 -- Every schedule of one record keeps its marks, or removes it and goes on from above all that were.
-use Rattle.std.proofs.Common.{length, ◌≡◌, ℕ, zero, suc, ◌+◌, ◌-◌, ◌≤◌, Bool, true, false, Option, Some, None, List, [], refl, sym, ap, ◌∙◌, ⊎_elim, arith, subst, take}
+use Rattle.std.proofs.Common.{length, ◌≡◌, ℕ, zero, suc, ◌+◌, ◌-◌, ◌≤◌, Bool, true, false, Option, Some, None, List, [], refl, sym, ap, ◌∙◌, ⊎_elim, inl, inr, arith, subst, take, ◌<◌, ◌⊎◌}
+use Rattle.std.proofs.lemmas.Bool.{cases_lt}
 use Rattle.std.specs.List.{list_all}
 use Rattle.ct_frame.specs.Fields.{is_node}
 use Rattle.ct_frame.specs.declared.header.RecCopy.{RecCopy}
 use Rattle.ct_rules.specs.declared.state.Entry.{Entry}
 use Rattle.ct_register.specs.Register.{Register, reading}
-use Rattle.ct_register.specs.Marks.{Marks, AreMarks, EndsAt, AreFrom, MarksStep, IsCopyAt, IsEntryAt, place_below_from}
-use Rattle.ct_law_record_facts.specs.Labels.{AcceptsAll}
-use Rattle.ct_law_record_facts.specs.Marked.{is_removed, MarksHold}
-use Rattle.ct_law_record_facts.specs.World.{Scene, World, Event, HasCopy, happens, trace, last}
-use Rattle.ct_law_record_facts.proofs.Rule
-use Rattle.ct_law_record_wishes.proofs.SeenNode.{copy_of}
-use Rattle.ct_law_record_facts.proofs.Invariant.{Ghost, Span, span_of, Past, Marking}
-use Rattle.ct_law_record_events.proofs.Markings.{mark_within, RunsOn}
-use Rattle.ct_law_record.proofs.MarkLists.{dense, marks_in, dense_rises, dense_below, dense_ends, dense_has, dense_low, dense_high, none_in, marks_go, marks_grow, marks_from}
+use Rattle.ct_register.specs.Marks.{Site, Marks, AreMarks, IsSiteOf, BeginBy, EndsAt, AreFrom, MarksStep, IsCopyAt, IsEntryAt, place_below_from}
+use Rattle.ct_law_record.specs.Labels.{AcceptsAll}
+use Rattle.ct_law_record.specs.Marked.{is_removed, MarksHold}
+use Rattle.ct_law_record.specs.World.{Scene, World, Event, HasCopy, happens, trace, last}
+use Rattle.ct_law_record.proofs.Rule
+use Rattle.ct_rules_node.specs.Node.{is_among}
+use Rattle.ct_law_record.proofs.SeenNode.{copy_of}
+use Rattle.ct_law_record.proofs.Invariant.{Ghost, Span, span_of, Past, Marking}
+use Rattle.ct_law_record.proofs.Markings.{mark_within, RunsOn}
+use Rattle.ct_law_record.proofs.MarkLists.{dense, dense_begins, marks_in, somewhere, nowhere, has_site, dense_rises, dense_below, dense_ends, dense_has, dense_low, dense_high, none_in, marks_go, marks_grow, marks_from}
 use Rattle.ct_law_record.proofs.Worlds.{WorldInv, nodes_at, step_holds, run_holds}
 
 -- how marks go on along a list of labels: after a removal amid it new ones may follow, above all that there ever were
@@ -34,12 +36,25 @@ ends_in a count le whole none = go (a.top - a.base) refl
     go zero e = none (omega arith)
     go (suc n) e = dense_ends a.mark count a.base n (ap a.mark (let k : a.base + suc n ≡ a.top = omega arith in k) ∙ whole)
 
+-- the record is somewhere exactly where there are marks
+sited_in : (g : Ghost) → g.base ≤ g.entry.least → IsSiteOf (marks_of g).marks (marks_of g).site
+unfolding IsSiteOf
+sited_in g first = ⊎_elim
+    (λ (some : g.base < g.top). subst (λ (x : Option Site). IsSiteOf (marks_of g).marks x) (sym (somewhere (span_of g) some)) (begins (g.top - g.base) (omega arith)))
+    (λ (none : g.top ≤ g.base). subst (λ (x : Option Site). IsSiteOf (marks_of g).marks x) (sym (nowhere (span_of g) none)) (none_in (span_of g) none))
+    (cases_lt g.base g.top)
+  where
+    begins : (n : ℕ) → 1 ≤ n → BeginBy g.entry.least (dense g.base n g.mark)
+    begins zero le = absurd (omega arith)
+    begins (suc n) le = dense_begins g.entry.least g.base n g.mark first
+
 -- the marks of a ghost are those of its versions
 are_marks : (g : Ghost) (value : List ℕ) → Marking g.base g.joint g.top g.entry.least g.mark g.place g.register.versions value → AreMarks g.register.versions (marks_of g)
 are_marks g value h = record {
   rise = dense_rises g.mark g.base (g.top - g.base) h.rises;
   ends = ends_in (span_of g) (length g.register.versions) h.under (h.whole g.top (omega arith)) h.none;
   below = dense_below g.mark g.top g.base (g.top - g.base) (let u = h.under in omega arith);
+  sited = sited_in g h.first;
 }
 
 -- a copy has a mark
@@ -67,14 +82,42 @@ entry_at g h = (g.mark g.entry.least, dense_low g.mark 0 g.entry.least g.base (g
     high (suc n) e = dense_high g.mark 0 g.entry.least g.base n h.rises h.first
         (let k : g.top ≡ g.base + suc n = omega arith in subst (λ x. g.mark g.entry.least ≤ g.mark x) k (let w = within in let all = h.whole g.top (omega arith) in omega arith))
 
+-- a copy of the greatest rank
+copied : (w : World) (g : Ghost) (n : ℕ) (x : Option RecCopy) → (w.nodes n).state.copy ≡ x → g.base < g.top → g.entry.least < Rule.rank (copy_of n x) → Rule.rank (copy_of n x) ≡ g.top → (c : RecCopy) × HasCopy w n c × (c.header.rsn + 1 ≡ g.top)
+unfolding Rule.rank copy_of
+copied w g n None is some low top = absurd (omega arith)
+copied w g n (Some c) is some low top = (c, is, top)
+
+none_there : (n : ℕ) (x : Option RecCopy) → x ≡ None → Rule.rank (copy_of n x) ≤ 0
+unfolding Rule.rank copy_of
+none_there n None is = omega arith
+none_there n (Some c) is = absurd (cc)
+
+-- without an entry at the location master there are no marks, and the record is nowhere
+pub unmarked : (s : Scene) (w : World) (r : Register) (g : Ghost) → WorldInv s w r g → (w.nodes s.lmaster).state.entry ≡ None → ((marks_of g).marks ≡ []) × ((marks_of g).site ≡ None)
+unmarked s w r g h is = (none_in (span_of g) none, nowhere (span_of g) none)
+  where
+    none : g.top ≤ g.base
+    none = ⊎_elim
+        (λ (k : ((w.nodes s.lmaster).state.entry ≡ Some g.entry) × (g.base < g.top)). absurd (let j : None ≡ Some g.entry = sym is ∙ k.0 in cc))
+        (λ k. k.3)
+        h.master.entry
+
 pub marks_hold : (s : Scene) (w : World) (r : Register) (g : Ghost) → WorldInv s w r g → MarksHold s w r (marks_of g)
 marks_hold s w r g h = subst (λ (x : Register). MarksHold s w x (marks_of g)) h.register (record {
   marked = are_marks g g.entry.value h.all.marks;
   copies = λ n c has. copy n c has (h.nodes n).under (h.nodes n).marked (h.nodes n).value;
   entry = λ e is. ⊎_elim
-      (λ (k : (w.nodes s.lmaster).state.entry ≡ Some g.entry). subst (λ (x : Entry). IsEntryAt (marks_of g).marks g.register.versions x.least x.value) (let j : Some g.entry ≡ Some e = sym k ∙ is in let y : g.entry ≡ e = cc in y) (entry_at g h.all.marks))
+      (λ (k : ((w.nodes s.lmaster).state.entry ≡ Some g.entry) × (g.base < g.top)). subst (λ (x : Entry). IsEntryAt (marks_of g).marks g.register.versions x.least x.value) (let j : Some g.entry ≡ Some e = sym k.0 ∙ is in let y : g.entry ≡ e = cc in y) (entry_at g h.all.marks))
       (λ k. absurd (let j : None ≡ Some e = sym k.0 ∙ is in cc))
       h.master.entry;
+  sites = λ e is. ⊎_elim
+      (λ (k : ((w.nodes s.lmaster).state.entry ≡ Some g.entry) × (g.base < g.top)). somewhere (span_of g) k.1 ∙ ap (λ (x : Entry). Some (record { holder = x.holder; least = x.least })) (let j : Some g.entry ≡ Some e = sym k.0 ∙ is in let y : g.entry ≡ e = cc in y))
+      (λ k. absurd (let j : None ≡ Some e = sym k.0 ∙ is in cc))
+      h.master.entry;
+  empty = λ is. (unmarked s w r g h is).0;
+  found = λ x is. found x (has_site (span_of g) x is);
+  away = λ x is out. away x (has_site (span_of g) x is) out;
 })
   where
     copy : (n : ℕ) (c : RecCopy) → HasCopy w n c → Rule.rank (nodes_at s w n).copy ≤ g.top → Past g.joint (nodes_at s w n).copy → Rule.value_of (nodes_at s w n).copy ≡ reading (take (g.place (Rule.rank (nodes_at s w n).copy)) g.register.versions) →
@@ -84,12 +127,23 @@ marks_hold s w r g h = subst (λ (x : Register). MarksHold s w x (marks_of g)) h
         (subst (λ (x : Option RecCopy). Past g.joint (copy_of n x)) has past)
         (subst (λ (x : Option RecCopy). Rule.value_of (copy_of n x) ≡ reading (take (g.place (Rule.rank (copy_of n x))) g.register.versions)) has value)
 
--- without an entry at the location master there are no marks
-pub unmarked : (s : Scene) (w : World) (r : Register) (g : Ghost) → WorldInv s w r g → (w.nodes s.lmaster).state.entry ≡ None → (marks_of g).marks ≡ []
-unmarked s w r g h is = none_in (span_of g) (⊎_elim
-    (λ (k : (w.nodes s.lmaster).state.entry ≡ Some g.entry). absurd (let j : None ≡ Some g.entry = sym is ∙ k in cc))
-    (λ k. k.3)
-    h.master.entry)
+    -- the holder's copy has the greatest rank, or the record is on its way
+    rests : (n : ℕ) → n ≡ g.entry.holder → g.base < g.top → (g.top ≤ g.entry.least) ⊎ ((c : RecCopy) × HasCopy w n c × (c.header.rsn + 1 ≡ g.top))
+    rests n at some = ⊎_elim
+        (λ (low : g.entry.least < Rule.rank (nodes_at s w n).copy). inr (copied w g n (w.nodes n).state.copy refl some low ((h.nodes n).holds at low).0))
+        (λ (up : Rule.rank (nodes_at s w n).copy ≤ g.entry.least). inl ((h.nodes n).passing at up).0)
+        (cases_lt g.entry.least (Rule.rank (nodes_at s w n).copy))
+
+    found : (x : Site) → (g.base < g.top) × (x ≡ record { holder = g.entry.holder; least = g.entry.least }) → (g.top ≤ x.least) ⊎ ((c : RecCopy) × HasCopy w x.holder c × (c.header.rsn + 1 ≡ g.top))
+    found x k = subst (λ (y : Site). (g.top ≤ y.least) ⊎ ((c : RecCopy) × HasCopy w y.holder c × (c.header.rsn + 1 ≡ g.top))) (sym k.1) (rests g.entry.holder refl k.0)
+
+    away : (x : Site) → (g.base < g.top) × (x ≡ record { holder = g.entry.holder; least = g.entry.least }) → is_among x.holder s.members ≡ false → g.top ≤ x.least
+    away x k out =
+        let at : x.holder ≡ g.entry.holder = ap (λ (y : Site). y.holder) k.1 in
+        let least : x.least ≡ g.entry.least = ap (λ (y : Site). y.least) k.1 in
+        let none = none_there x.holder (w.nodes x.holder).state.copy (h.outside x.holder out) in
+        let top = ((h.nodes x.holder).passing at (omega arith)).0 in
+        omega arith
 
 -- one event
 pub step_marks : (s : Scene) (e : Event) (w : World) (r : Register) (g : Ghost) → list_all is_node s.members ≡ true → WorldInv s w r g →

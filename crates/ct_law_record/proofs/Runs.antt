@@ -9,10 +9,10 @@ use Rattle.ct_rules.specs.Parts
 use Rattle.ct_rules.specs.Messages
 use Rattle.ct_rules.specs.Moves
 use Rattle.ct_rules_node.specs.Node.{is_among}
-use Rattle.ct_law_record_facts.specs.Labels.{Told, Vacuumed}
-use Rattle.ct_law_record_facts.specs.World
-use Rattle.ct_law_record_facts.specs.Calls
-use Rattle.ct_law_record_facts.specs.World.{Scene, Event, Wants, Stores, Unlocks, Comes, Vacuums, opening}
+use Rattle.ct_law_record.specs.Labels.{Told, Vacuumed}
+use Rattle.ct_law_record.specs.World
+use Rattle.ct_law_record.specs.Calls
+use Rattle.ct_law_record.specs.World.{Scene, Event, Wants, Stores, Unlocks, Comes, Vacuums, opening}
 
 -- a record, without functions
 abbrev scene : Bool → Scene

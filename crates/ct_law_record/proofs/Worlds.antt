@@ -10,29 +10,29 @@ use Rattle.ct_call.specs.Rules.{Rules}
 use Rattle.ct_rules.specs.Parts.{Moving}
 use Rattle.ct_rules.specs.declared.event.Act.{Act}
 use Rattle.ct_rules.specs.declared.event.Act.TheVariants as act
-use Rattle.ct_law_record_facts.specs.Labels.{Label, AcceptsAll}
-use Rattle.ct_law_record_facts.specs.World.{Mail, told, sent, own_call, waiting_call, may_want, View, starts, sends, Scene, World, Event, Wants, Stores, Unlocks, Releases, Comes, Vacuums, Resends, Thaws, Ends, Leaves, Joins, Rises, place, peers, Stepped, view_of, steps, joins, unlocked, put, comes, happens, trace, last}
-use Rattle.ct_law_record_facts.specs.Labels as label
-use Rattle.ct_law_record_events.proofs.LocksEnd.{end_holds, leave_holds}
-use Rattle.ct_law_record_facts.proofs.Rule
-use Rattle.ct_law_record_facts.proofs.Rule.{Node, Frame}
-use Rattle.ct_law_record_wishes.proofs.SeenNode.{copy_of, node_of, out_of, frame_of, frames_of, frames_append}
+use Rattle.ct_law_record.specs.Labels.{Label, AcceptsAll}
+use Rattle.ct_law_record.specs.World.{Mail, told, sent, own_call, waiting_call, may_want, View, starts, sends, Scene, World, Event, Wants, Stores, Unlocks, Releases, Comes, Vacuums, Resends, Thaws, Ends, Leaves, Joins, Rises, place, peers, Stepped, view_of, steps, joins, unlocked, put, comes, happens, trace, last}
+use Rattle.ct_law_record.specs.Labels as label
+use Rattle.ct_law_record.proofs.LocksEnd.{end_holds, leave_holds}
+use Rattle.ct_law_record.proofs.Rule
+use Rattle.ct_law_record.proofs.Rule.{Node, Frame}
+use Rattle.ct_law_record.proofs.SeenNode.{copy_of, node_of, out_of, frame_of, frames_of, frames_append}
 use Rattle.ct_rules.specs.Messages
 use Rattle.ct_rules.specs.Moves
 use Rattle.ct_rules_node.specs.Rounds
 use Rattle.ct_rules_node.specs.Node.{is_among}
 use Rattle.ct_register.specs.Register.{Register, joined_by}
-use Rattle.ct_law_record_facts.proofs.Nodes.{seeing, NodeInv-seeing}
-use Rattle.ct_law_record_events.proofs.Small.{changed_other}
-use Rattle.ct_law_record_facts.proofs.Invariant.{Start, span_of, Goes, Sent, Ghost, NodeInv, Holds, Kept, MasterInv, GlobalInv}
-use Rattle.ct_law_record_events.proofs.Vacuuming.{Apart}
-use Rattle.ct_law_record_facts.specs.Marked.{is_removed}
-use Rattle.ct_law_record_events.proofs.Markings.{RunsOn, goes_stays, goes_joined, runs_then, runs_none}
+use Rattle.ct_law_record.proofs.Nodes.{seeing, NodeInv-seeing}
+use Rattle.ct_law_record.proofs.Small.{changed_other}
+use Rattle.ct_law_record.proofs.Invariant.{Start, span_of, Goes, Sent, Ghost, NodeInv, Holds, Kept, MasterInv, GlobalInv}
+use Rattle.ct_law_record.proofs.Vacuuming.{Apart}
+use Rattle.ct_law_record.specs.Marked.{is_removed}
+use Rattle.ct_law_record.proofs.Markings.{RunsOn, goes_stays, goes_joined, runs_then, runs_none}
 use Rattle.std.specs.List.{list_all}
 use Rattle.ct_frame.specs.Fields.{is_node}
 use Rattle.ct_register.specs.Words.{at as changed_seen}
 use Rattle.ct_law_record.proofs.Events.{arrive_holds, wants_holds, stores_holds, unlocks_holds, releases_holds, vacuums_holds, resends_holds, thaws_holds, rises_holds, none_none, none_unlocked, waiting_is, may_parts}
-use Rattle.ct_law_record_wishes.proofs.Calls.{own_self}
+use Rattle.ct_law_record.proofs.WishedCalls.{own_self}
 
 -- the nodes, as the law sees them
 abbrev pub node_at : Scene → ℕ → Bool → View → Node

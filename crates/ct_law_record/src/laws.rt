@@ -3,8 +3,8 @@
 //! for that register; nothing that a node has seen is lost; and of any nodes the copy of the greatest RSN has all that
 //! these have seen. And step by step the record has marks: RSNs ascend and places never fall, each copy and the location
 //! master's entry have the value of their mark's place, and no mark changes but the last one, until a vacuum, which leaves none.
-ghost use Rattle.ct_law_record_facts.specs.Calls.{OpensAsOneRegister, BeginsAsOneRegister, IsBornAsOneRegister};
-ghost use Rattle.ct_law_record_facts.specs.Marked.{OpensWithMarks, BeginsWithMarks, IsBornWithMarks};
+ghost use Rattle.ct_law_record.specs.Calls.{OpensAsOneRegister, BeginsAsOneRegister, IsBornAsOneRegister};
+ghost use Rattle.ct_law_record.specs.Marked.{OpensWithMarks, BeginsWithMarks, IsBornWithMarks};
 
 /// From the opening, where nothing is kept.
 #[tactic(auto, using(crate::proofs::Births::proved))]

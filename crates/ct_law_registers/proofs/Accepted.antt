@@ -73,9 +73,9 @@ persistent k e = ap is_persistent e
 pub committed_accepted : (config : Config) (rules : Rules) (x : Choice) (r : Lines) (n db number : ℕ) (ws : List Pair) → DatabasesNeed config x r (Answered n (op.Commit db ws) (answer.Committed number)) →
     AcceptsLabel config rules r (Answered n (op.Commit db ws) (answer.Committed number)) (goes config x (Answered n (op.Commit db ws) (answer.Committed number)) r)
 unfolding DatabasesNeed goes answer_goes database_goes
-committed_accepted config rules x r n db number ws h = rw (persistent (kind_at config db) h.1) (h.0, h.1, _, (h.2, refl), refl)
+committed_accepted config rules x r n db number ws h = rw (persistent (kind_at config db) h.1.1) (h.0, h.2, (h.1.0, h.1.1, _, (h.1.2, refl), refl))
 
 pub unsure_accepted : (config : Config) (rules : Rules) (x : Choice) (r : Lines) (n db number : ℕ) (ws : List Pair) (missing : List ℕ) → DatabasesNeed config x r (Answered n (op.Commit db ws) (answer.Unsure number missing)) →
     AcceptsLabel config rules r (Answered n (op.Commit db ws) (answer.Unsure number missing)) (goes config x (Answered n (op.Commit db ws) (answer.Unsure number missing)) r)
 unfolding DatabasesNeed goes answer_goes database_goes
-unsure_accepted config rules x r n db number ws missing h = rw (persistent (kind_at config db) h.0.1) (h.0.0, h.0.1, _, (h.0.2, h.1, refl), refl)
+unsure_accepted config rules x r n db number ws missing h = rw (persistent (kind_at config db) h.1.1) (h.0, tt, (h.1.0, h.1.1, _, (h.1.2, h.2, refl), refl))

@@ -1,7 +1,10 @@
 -- The facts of persistent databases that hold in every run: what the databases of nodes, waiting commits and messages stand for.
 -- They are said of nodes, messages and registers apart, so that they may be said amid a step.
-use Rattle.std.proofs.Common.{◌≡◌, ◌≢◌, ℕ, suc, ◌+◌, ◌<◌, ◌≤◌, Bool, true, false, List, [], length, map, Option, None, Some}
-use Rattle.std.specs.Prelude.{◌⊎◌, slice_get}
+use Rattle.std.proofs.Common.{◌≡◌, ◌≢◌, ℕ, suc, ◌+◌, ◌<◌, ◌≤◌, Bool, true, false, List, [], length, map, Option, None, Some, ap, ⊎_elim, arith}
+use Rattle.std.proofs.lemmas.Bool.{cases_Bool}
+use Rattle.std.specs.Prelude.{◌⊎◌, nat_lt, slice_get, is_some}
+use Rattle.std.specs.List.{list_all}
+use Rattle.ct_values.specs.Words.{others}
 use Rattle.ct_values.specs.declared.config.Config.{Config}
 use Rattle.ct_frame.specs.declared.frame.Frame.{Frame}
 use Rattle.ct_frame.specs.declared.frame.Msg.{Msg}
@@ -57,8 +60,10 @@ pub record Counted (members : List ℕ) (d : Database) (has : ℕ → ℕ) : Typ
   pub known : d.acked ≤ length d.commits
   pub acked : (n : ℕ) → is_among n members ≡ true → d.acked ≤ has n
   pub seen : (n : ℕ) → d.seen n ≤ has n
+  -- whose commit is not answered has it, and it is not acknowledged
+  pub begun : (n : ℕ) → d.committer ≡ Some n → (d.acked < length d.commits) × (has n ≡ length d.commits)
 
--- A commit waits at node n: it is the newest, not acknowledged, and each member that is not missing has all commits. That it is
+-- A commit waits at node n: it is the newest, not acknowledged, others are missing, and each member that is not has all commits. That it is
 -- under its lock at a node that is present, and whose call it is, is told of every waiting commit beside this.
 pub record Waits (n : ℕ) (members : List ℕ) (d : Database) (has : ℕ → ℕ) (x : Committing) : Type 0 where
   pub begun : d.committer ≡ Some n
@@ -66,6 +71,8 @@ pub record Waits (n : ℕ) (members : List ℕ) (d : Database) (has : ℕ → �
   pub numbered : x.pending.seq ≡ d.seq + length d.commits
   pub unacknowledged : d.acked + 1 ≡ length d.commits
   pub some : x.pending.missing ≢ []
+  pub ascend : ascends nat_lt x.pending.missing ≡ true
+  pub others : list_all (λ m. is_among m (others n members)) x.pending.missing ≡ true
   pub given : (m : ℕ) → is_among m members ≡ true → is_among m x.pending.missing ≡ false → has m ≡ length d.commits
 
 -- where a commit waits at the node, it is so
@@ -125,14 +132,34 @@ pub record Holds (config : Config) (nodes : ℕ → Node) (b : Bases) (has : Has
   pub counted : (g db : ℕ) → Counted (b.members g) (b.databases g db) (λ n. has g n db)
   pub waits : (n db : ℕ) → MayWait n (b.members (b.line n)) (b.databases (b.line n) db) (λ m. has (b.line n) m db) (db_at db (nodes n)).commit
   pub leads : (n : ℕ) → LeadStands config b has n (nodes n).lead
+  -- a commit that is not answered waits at its node, while that is in the line
+  pub committing : (n db : ℕ) → b.line n ≢ 0 → (b.databases (b.line n) db).committer ≡ Some n → is_some (db_at db (nodes n)).commit ≡ true
 
--- what holds of locks between steps: every database settles, and the owner of its lock has all commits
+-- Number k of a database of line g is what a member of it had, and has still, that promised a later generation: it gets no commit of line g
+-- any more.
+pub record Heir (nodes : ℕ → Node) (b : Bases) (has : Has) (g db k : ℕ) : Type 0 where
+  pub node : ℕ
+  pub born : b.born g ≡ true
+  pub member : is_among node (b.members g) ≡ true
+  pub later : g < (nodes node).promise
+  pub number : k ≡ (b.databases g db).seq + has g node db
+
+-- what holds of locks and of lines between steps: every database settles, the owner of its lock has all commits, and what a line took over
+-- of another is what a member had of that
 pub record Settled (config : Config) (nodes : ℕ → Node) (b : Bases) (has : Has) (gone : Gone) (owner : Owners) : Type 0 where
   pub settles : (g db : ℕ) → is_persistent (kind_at config db) ≡ true → Settles config nodes b gone g db
   pub owner_has : (g db n : ℕ) → is_persistent (kind_at config db) ≡ true → owner g db ≡ Some n → has g n db ≡ length (b.databases g db).commits
+  pub heirs : (l g db k : ℕ) → is_persistent (kind_at config db) ≡ true → (b.databases l db).from g ≡ Some k → Heir nodes b has g db k
 
 -- what holds of persistent databases in every run
 pub record StoresHold (config : Config) (w : Cluster) (r : Lines) (has : Has) (gone : Gone) : Type 0 where
   pub holds : Holds config (λ n. node_at n w) (bases r) has
   pub settled : Settled config (λ n. node_at n w) (bases r) has gone (owners config r)
   pub mail : MailStands config (bases r) has (map (λ s. s.frame) w.sent)
+
+-- a database with a commit that is not answered is a persistent one
+pub committer_kind : (config : Config) (nodes : ℕ → Node) (b : Bases) (has : Has) → Holds config nodes b has → (g db n : ℕ) → (b.databases g db).committer ≡ Some n → is_persistent (kind_at config db) ≡ true
+committer_kind config nodes b has h g db n is = ⊎_elim
+    (λ (e : is_persistent (kind_at config db) ≡ true). e)
+    (λ (e : is_persistent (kind_at config db) ≡ false). absurd (let none : length (b.databases g db).commits ≡ 0 = ap length (h.others g db e) in let k = ((h.counted g db).begun n is).0 in omega arith))
+    (cases_Bool (is_persistent (kind_at config db)))

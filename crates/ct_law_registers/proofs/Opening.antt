@@ -56,11 +56,12 @@ stores_open c = record {
     fresh = λ g n db below. refl;
     unborn = λ g db is. refl;
     others = λ g db is. refl;
-    counted = λ g db. record { within = λ n. omega arith; known = omega arith; acked = λ n member. omega arith; seen = λ n. omega arith };
+    counted = λ g db. record { within = λ n. omega arith; known = omega arith; acked = λ n member. omega arith; seen = λ n. omega arith; begun = λ n e. absurd (cc) };
+    committing = λ n db line e. absurd (cc);
     waits = λ n db. no_commit n _ _ _ _ (ap (λ (d : node.Database). d.commit) (opened_db c n db));
     leads = λ n. no_push c _ _ n _ (opened_lead c n);
   };
-  settled = record { settles = λ g db kind. inl refl; owner_has = λ g db n kind owns. absurd (cc) };
+  settled = record { settles = λ g db kind. inl refl; owner_has = λ g db n kind owns. absurd (cc); heirs = λ l g db k kind e. absurd (cc) };
   mail = λ f is. absurd (cluster_silent c f is);
 }
 

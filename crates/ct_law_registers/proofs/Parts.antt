@@ -18,13 +18,14 @@ use Rattle.ct_rules_cluster.specs.Labels.{Label, Answered, Unasked, Begun, Noted
 use Rattle.ct_rules_node.specs.Node.{is_among, is_persistent, kind_at}
 use Rattle.ct_register.specs.Words.{at}
 use Rattle.ct_register.specs.Register.{Register, owned_by, seen_by, with_version, released, emptied}
-use Rattle.ct_register.specs.Database.{Database, IsOpen, all_seen, value_after}
+use Rattle.ct_register.specs.Database.{Database, IsOpen, AreMissing, all_seen, value_after}
 use Rattle.ct_register.specs.Placing as placing
 use Rattle.ct_register.specs.Placing.{Placing, IsPushedAlike, given_placement, take_list, IsAssigned}
 use Rattle.ct_register.specs.Lines.{Lines, with_placing, with_address, ticketed, joined, stopped}
 use Rattle.ct_register.specs.Births.{born_of}
-use Rattle.ct_register.specs.Legal.{lock_owner}
+use Rattle.ct_register.specs.Legal.{AllHave, MayRefuse, lock_owner}
 use Rattle.ct_register.proofs.Ways.{at_record, at_database}
+use Rattle.ct_law_registers.specs.Locks.{KeepsCommits}
 
 -- what one step leaves open: what a birth takes over of records and of databases, and how many commits a read has seen
 pub record Choice : Type 0 where
@@ -44,8 +45,8 @@ register_goes n (op.Apply db key function arg) (answer.Applied v) t = with_versi
 register_goes n asked given t = t
 
 unfoldable pub database_goes : Choice → List ℕ → ℕ → ClientOp → Answer → Database → Database
-database_goes x members n asked (answer.Committed number) d = record d { acked = length d.commits; seen = all_seen (length d.commits) members [] d.seen }
-database_goes x members n asked (answer.Unsure number missing) d = record d { seen = all_seen (length d.commits) members missing d.seen }
+database_goes x members n asked (answer.Committed number) d = record d { committer = None; acked = length d.commits; seen = all_seen (length d.commits) members [] d.seen }
+database_goes x members n asked (answer.Unsure number missing) d = record d { committer = None; seen = all_seen (length d.commits) members missing d.seen }
 database_goes x members n asked (answer.Read v) d = record d { seen = at n x.seen d.seen }
 database_goes x members n asked given d = d
 
@@ -106,18 +107,24 @@ pub record CanKeep (r : Lines) (members : List ℕ) (q : ℕ) (kept : ℕ → �
   pub acked : (db : ℕ) → (r.databases q db).acked ≤ kept db
   pub seen : (db m : ℕ) → is_among m members ≡ true → r.pline m ≡ q → (r.databases q db).seen m ≤ kept db
 
--- No answer is one of a persistent database but to a commit or a read there, or a refusal that tells nothing.
+-- No answer is one of a persistent database but to a commit or a read there, or a refusal that tells nothing. A commit that waits keeps its
+-- lock, and another is refused for it.
 unfoldable pub DatabasesNeed : Config → Choice → Lines → Label → Type 0
 DatabasesNeed config x r (Answered n asked (answer.Refused (why.TooLong m))) = is_persistent (kind_at config (db_of asked)) ≡ false
-DatabasesNeed config x r (Answered n asked (answer.Refused w)) = Unit {0}
-DatabasesNeed config x r (Answered n (op.Commit db writes) (answer.Committed number)) = OfDatabase config n db (IsOpen n writes number) r
-DatabasesNeed config x r (Answered n (op.Commit db writes) (answer.Unsure number missing)) = OfDatabase config n db (IsOpen n writes number) r × (missing ≢ [])
+DatabasesNeed config x r (Answered n asked (answer.Refused w)) = MayRefuse config n asked w r
+DatabasesNeed config x r (Answered n (op.Unlock db key) answer.Unlocked) =
+    (is_persistent (kind_at config db) ≡ false) × KeepsCommits config r (Answered n (op.Unlock db key) answer.Unlocked)
+DatabasesNeed config x r (Answered n (op.Commit db writes) (answer.Committed number)) =
+    (lock_owner config (r.line n) db r ≡ Some n) × OfDatabase config n db (IsOpen n writes number) r × AllHave (r.line n) db number r
+DatabasesNeed config x r (Answered n (op.Commit db writes) (answer.Unsure number missing)) =
+    (lock_owner config (r.line n) db r ≡ Some n) × OfDatabase config n db (IsOpen n writes number) r × AreMissing (r.members (r.line n)) n missing
 DatabasesNeed config x r (Answered n (op.Read db key) (answer.Read v)) =
     is_persistent (kind_at config db) ≡ true → OfDatabase config n db (CanRead x n key v) r
 DatabasesNeed config x r (Answered n asked given) = is_persistent (kind_at config (db_of asked)) ≡ false
 DatabasesNeed config x r (Begun n db writes) =
     OfDatabase config n db (λ d. d.acked ≡ length d.commits) r × (lock_owner config (r.line n) db r ≡ Some n)
 DatabasesNeed config x r (Noted h (note.Round g members p q)) = CanKeep r members q x.kept
+DatabasesNeed config x r (Noted n (note.Ended db key)) = KeepsCommits config r (Noted n (note.Ended db key))
 DatabasesNeed config x r label = Unit {0}
 
 -- ---- what a label needs of addresses
@@ -135,3 +142,10 @@ PlacesNeed config r label = Unit {0}
 unfoldable pub AllNeed : (Lines → Label → Type 0) → Config → Choice → Lines → List Label → Type 0
 AllNeed Need config x r [] = Unit {0}
 AllNeed Need config x r (label ∷ labels) = Need r label × AllNeed Need config x (goes config x label r) labels
+
+-- what a label needs of databases has that commits that wait keep their locks
+pub commits_kept : (config : Config) (x : Choice) (r : Lines) (label : Label) → DatabasesNeed config x r label → KeepsCommits config r label
+unfolding DatabasesNeed
+commits_kept config x r (Answered n (op.Unlock db key) answer.Unlocked) h = h.1
+commits_kept config x r (Noted n (note.Ended db key)) h = h
+commits_kept config x r label h = tt

@@ -42,19 +42,21 @@ update_next i d ws e fit =
 
 -- ---- what stays of messages
 
--- a database later: its number and its base stay, commits only follow those that were there, and no fewer are acknowledged
+-- a database later: its number, its base and what it took over stay, commits only follow those that were there, and no fewer are acknowledged
 pub record Grown (d e : Database) : Type 0 where
   pub seq : e.seq ≡ d.seq
   pub base : e.base ≡ d.base
+  pub from : e.from ≡ d.from
   pub acked : d.acked ≤ e.acked
   pub commits : (i : ℕ) (ws : List Pair) → slice_get d.commits i ≡ Some ws → slice_get e.commits i ≡ Some ws
   pub first : (j : ℕ) → j ≤ length d.commits → take j e.commits ≡ take j d.commits
 
--- lines stay born and their databases grow, and so does what nodes have
+-- lines stay born with their members, their databases grow, and so does what nodes have
 pub record Grow (r s : Bases) (has more : Has) : Type 0 where
   pub born : (g : ℕ) → r.born g ≡ true → s.born g ≡ true
   pub databases : (g db : ℕ) → r.born g ≡ true → Grown (r.databases g db) (s.databases g db)
   pub rises : (g n db : ℕ) → has g n db ≤ more g n db
+  pub members : (g : ℕ) → r.born g ≡ true → s.members g ≡ r.members g
 
 -- of the databases that this message was pulled from, its sender has as many commits as before
 unfoldable pub IsStill : Has → Has → ℕ → Msg → Type 0
@@ -92,10 +94,10 @@ lead_later config r s has more n _ grow within h = h
 
 -- what does not change has grown
 pub grown_same : (d : Database) → Grown d d
-grown_same d = record { seq = refl; base = refl; acked = omega arith; commits = λ i ws e. e; first = λ j l. refl }
+grown_same d = record { seq = refl; base = refl; from = refl; acked = omega arith; commits = λ i ws e. e; first = λ j l. refl }
 
 pub grow_same : (b : Bases) (has : Has) → Grow b b has has
-grow_same b has = record { born = λ g e. e; databases = λ g db e. grown_same (b.databases g db); rises = λ g n db. omega arith }
+grow_same b has = record { born = λ g e. e; databases = λ g db e. grown_same (b.databases g db); rises = λ g n db. omega arith; members = λ g e. refl }
 
 -- ---- an update comes
 

@@ -59,10 +59,10 @@ any_read_accepted config rules x r n db key v a b = ⊎_elim
 -- a label is accepted where each of its four needs holds
 pub parts_accept : (config : Config) (rules : Rules) (x : Choice) (r : Lines) (label : Label) → RecordsNeed config rules x r label → DatabasesNeed config x r label → PlacesNeed config r label → RoundsNeed r label →
     AcceptsLabel config rules r label (goes config x label r)
-unfolding RecordsNeed goes answer_goes
+unfolding RecordsNeed DatabasesNeed goes answer_goes
 parts_accept config rules x r (Answered n (op.Apply db key f arg) (answer.Refused (why.TooLong m))) a b c d = too_long_accepted config rules x r n db f m key arg a
 parts_accept config rules x r (Answered n asked (answer.Refused (why.TooLong m))) a b c d = absurd a.2
-parts_accept config rules x r (Answered n asked (answer.Refused w)) a b c d = refl
+parts_accept config rules x r (Answered n asked (answer.Refused w)) a b c d = (b, refl)
 parts_accept config rules x r (Answered n (op.Lock db key) (answer.Locked v)) a b c d = lock_accepted config rules x r n db key v a
 parts_accept config rules x r (Answered n (op.Read db key) (answer.Read v)) a b c d = any_read_accepted config rules x r n db key v a b
 parts_accept config rules x r (Answered n (op.Write db key v) answer.Written) a b c d = write_accepted config rules x r n db key v a

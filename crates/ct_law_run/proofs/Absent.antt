@@ -15,13 +15,13 @@ use Rattle.ct_rules_node.specs.Turn.{Turn, begins}
 use Rattle.ct_rules_cluster.specs.Cluster.{Cluster, node_at, pending}
 use Rattle.ct_register.specs.Lines.{Lines}
 use Rattle.ct_promise.specs.Promises.{IsConfig}
-use Rattle.ct_law_generation_node.proofs.Pending.{Callers}
-use Rattle.ct_law_run_lines.proofs.Ages.{Ages}
-use Rattle.ct_law_run_lines.proofs.Lives.{Lives, PhaseSays}
-use Rattle.ct_law_run_lines.proofs.Faces.{Turned}
-use Rattle.ct_law_run_install.proofs.Handed.{freezes_turned, freezeack_turned, pushack_turned, pull_turned, HasCome, nothing_turned}
-use Rattle.ct_law_run_install.proofs.Last.{replies_turned}
-use Rattle.ct_law_run_install.proofs.Pushes.{push_turned}
+use Rattle.ct_law_generation.proofs.Pending.{Callers}
+use Rattle.ct_law_run.proofs.Ages.{Ages}
+use Rattle.ct_law_run.proofs.Lives.{Lives, PhaseSays}
+use Rattle.ct_law_run.proofs.Faces.{Turned}
+use Rattle.ct_law_run.proofs.HandedInstalls.{freezes_turned, freezeack_turned, pushack_turned, pull_turned, HasCome, nothing_turned}
+use Rattle.ct_law_run.proofs.Last.{replies_turned}
+use Rattle.ct_law_run.proofs.Pushes.{push_turned}
 use Rattle.ct_law_run.proofs.Asking.{not_there}
 use Rattle.ct_law_run.proofs.Dropped.{is_of_round, dropped}
 

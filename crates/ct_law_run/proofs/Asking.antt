@@ -29,13 +29,13 @@ use Rattle.ct_rules_cluster.specs.declared.step.PendingCall.{PendingCall}
 use Rattle.ct_register.specs.Lines.{Lines}
 use Rattle.ct_promise.specs.Generation.{record_labels, speaks_of_records}
 use Rattle.ct_promise.specs.Promises.{IsConfig}
-use Rattle.ct_law_generation_node.proofs.Calling.{own_pending}
-use Rattle.ct_law_generation_cluster.proofs.Admitted.{admits}
-use Rattle.ct_law_generation_cluster.proofs.Served.{client_serves, call_kind, has_database}
-use Rattle.ct_law_run_lines.proofs.Lives.{Lives}
-use Rattle.ct_law_run_lines.proofs.Faces.{Turned}
-use Rattle.ct_law_run_serve.proofs.Handed.{refusal_turned, store_turned, unlock_turned, read_turned, outs_labels}
-use Rattle.ct_law_run_install.proofs.Handed.{wordless_turned}
+use Rattle.ct_law_generation.proofs.Calling.{own_pending}
+use Rattle.ct_law_generation.proofs.Admitted.{admits}
+use Rattle.ct_law_generation.proofs.Served.{client_serves, call_kind, has_database}
+use Rattle.ct_law_run.proofs.Lives.{Lives}
+use Rattle.ct_law_run.proofs.Faces.{Turned}
+use Rattle.ct_law_run.proofs.HandedServing.{refusal_turned, store_turned, unlock_turned, read_turned, outs_labels}
+use Rattle.ct_law_run.proofs.HandedInstalls.{wordless_turned}
 
 -- ---- which calls are served
 

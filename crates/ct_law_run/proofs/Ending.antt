@@ -4,26 +4,26 @@ use Rattle.ct_values.specs.declared.config.Config.{Config}
 use Rattle.ct_call.specs.Rules.{Rules}
 use Rattle.ct_rules_cluster.specs.Cluster.{Cluster, opening}
 use Rattle.ct_rules_cluster.specs.Traces.{OpenCall, ran_one}
-use Rattle.ct_law_generation_node.specs.Waiting.{Outcome, outcome_of}
+use Rattle.ct_law_generation.specs.Waiting.{Outcome, outcome_of}
 use Rattle.ct_rules_cluster.specs.declared.step.Step.{Step}
 use Rattle.ct_register.specs.Lines
 use Rattle.ct_promise.specs.Promises.{IsConfig}
 use Rattle.ct_promise.specs.Marked.{AllMarks}
-use Rattle.ct_law_generation_cluster.proofs.Clusters.{all_known}
-use Rattle.ct_law_generation_cluster.proofs.Opening.{first_era, opened_stays}
-use Rattle.ct_law_generation_entries.proofs.AtHome.{AllAtHome, step_home}
-use Rattle.ct_law_generation_entries.proofs.Entries.{opening_home}
-use Rattle.ct_law_generation_node.proofs.Pending.{Callers}
+use Rattle.ct_law_generation.proofs.Clusters.{all_known}
+use Rattle.ct_law_generation.proofs.Opening.{first_era, opened_stays}
+use Rattle.ct_law_generation.proofs.AtHome.{AllAtHome, step_home}
+use Rattle.ct_law_generation.proofs.Entries.{opening_home}
+use Rattle.ct_law_generation.proofs.Pending.{Callers}
 use Rattle.ct_values.specs.declared.client.ClientOp.TheVariants as op
-use Rattle.ct_law_generation_calls.proofs.Clusters.{Calls}
-use Rattle.ct_law_generation_calls.proofs.Telling.{by_log, calls_stand}
-use Rattle.ct_law_generation_calls.proofs.Running.{one_logs, opened_calls}
-use Rattle.ct_law_run_lines.specs.Records.{RecordsMarked, LawOfRecords, PromiseOfRecords}
-use Rattle.ct_law_run_lines.proofs.Lives.{Lives}
-use Rattle.ct_law_run_lines.proofs.Faces.{marks_in_all, EntriesAtHome, After, StepLives}
-use Rattle.ct_law_run_lines.proofs.Lined.{lives_stand, generations_stand}
-use Rattle.ct_law_run_lines.proofs.Followed.{records_follow}
-use Rattle.ct_law_run_lines.proofs.Opened.{opened_lives}
+use Rattle.ct_law_generation.proofs.CallsOpen.{Calls}
+use Rattle.ct_law_generation.proofs.CallsTold.{by_log, calls_stand}
+use Rattle.ct_law_generation.proofs.CallsRun.{one_logs, opened_calls}
+use Rattle.ct_law_run.specs.Records.{RecordsMarked, LawOfRecords, PromiseOfRecords}
+use Rattle.ct_law_run.proofs.Lives.{Lives}
+use Rattle.ct_law_run.proofs.Faces.{marks_in_all, EntriesAtHome, After, StepLives}
+use Rattle.ct_law_run.proofs.Lined.{lives_stand, generations_stand}
+use Rattle.ct_law_run.proofs.Followed.{records_follow}
+use Rattle.ct_law_run.proofs.Opened.{opened_lives}
 
 -- a node has entries of records alone whose location master it is
 pub entries_home : (w : Cluster) → AllAtHome w → EntriesAtHome w

@@ -1,2 +1,2 @@
 -- Words of the libraries below, handed on to the crates above.
-pub use Rattle.ct_law_run_install.proofs.Last.{pushed_is}
+pub use Rattle.ct_law_run.proofs.Last.{pushed_is}

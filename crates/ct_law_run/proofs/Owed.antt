@@ -18,22 +18,22 @@ use Rattle.ct_rules_cluster.specs.Cluster.{Cluster, node_at, pending}
 use Rattle.ct_rules_cluster.specs.declared.step.PendingCall.{PendingCall}
 use Rattle.ct_register.specs.Lines.{Lines}
 use Rattle.ct_promise.specs.Promises.{IsConfig}
-use Rattle.ct_law_generation_node.proofs.Calling.{own_pending}
-use Rattle.ct_law_run_lines.proofs.Lives.{WasSent, Lives}
-use Rattle.ct_law_run_lines.proofs.Faces.{Turned}
-use Rattle.ct_law_run_serve.proofs.Handed.{retry_turned}
+use Rattle.ct_law_generation.proofs.Calling.{own_pending}
+use Rattle.ct_law_run.proofs.Lives.{WasSent, Lives}
+use Rattle.ct_law_run.proofs.Faces.{Turned}
+use Rattle.ct_law_run.proofs.HandedServing.{retry_turned}
 use Rattle.ct_law_run.proofs.Dropped.{is_of_round}
 use Rattle.ct_law_run.proofs.Asking
 use Rattle.ct_law_run.proofs.Absent
 use Rattle.ct_law_run.proofs.Absent.{round_turned, arrives_turned}
-use Rattle.ct_law_run_serve.proofs.Records.{record_turned, vacuum_turned}
-use Rattle.ct_law_run_serve.proofs.Thawing.{retry_here, thaw_turned}
-use Rattle.ct_law_run_serve.proofs.Asides.{pupdate_turned, pack_turned, release_turned, take_turned}
-use Rattle.ct_law_run_serve.proofs.Runs.{releaseack_turned}
-use Rattle.ct_law_run_serve.proofs.Clients.{client_turned}
-use Rattle.ct_law_run_lines.specs.Records.{LawOfRecords, PromiseOfRecords}
+use Rattle.ct_law_run.proofs.Records.{record_turned, vacuum_turned}
+use Rattle.ct_law_run.proofs.Thawing.{retry_here, thaw_turned}
+use Rattle.ct_law_run.proofs.Asides.{pupdate_turned, pack_turned, release_turned, take_turned}
+use Rattle.ct_law_run.proofs.Runs.{releaseack_turned}
+use Rattle.ct_law_run.proofs.Clients.{client_turned}
+use Rattle.ct_law_run.specs.Records.{LawOfRecords, PromiseOfRecords}
 use Rattle.ct_law_run.proofs.Stepping.{Comes, IsOwed, AllOwed, law_from_turns}
-use Rattle.ct_law_run_lines.proofs.Followed.{records_follow}
+use Rattle.ct_law_run.proofs.Followed.{records_follow}
 
 -- ---- a node that is present
 

@@ -22,7 +22,7 @@ use Rattle.ct_rules_cluster.specs.Faults.{fault_of, is_allowed, no_such_node, no
 use Rattle.ct_rules_cluster.specs.Labels.{Label}
 use Rattle.ct_rules_cluster.specs.Steps.{put, lines_of, fed, done, deliver, repeat, with_fate, steps}
 use Rattle.ct_rules_cluster.specs.Traces.{begun_by, own_labels}
-use Rattle.ct_law_generation_node.specs.Waiting.{answerable, told_lines, told_step, unchanged, came_of, outcome}
+use Rattle.ct_law_generation.specs.Waiting.{answerable, told_lines, told_step, unchanged, came_of, outcome}
 use Rattle.ct_rules_cluster.specs.Traces as traces
 use Rattle.ct_rules_cluster.specs.declared.step.Line.{Line}
 use Rattle.ct_rules_cluster.specs.declared.step.PendingCall.{PendingCall}
@@ -37,25 +37,25 @@ use Rattle.ct_promise.specs.Marked.{is_removal, is_removed, MarksGoOn}
 use Rattle.ct_promise.specs.Promises.{IsConfig}
 use Rattle.ct_promise.proofs.Follows.{filter_more}
 use Rattle.ct_law_record.proofs.MarkedRun.{marks_of}
-use Rattle.ct_law_generation_node.specs.Shown.{labels_of}
-use Rattle.ct_law_generation_node.proofs.Hearing.{labels_are}
-use Rattle.ct_law_generation_node.proofs.Pending.{Callers}
-use Rattle.ct_law_generation_cluster.proofs.Counting.{own_caller}
-use Rattle.ct_law_generation_cluster.proofs.Faulting.{vacuum_kind}
-use Rattle.ct_law_run_lines.specs.Records.{LawOfRecords}
-use Rattle.ct_law_run_lines.proofs.Ages.{Ages}
-use Rattle.ct_law_run_lines.proofs.Lives.{WasSent, Lives}
-use Rattle.ct_law_run_lines.proofs.Later.{Rest}
-use Rattle.ct_law_run_lines.proofs.Faces.{Turned, After, StepLives, marks_in_all}
+use Rattle.ct_law_generation.specs.Shown.{labels_of}
+use Rattle.ct_law_generation.proofs.Hearing.{labels_are}
+use Rattle.ct_law_generation.proofs.Pending.{Callers}
+use Rattle.ct_law_generation.proofs.Counting.{own_caller}
+use Rattle.ct_law_generation.proofs.Faulting.{vacuum_kind}
+use Rattle.ct_law_run.specs.Records.{LawOfRecords}
+use Rattle.ct_law_run.proofs.Ages.{Ages}
+use Rattle.ct_law_run.proofs.Lives.{WasSent, Lives}
+use Rattle.ct_law_run.proofs.Later.{Rest}
+use Rattle.ct_law_run.proofs.Faces.{Turned, After, StepLives, marks_in_all}
 use Rattle.ct_law_run.proofs.Ending.{law_of_records}
-use Rattle.ct_law_run_stop.proofs.Quiet.{Quiet, quiet_lives, quiet_after, idle_after, after_taken}
-use Rattle.ct_law_run_stop.proofs.Standing.{start_after, able_after, yield_after, drop_after, lost_after, lost_again, fate_quiet, fate_ticket, fate_holder, fate_up}
-use Rattle.ct_law_run_stop.proofs.Stopped.{stop_after}
-use Rattle.ct_law_run_stop.proofs.Turning.{turned_after}
-use Rattle.ct_law_run_stop.proofs.Recovered.{fed_either, recover_after}
-use Rattle.ct_law_run_stop.proofs.Taking.{takeover_turned}
-use Rattle.ct_law_generation_cluster.proofs.Called.{counted}
-use Rattle.ct_law_run_stop.proofs.Called.{lives_called}
+use Rattle.ct_law_run.proofs.Quiet.{Quiet, quiet_lives, quiet_after, idle_after, after_taken}
+use Rattle.ct_law_run.proofs.Standing.{start_after, able_after, yield_after, drop_after, lost_after, lost_again, fate_quiet, fate_ticket, fate_holder, fate_up}
+use Rattle.ct_law_run.proofs.Stopped.{stop_after}
+use Rattle.ct_law_run.proofs.Turning.{turned_after}
+use Rattle.ct_law_run.proofs.Recovered.{fed_either, recover_after}
+use Rattle.ct_law_run.proofs.Taking.{takeover_turned}
+use Rattle.ct_law_generation.proofs.Called.{counted}
+use Rattle.ct_law_run.proofs.Called.{lives_called}
 
 -- ---- what is owed
 

@@ -1,6 +1,6 @@
 //! What holds of the records of volatile and read-only databases through every list of steps: client calls, deliveries, losses,
 //! repeats, retries, vacuums, recoveries in any number, stops, starts and takeovers, in every order.
-ghost use Rattle.ct_law_run_lines.specs.Records.{LawOfRecords, PromiseOfRecords};
+ghost use Rattle.ct_law_run.specs.Records.{LawOfRecords, PromiseOfRecords};
 
 /// From the opening, where nothing is marked: step by step there are registers that accept what the step told of records and of
 /// generations, and that the cluster stands for in its records and in the generations of its nodes, and marks that hold of them and

@@ -1,5 +1,0 @@
-use Rattle.ct_law_addresses.proofs.Holders.{one_holder}
-use Rattle.ct_law_addresses.proofs.laws.held_by_one.Goals as goal
-
-pub returns : goal.returns
-returns c = one_holder

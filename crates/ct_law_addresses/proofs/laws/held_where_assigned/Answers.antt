@@ -1,5 +1,0 @@
-use Rattle.ct_law_addresses.proofs.Holders.{held_where_assigned}
-use Rattle.ct_law_addresses.proofs.laws.held_where_assigned.Goals as goal
-
-pub returns : goal.returns
-returns c = held_where_assigned

@@ -1,5 +1,0 @@
-use Rattle.ct_law_addresses.proofs.Law.{law_of_addresses}
-use Rattle.ct_law_addresses.proofs.laws.keeps_addresses.Goals as goal
-
-pub returns : goal.returns
-returns c = law_of_addresses

@@ -1,5 +1,0 @@
-use Rattle.ct_law_generation_calls.proofs.Born.{calls_from_rows}
-use Rattle.ct_law_generation_calls.proofs.laws.keeps_calls_of_rows.Goals as goal
-
-pub returns : goal.returns
-returns c = calls_from_rows

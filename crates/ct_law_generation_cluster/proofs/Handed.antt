@@ -1,2 +1,0 @@
--- Words of the libraries below, handed on to the crates above.
-pub use Rattle.ct_law_generation_node.proofs.Putting.{own_node}

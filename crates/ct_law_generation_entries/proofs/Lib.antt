@@ -1,9 +1,0 @@
-pub mod Homing
-pub mod Leaving
-pub mod AtHome
-pub mod Entries
-pub mod Finishing
-pub mod Removing
-pub mod Unremoved
-pub mod Removed
-pub mod Clearing

@@ -1,4 +1,0 @@
-pub mod Rule
-pub mod Invariant
-pub mod Nodes
-pub mod Copies

@@ -1,4 +1,0 @@
-pub mod Holding
-pub mod Held
-pub mod Finishing
-pub mod Declining

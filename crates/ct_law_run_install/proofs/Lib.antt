@@ -1,9 +1,0 @@
-pub mod Drawn
-pub mod Low
-pub mod Newly
-pub mod Last
-pub mod Made
-pub mod Viewed
-pub mod Pushed
-pub mod Pushes
-pub mod Handed
