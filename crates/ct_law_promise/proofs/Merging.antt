@@ -30,16 +30,16 @@ use Rattle.ct_register.specs.Marks.{IsCopyAt, value_at}
 use Rattle.ct_register.specs.Register.{Register, reading}
 use Rattle.ct_promise.specs.Marked.{AllMarks}
 use Rattle.ct_law_record.proofs.MarkedRun
-use Rattle.ct_law_run_lines.proofs.Lives.{Lives, LeadSays, IsTicket, IsGatheredOf}
-use Rattle.ct_law_run_lines.proofs.Best.{best_is_copy}
-use Rattle.ct_law_run_lines.proofs.Begotten.{parent, parent_is, in_order, told_is, born_parent, no_row, copies, row_is, all_heirs}
-use Rattle.ct_law_run_lines.proofs.Heirs.{taken_reading}
-use Rattle.ct_law_run_lines.proofs.Rounds.{counts, round_accepted}
-use Rattle.ct_law_run_lines.proofs.Lined.{beyond}
-use Rattle.ct_law_run_lines.proofs.Faces.{marks_in_all}
-use Rattle.ct_law_run_lead.proofs.Freezing.{HasCome}
-use Rattle.ct_law_databases.proofs.Handed.{pushed_is}
-use Rattle.ct_law_run_lead.proofs.Gathering.{gathers, pull_of, reply_came}
+use Rattle.ct_law_run.proofs.Lives.{Lives, LeadSays, IsTicket, IsGatheredOf}
+use Rattle.ct_law_run.proofs.Best.{best_is_copy}
+use Rattle.ct_law_run.proofs.Begotten.{parent, parent_is, in_order, told_is, born_parent, no_row, copies, row_is, all_heirs}
+use Rattle.ct_law_run.proofs.Heirs.{taken_reading}
+use Rattle.ct_law_run.proofs.Rounds.{counts, round_accepted}
+use Rattle.ct_law_run.proofs.Lined.{beyond}
+use Rattle.ct_law_run.proofs.Faces.{marks_in_all}
+use Rattle.ct_law_run.proofs.Freezing.{HasCome}
+use Rattle.ct_law_run.proofs.Handed.{pushed_is}
+use Rattle.ct_law_run.proofs.Gathering.{gathers, pull_of, reply_came}
 use Rattle.ct_law_promise.specs.Merges.{IsLastReply, body_at, StandsForBirth, MergesSo, KeepsWhatWasSeen, value_in_row}
 
 -- ---- what is gathered

@@ -56,8 +56,8 @@ database_held config n db Step r s p f = held_same r s (ap (λ (x : Lines). x.li
 
 answer_held : (config : Config) (rules : Rules) (n : ℕ) (asked : ClientOp) (given : Answer) (r s : Lines) → Legal.AcceptsAnswer config rules n asked given r s → NowhereHeld r → NowhereHeld s
 answer_held config rules n asked (answer.Refused (why.TooLong m)) r s p f = record_held config n (db_of asked) (key_of asked) (register.Accepts rules n asked (answer.Refused (why.TooLong m))) r s p f
-answer_held config rules n asked (answer.Refused w) r s p f = equal_held s r p f
-answer_held config rules n (op.Commit db writes) given r s p f = database_held config n db (database.AcceptsCommit (r.members (r.line n)) n writes given) r s p f
+answer_held config rules n asked (answer.Refused w) r s p f = equal_held s r p.1 f
+answer_held config rules n (op.Commit db writes) given r s p f = database_held config n db (database.AcceptsCommit (r.members (r.line n)) n writes given) r s p.2 f
 answer_held config rules n (op.Read db key) (answer.Read v) r s p f = ⊎_elim
     (λ (q : AtRecord config n db key (register.Accepts rules n (op.Read db key) (answer.Read v)) r s). record_held config n db key (register.Accepts rules n (op.Read db key) (answer.Read v)) r s q f)
     (λ (q : AtDatabase config n db (database.AcceptsRead n key v) r s). database_held config n db (database.AcceptsRead n key v) r s q f) p

@@ -3,21 +3,21 @@ use Rattle.std.proofs.Common.{List, [], ◌∷◌, sym, subst}
 use Rattle.ct_values.specs.declared.config.Config.{Config}
 use Rattle.ct_call.specs.Rules.{Rules}
 use Rattle.ct_rules_cluster.specs.Cluster.{Cluster, opening}
-use Rattle.ct_law_generation_node.specs.Waiting.{Outcome, outcome_of}
-use Rattle.ct_law_generation_calls.proofs.Clusters.{Calls}
-use Rattle.ct_law_generation_calls.proofs.Telling.{by_log}
-use Rattle.ct_law_generation_calls.proofs.Running.{one_logs, opened_calls}
+use Rattle.ct_law_generation.specs.Waiting.{Outcome, outcome_of}
+use Rattle.ct_law_generation.proofs.CallsOpen.{Calls}
+use Rattle.ct_law_generation.proofs.CallsTold.{by_log}
+use Rattle.ct_law_generation.proofs.CallsRun.{one_logs, opened_calls}
 use Rattle.ct_promise.specs.Marked.{AllMarks}
 use Rattle.ct_rules_cluster.specs.Traces.{OpenCall, ran_one}
 use Rattle.ct_rules_cluster.specs.declared.step.Step.{Step}
 use Rattle.ct_register.specs.Lines
 use Rattle.ct_promise.specs.Promises.{IsConfig}
-use Rattle.ct_law_generation_entries.proofs.AtHome.{AllAtHome, step_home}
-use Rattle.ct_law_run_lines.proofs.Lives.{Lives}
-use Rattle.ct_law_run_lines.proofs.Faces.{After, StepLives, marks_in_all}
-use Rattle.ct_law_run_lines.proofs.Lined.{lives_stand, generations_stand}
-use Rattle.ct_law_run_lines.proofs.Opened.{opened_lives}
-use Rattle.ct_law_databases.proofs.Handed.{all_home, entries_home}
+use Rattle.ct_law_generation.proofs.AtHome.{AllAtHome, step_home}
+use Rattle.ct_law_run.proofs.Lives.{Lives}
+use Rattle.ct_law_run.proofs.Faces.{After, StepLives, marks_in_all}
+use Rattle.ct_law_run.proofs.Lined.{lives_stand, generations_stand}
+use Rattle.ct_law_run.proofs.Opened.{opened_lives}
+use Rattle.ct_law_run.proofs.Ending.{all_home, entries_home}
 use Rattle.ct_law_promise.specs.Merges.{LeadsWith, AfterAll, MergesAsBorn, NothingSeenIsLost, NothingVacuumedReturns, EachMerges, EachKeeps, EachMarks, body_at}
 use Rattle.ct_law_promise.proofs.Merging.{merges_so, seen_kept}
 

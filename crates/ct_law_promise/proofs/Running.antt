@@ -10,17 +10,17 @@ use Rattle.ct_register.specs.Lines.{Lines}
 use Rattle.ct_promise.specs.Promises.{IsConfig, Promise}
 use Rattle.ct_promise.specs.Marked.{AllMarks, MarksRun, LawOfMarks}
 use Rattle.ct_promise.proofs.Follows.{promise_follows}
-use Rattle.ct_law_generation_node.specs.Waiting.{Outcome, outcome_of}
-use Rattle.ct_law_generation_calls.proofs.Clusters.{Calls}
-use Rattle.ct_law_generation_calls.proofs.Telling.{by_log, calls_stand}
-use Rattle.ct_law_generation_calls.proofs.Running.{one_logs}
-use Rattle.ct_law_run_lines.proofs.Lives.{Lives}
-use Rattle.ct_law_run_lines.proofs.Faces.{marks_in_all}
-use Rattle.ct_law_run_lines.proofs.Opened.{opened_lives}
+use Rattle.ct_law_generation.specs.Waiting.{Outcome, outcome_of}
+use Rattle.ct_law_generation.proofs.CallsOpen.{Calls}
+use Rattle.ct_law_generation.proofs.CallsTold.{by_log, calls_stand}
+use Rattle.ct_law_generation.proofs.CallsRun.{one_logs}
+use Rattle.ct_law_run.proofs.Lives.{Lives}
+use Rattle.ct_law_run.proofs.Faces.{marks_in_all}
+use Rattle.ct_law_run.proofs.Opened.{opened_lives}
 use Rattle.ct_law_registers.proofs.Parts.{goes_on}
-use Rattle.ct_law_databases_join.proofs.Placeless.{but_same}
-use Rattle.ct_law_databases.proofs.Whole.{Whole, marks_but, opened_whole}
-use Rattle.ct_law_databases.proofs.Stepping.{marks_same}
+use Rattle.ct_law_databases.proofs.Placeless.{but_same}
+use Rattle.ct_law_promise.proofs.Whole.{Whole, marks_but, opened_whole}
+use Rattle.ct_law_promise.proofs.Stepping.{marks_same}
 use Rattle.ct_law_promise.proofs.Together.{Placed, Stepped_all, stands_whole, step_all, opened_placed}
 
 -- step by step

@@ -30,7 +30,7 @@ use Rattle.ct_register.specs.Stands.{RecordsStand}
 use Rattle.ct_promise.specs.Generation.{record_labels}
 use Rattle.ct_promise.specs.Marked.{AllMarks, no_marks, MarksHold, MarksGoOn}
 use Rattle.ct_promise.specs.Promises.{IsConfig}
-use Rattle.ct_law_run_lines.specs.Records.{GenerationsStand}
+use Rattle.ct_law_run.specs.Records.{GenerationsStand}
 
 -- ---- the last reply
 
