@@ -2,13 +2,13 @@
 use Rattle.std.proofs.Common.{◌≡◌, ◌∙◌, ℕ, ◌+◌, ◌≤◌, ◌⊎◌, ⊎_elim, inl, inr, List, Result, Ok, Err, Option, None, Some, arith, refl, sym, subst}
 use Rattle.ct_call.specs.Rules.{Rules}
 use Rattle.ct_script.specs.declared.cue.Cue.{Cue}
-use Rattle.ct_frame.specs.declared.event.Event.{Event}
 use Rattle.ct_frame.specs.declared.plan.PlanItem.{PlanItem}
 use Rattle.ct_actor.specs.Journalled.{Journalled}
 use Rattle.ct_outside.specs.Causes.{Rose}
+use Rattle.ct_actor_serving.specs.declared.fault.AtLimit.TheVariants as limit
 use Rattle.ct_actor_serving.specs.declared.fault.ServeFault.{ServeFault}
 use Rattle.ct_actor_serving.specs.declared.fault.ServeFault.TheVariants as fault
-use Rattle.ct_actor_serving.specs.Serving.{Acts, Counts, GoesOn, HasCause, IsCaused, IsRefused, NoneFell, RoseBy, both}
+use Rattle.ct_actor_serving.specs.Serving.{Acts, Counts, GoesOn, HasCause, NoneFell, RoseBy, both}
 
 -- ---- nodes
 
@@ -63,62 +63,65 @@ rose_nothing : (a b : ℕ) → a ≡ 0 → b ≡ 0 → Rose a b → ⊥
 rose_nothing a b x y r = absurd (omega (arith, r))
 
 -- counts had not fallen before
-pub cause_late : (rules : Rules) (f : ServeFault) (x : Journalled) (a b c : Counts) → NoneFell a b → HasCause rules f x b c → HasCause rules f x a c
+pub cause_late : (f : ServeFault) (a b c : Counts) → NoneFell a b → HasCause f b c → HasCause f a c
 unfolding HasCause
-cause_late rules fault.Link x a b c h k = ⊎_elim
+cause_late fault.Link a b c h k = ⊎_elim
     (λ (r : Rose b.failed c.failed). inl (rose_late a.failed b.failed c.failed h.failed r))
     (λ (r : Rose b.lock_failed c.lock_failed). inr (rose_late a.lock_failed b.lock_failed c.lock_failed h.lock_failed r))
     k
-cause_late rules (fault.Foreign sender offset) x a b c h k = tt
-cause_late rules (fault.Held holder) x a b c h k = rose_late a.refused b.refused c.refused h.refused k
-cause_late rules (fault.TooLong size) x a b c h k = k
-cause_late rules fault.Exhausted x a b c h k = ⊎_elim
-    (λ (r : Rose b.refused c.refused). inl (rose_late a.refused b.refused c.refused h.refused r))
-    (λ (e : (e : Event) × IsRefused rules e x). inr e)
-    k
-cause_late rules fault.NoMemory x a b c h k = tt
+cause_late (fault.Foreign sender offset) a b c h k = tt
+cause_late (fault.Held holder) a b c h k = rose_late a.refused b.refused c.refused h.refused k
+cause_late (fault.TooLong size) a b c h k = tt
+cause_late (fault.Exhausted limit.Ticket) a b c h k = rose_late a.refused b.refused c.refused h.refused k
+cause_late (fault.Exhausted limit.Call) a b c h k = tt
+cause_late (fault.Exhausted (limit.Round ticket)) a b c h k = tt
+cause_late (fault.Exhausted (limit.Message sender)) a b c h k = tt
+cause_late fault.NoMemory a b c h k = tt
 
 -- counts do not fall afterwards
-pub cause_soon : (rules : Rules) (f : ServeFault) (x : Journalled) (a b c : Counts) → HasCause rules f x a b → NoneFell b c → HasCause rules f x a c
+pub cause_soon : (f : ServeFault) (a b c : Counts) → HasCause f a b → NoneFell b c → HasCause f a c
 unfolding HasCause
-cause_soon rules fault.Link x a b c k h = ⊎_elim
+cause_soon fault.Link a b c k h = ⊎_elim
     (λ (r : Rose a.failed b.failed). inl (rose_soon a.failed b.failed c.failed r h.failed))
     (λ (r : Rose a.lock_failed b.lock_failed). inr (rose_soon a.lock_failed b.lock_failed c.lock_failed r h.lock_failed))
     k
-cause_soon rules (fault.Foreign sender offset) x a b c k h = tt
-cause_soon rules (fault.Held holder) x a b c k h = rose_soon a.refused b.refused c.refused k h.refused
-cause_soon rules (fault.TooLong size) x a b c k h = k
-cause_soon rules fault.Exhausted x a b c k h = ⊎_elim
-    (λ (r : Rose a.refused b.refused). inl (rose_soon a.refused b.refused c.refused r h.refused))
-    (λ (e : (e : Event) × IsRefused rules e x). inr e)
-    k
-cause_soon rules fault.NoMemory x a b c k h = tt
+cause_soon (fault.Foreign sender offset) a b c k h = tt
+cause_soon (fault.Held holder) a b c k h = rose_soon a.refused b.refused c.refused k h.refused
+cause_soon (fault.TooLong size) a b c k h = tt
+cause_soon (fault.Exhausted limit.Ticket) a b c k h = rose_soon a.refused b.refused c.refused k h.refused
+cause_soon (fault.Exhausted limit.Call) a b c k h = tt
+cause_soon (fault.Exhausted (limit.Round ticket)) a b c k h = tt
+cause_soon (fault.Exhausted (limit.Message sender)) a b c k h = tt
+cause_soon fault.NoMemory a b c k h = tt
 
 -- a cause of a link is one also where a lock stands beside it
-pub link_cause : (rules : Rules) (f : ServeFault) (x : Journalled) (a b k : Counts) → a.lock_failed ≡ 0 → b.lock_failed ≡ 0 → a.refused ≡ 0 → b.refused ≡ 0 → HasCause rules f x a b → HasCause rules f x (both a k) (both b k)
+pub link_cause : (f : ServeFault) (a b k : Counts) → a.lock_failed ≡ 0 → b.lock_failed ≡ 0 → a.refused ≡ 0 → b.refused ≡ 0 → HasCause f a b → HasCause f (both a k) (both b k)
 unfolding HasCause
-link_cause rules fault.Link x a b k al bl ar br h = ⊎_elim
+link_cause fault.Link a b k al bl ar br h = ⊎_elim
     (λ (r : Rose a.failed b.failed). inl r)
     (λ (r : Rose a.lock_failed b.lock_failed). absurd (rose_nothing a.lock_failed b.lock_failed al bl r))
     h
-link_cause rules (fault.Foreign sender offset) x a b k al bl ar br h = tt
-link_cause rules (fault.Held holder) x a b k al bl ar br h = absurd (rose_nothing a.refused b.refused ar br h)
-link_cause rules (fault.TooLong size) x a b k al bl ar br h = h
-link_cause rules fault.Exhausted x a b k al bl ar br h = ⊎_elim
-    (λ (r : Rose a.refused b.refused). absurd (rose_nothing a.refused b.refused ar br r))
-    (λ (e : (e : Event) × IsRefused rules e x). inr e)
-    h
-link_cause rules fault.NoMemory x a b k al bl ar br h = tt
+link_cause (fault.Foreign sender offset) a b k al bl ar br h = tt
+link_cause (fault.Held holder) a b k al bl ar br h = absurd (rose_nothing a.refused b.refused ar br h)
+link_cause (fault.TooLong size) a b k al bl ar br h = tt
+link_cause (fault.Exhausted limit.Ticket) a b k al bl ar br h = absurd (rose_nothing a.refused b.refused ar br h)
+link_cause (fault.Exhausted limit.Call) a b k al bl ar br h = tt
+link_cause (fault.Exhausted (limit.Round ticket)) a b k al bl ar br h = tt
+link_cause (fault.Exhausted (limit.Message sender)) a b k al bl ar br h = tt
+link_cause fault.NoMemory a b k al bl ar br h = tt
 
 -- a cause of a lock is one also where a link stands beside it
-pub lock_cause : (rules : Rules) (f : ServeFault) (x : Journalled) (a j k : Counts) → j.failed ≡ 0 → k.failed ≡ 0 → HasCause rules f x j k → HasCause rules f x (both a j) (both a k)
+pub lock_cause : (f : ServeFault) (a j k : Counts) → j.failed ≡ 0 → k.failed ≡ 0 → HasCause f j k → HasCause f (both a j) (both a k)
 unfolding HasCause
-lock_cause rules fault.Link x a j k jf kf h = ⊎_elim
+lock_cause fault.Link a j k jf kf h = ⊎_elim
     (λ (r : Rose j.failed k.failed). absurd (rose_nothing j.failed k.failed jf kf r))
     (λ (r : Rose j.lock_failed k.lock_failed). inr r)
     h
-lock_cause rules (fault.Foreign sender offset) x a j k jf kf h = tt
-lock_cause rules (fault.Held holder) x a j k jf kf h = h
-lock_cause rules (fault.TooLong size) x a j k jf kf h = h
-lock_cause rules fault.Exhausted x a j k jf kf h = h
-lock_cause rules fault.NoMemory x a j k jf kf h = tt
+lock_cause (fault.Foreign sender offset) a j k jf kf h = tt
+lock_cause (fault.Held holder) a j k jf kf h = h
+lock_cause (fault.TooLong size) a j k jf kf h = tt
+lock_cause (fault.Exhausted limit.Ticket) a j k jf kf h = h
+lock_cause (fault.Exhausted limit.Call) a j k jf kf h = tt
+lock_cause (fault.Exhausted (limit.Round ticket)) a j k jf kf h = tt
+lock_cause (fault.Exhausted (limit.Message sender)) a j k jf kf h = tt
+lock_cause fault.NoMemory a j k jf kf h = tt

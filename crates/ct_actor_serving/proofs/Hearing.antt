@@ -11,7 +11,7 @@ use Rattle.ct_wire_link.specs.Following.{AreFirst, Follows, frames_from}
 use Rattle.ct_wire_link.specs.Reading.{Reading, TakesPiece, broken_at, is_sound, progress_of}
 use Rattle.ct_wire_link.proofs.Following.{all_arrive, broken_breaks, first_arrive, first_lead, first_stay, follows_first, follows_next}
 use Rattle.ct_actor_serving.specs.Hearing.{AreForeign, Arrive, Hears, IsReadSoFar, IsReadTo}
-use Rattle.ct_actor_serving.specs.Outside.{Heard, heard, heard_then}
+use Rattle.ct_actor_serving.specs.Outside.{Heard, heard, heard_but, heard_then}
 use Rattle.ct_actor_serving.specs.declared.fault.ServeFault.{ServeFault}
 use Rattle.ct_actor_serving.specs.declared.fault.ServeFault.TheVariants as fault
 use Rattle.ct_wire.specs.declared.decode.Progress.{Progress}
@@ -20,20 +20,23 @@ use Rattle.ct_wire.specs.declared.decode.WireFault.{WireFault}
 
 -- ---- nothing more
 
-then_nothing : (h : Heard) → heard_then h (heard [] []) ≡ h
-then_nothing h = (λ i. record { taken = append-nil h.taken i; arrived = append-nil h.arrived i })
+-- what is read of some pieces is read of them and no more
+read_still : (me : ℕ) (taken : List Parcel) (arrived : List Frame) (readings : List Reading) → Follows me taken arrived readings → Follows me (taken ++ []) (arrived ++ []) readings
+read_still me taken arrived readings follows =
+    subst (λ (ps : List Parcel). Follows me ps (arrived ++ []) readings) (sym (append-nil taken)) (subst (λ (fs : List Frame). Follows me taken fs readings) (sym (append-nil arrived)) follows)
 
 pub hears_nothing : (me : ℕ) (readings : List Reading) → Hears None me (heard [] []) readings readings
-hears_nothing me readings = λ before read. subst (λ (h : Heard). IsReadSoFar me h readings) (sym (then_nothing before)) read
+hears_nothing me readings = λ before read. record { follows = read_still me before.taken before.arrived readings read.follows; unbroken = read.unbroken }
 
 -- what has arrived are the first frames
-firsts : (me : ℕ) (before : Heard) (readings : List Reading) (f : ServeFault) → Follows me before.taken before.arrived readings → Arrive (Some f) me before
-firsts me before readings f follows = λ sender. first_arrive me sender before.taken before.arrived readings follows
+firsts : (me : ℕ) (taken : List Parcel) (arrived : List Frame) (readings : List Reading) (f : ServeFault) → Follows me taken arrived readings → Arrive (Some f) me (heard taken arrived)
+firsts me taken arrived readings f follows = λ sender.
+    first_arrive me sender taken (arrived ++ []) readings (subst (λ (fs : List Frame). Follows me taken fs readings) (sym (append-nil arrived)) follows)
 
 -- a fault that tells nothing of bytes
 pub hears_stopped : (me : ℕ) (f : ServeFault) (readings : List Reading) → ((taken : List Parcel) → AreForeign (Some f) me taken) → Hears (Some f) me (heard [] []) readings readings
 hears_stopped me f readings ours = λ before read. (
-  subst (λ (h : Heard). Arrive (Some f) me h) (sym (then_nothing before)) (firsts me before readings f read.follows),
+  firsts me (before.taken ++ []) (before.arrived ++ []) readings f (read_still me before.taken before.arrived readings read.follows),
   ours (before.taken ++ []),
 )
 
@@ -80,19 +83,21 @@ pub hears_foreign : (me sender offset : ℕ) (bytes : List ℕ) (a : Arrived) (a
     → Hears (Some (fault.Foreign sender offset)) me (heard (parcel sender bytes ∷ []) arrived) old new
 hears_foreign me sender offset bytes a arrived old new g all is =
     subst (λ (fs : List Frame). Hears (Some (fault.Foreign sender offset)) me (heard (parcel sender bytes ∷ []) fs) old new) (sym all) (λ before read. (
-      firsts me (heard_then before (heard (parcel sender bytes ∷ []) a.frames.items)) new (fault.Foreign sender offset) (follows_piece me sender bytes a old new before g read),
+      firsts me (before.taken ++ parcel sender bytes ∷ []) (before.arrived ++ a.frames.items) new (fault.Foreign sender offset) (follows_piece me sender bytes a old new before g read),
       (broken_breaks me sender offset (before.taken ++ parcel sender bytes ∷ []) (before.arrived ++ a.frames.items) new (follows_piece me sender bytes a old new before g read)).0
           (sym (broken_told a me sender bytes (progress_of sender old) (progress_of sender new) g.takes) ∙ is),
     ))
 
--- the first of its frames arrive
-pub hears_some : (me sender : ℕ) (f : ServeFault) (bytes : List ℕ) (a : Arrived) (arrived left : List Frame) (old new : List Reading) → Gives me sender bytes a old new → a.frames.items ≡ arrived ++ left
-    → ((taken : List Parcel) → AreForeign (Some f) me taken) → Hears (Some f) me (heard (parcel sender bytes ∷ []) arrived) old new
-hears_some me sender f bytes a arrived left old new g all ours = λ before read.
-    let whole : Arrive (Some f) me (heard (before.taken ++ parcel sender bytes ∷ []) ((before.arrived ++ arrived) ++ left)) =
-    subst (λ (fs : List Frame). Arrive (Some f) me (heard (before.taken ++ parcel sender bytes ∷ []) fs)) (ap (λ (fs : List Frame). before.arrived ++ fs) all ∙ sym (append_assoc before.arrived arrived left))
-    (firsts me (heard_then before (heard (parcel sender bytes ∷ []) a.frames.items)) new f (follows_piece me sender bytes a old new before g read)) in (
-      λ other. first_lead other (bytes_of other (before.taken ++ parcel sender bytes ∷ [])) (before.arrived ++ arrived) left (whole other),
+-- the first of its frames arrive, and the next one may be refused
+pub hears_some : (me sender : ℕ) (f : ServeFault) (bytes : List ℕ) (a : Arrived) (arrived late left : List Frame) (old new : List Reading) → Gives me sender bytes a old new → a.frames.items ≡ (arrived ++ late) ++ left
+    → ((taken : List Parcel) → AreForeign (Some f) me taken) → Hears (Some f) me (heard_but (parcel sender bytes ∷ []) arrived late) old new
+hears_some me sender f bytes a arrived late left old new g all ours = λ before read.
+    let parts : before.arrived ++ a.frames.items ≡ ((before.arrived ++ arrived) ++ late) ++ left =
+    ap (λ (fs : List Frame). before.arrived ++ fs) all ∙ sym (append_assoc before.arrived (arrived ++ late) left) ∙ ap (λ (fs : List Frame). fs ++ left) (sym (append_assoc before.arrived arrived late)) in
+    let whole : Follows me (before.taken ++ parcel sender bytes ∷ []) (((before.arrived ++ arrived) ++ late) ++ left) new =
+    subst (λ (fs : List Frame). Follows me (before.taken ++ parcel sender bytes ∷ []) fs new) parts (follows_piece me sender bytes a old new before g read) in (
+      λ other. first_lead other (bytes_of other (before.taken ++ parcel sender bytes ∷ [])) ((before.arrived ++ arrived) ++ late) left
+          (first_arrive me other (before.taken ++ parcel sender bytes ∷ []) (((before.arrived ++ arrived) ++ late) ++ left) new whole),
       ours (before.taken ++ parcel sender bytes ∷ []),
     )
 
@@ -100,7 +105,7 @@ hears_some me sender f bytes a arrived left old new g all ours = λ before read.
 pub hears_none : (me sender : ℕ) (f : ServeFault) (bytes : List ℕ) (old new : List Reading) → ((taken : List Parcel) → AreForeign (Some f) me taken) → Hears (Some f) me (heard (parcel sender bytes ∷ []) []) old new
 hears_none me sender f bytes old new ours = λ before read.
     let so_far : Arrive (Some f) me (heard before.taken (before.arrived ++ [])) =
-    subst (λ (fs : List Frame). Arrive (Some f) me (heard before.taken fs)) (sym (append-nil before.arrived)) (firsts me before old f read.follows) in (
-      λ other. first_stay other before.taken (parcel sender bytes ∷ []) (frames_from other (before.arrived ++ [])) (so_far other),
+    firsts me before.taken (before.arrived ++ []) old f (subst (λ (fs : List Frame). Follows me before.taken fs old) (sym (append-nil before.arrived)) read.follows) in (
+      λ other. first_stay other before.taken (parcel sender bytes ∷ []) (frames_from other ((before.arrived ++ []) ++ [])) (so_far other),
       ours (before.taken ++ parcel sender bytes ∷ []),
     )

@@ -31,9 +31,11 @@ use Rattle.ct_rules_node.specs.Steps.{stepped}
 use Rattle.ct_rules_node.specs.Turn.{Turn}
 use Rattle.ct_wire_link.specs.Sending.{is_sendable}
 use Rattle.ct_actor_serving.specs.Serving.{Acts, Counts, GoesOn, HasCause, fault_of}
+use Rattle.ct_actor_serving.specs.declared.fault.AtLimit.{AtLimit}
+use Rattle.ct_actor_serving.specs.declared.fault.AtLimit.TheVariants as limit
 use Rattle.ct_actor_serving.specs.declared.fault.ServeFault.{ServeFault}
-use Rattle.ct_node_plan.specs.declared.turn.CoreFault.{CoreFault}
-use Rattle.ct_node_plan.specs.declared.turn.CoreFault.TheVariants.{Exhausted, NoMemory}
+use Rattle.ct_node_turn.specs.declared.turn.CoreFault.{CoreFault}
+use Rattle.ct_node_turn.specs.declared.turn.CoreFault.TheVariants.{Exhausted, NoMemory}
 
 -- what a node does keeps the rules of its fields
 pub sendable : (c : Config) (me : ℕ) (outs : List Out) → list_all (is_sound_out c me) outs ≡ true → list_all is_sendable outs ≡ true
@@ -142,14 +144,26 @@ pub round_taken : (ticket : ℕ) (ms : List ℕ) (outs : List Out) (c d : Cue) �
 unfolding cue_after begun
 round_taken ticket ms outs c d h = ap (λ (e : Cue). e.taken) h
 
--- a step that is refused
-pub cause_refused : (rules : Rules) (f : CoreFault) (e : Event) (x y : Journalled) (a b : Counts) → IsFed (Err f) e (stepped x.core.config rules x.core.pnn e x.core.node) x y → HasCause rules (fault_of f) y a b
-unfolding HasCause
-cause_refused rules Exhausted e x y a b fed = inr (e, subst (λ (z : Journalled). stepped z.core.config rules z.core.pnn e z.core.node ≡ None) (sym fed.1) fed.0)
-cause_refused rules NoMemory e x y a b fed = tt
+-- it is no ticket
+abbrev pub IsStep : AtLimit → Type 0
+IsStep limit.Ticket = ⊥
+IsStep limit.Call = Unit {0}
+IsStep (limit.Round ticket) = Unit {0}
+IsStep (limit.Message sender) = Unit {0}
 
-pub cause_of : (rules : Rules) (g : ServeFault) (f : CoreFault) (e : Event) (x y : Journalled) (a b : Counts) → g ≡ fault_of f → IsFed (Err f) e (stepped x.core.config rules x.core.pnn e x.core.node) x y → HasCause rules g y a b
-cause_of rules g f e x y a b is fed = subst (λ (h : ServeFault). HasCause rules h y a b) (sym is) (cause_refused rules f e x y a b fed)
+cause_refused : (at : AtLimit) (f : CoreFault) (a b : Counts) → IsStep at → HasCause (fault_of at f) a b
+unfolding HasCause
+cause_refused limit.Ticket f a b h = absurd h
+cause_refused limit.Call Exhausted a b h = tt
+cause_refused limit.Call NoMemory a b h = tt
+cause_refused (limit.Round ticket) Exhausted a b h = tt
+cause_refused (limit.Round ticket) NoMemory a b h = tt
+cause_refused (limit.Message sender) Exhausted a b h = tt
+cause_refused (limit.Message sender) NoMemory a b h = tt
+
+-- a step that is refused needs no count
+pub cause_of : (at : AtLimit) (g : ServeFault) (f : CoreFault) (a b : Counts) → g ≡ fault_of at f → IsStep at → HasCause g a b
+cause_of at g f a b is step = subst (λ (h : ServeFault). HasCause h a b) (sym is) (cause_refused at f a b step)
 
 -- ---- what an item asks
 

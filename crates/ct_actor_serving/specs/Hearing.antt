@@ -8,15 +8,15 @@ use Rattle.ct_outside.specs.Locks.{LockState}
 use Rattle.ct_wire_link.specs.Parcels.{bytes_of}
 use Rattle.ct_wire_link.specs.Following.{AreFirst, AreWhole, BreaksAt, Follows, frames_from}
 use Rattle.ct_wire_link.specs.Reading.{Reading, broken_at, progress_of}
-use Rattle.ct_actor_serving.specs.Outside.{Heard, Outside, ServesOn, heard, heard_then, outside}
+use Rattle.ct_actor_serving.specs.Outside.{Heard, Outside, ServesOn, heard_but, heard_then, outside}
 use Rattle.ct_actor_serving.specs.declared.fault.ServeFault.{ServeFault}
 use Rattle.ct_actor_serving.specs.declared.fault.ServeFault.TheVariants as fault
 
 -- Serving: by sender, the messages that arrive are all that the bytes of its pieces, joined, complete, and these bytes break no
--- rule; on a fault they are the first ones of them
+-- rule; on a fault they are the first ones of them, and so they are with the one that was refused behind them
 abbrev pub Arrive : Option ServeFault → ℕ → Heard → Type 0
 Arrive None me h = (sender : ℕ) → AreWhole me sender (bytes_of sender h.taken) (frames_from sender h.arrived)
-Arrive (Some f) me h = (sender : ℕ) → AreFirst (bytes_of sender h.taken) (frames_from sender h.arrived)
+Arrive (Some f) me h = (sender : ℕ) → AreFirst (bytes_of sender h.taken) (frames_from sender (h.arrived ++ h.late))
 
 -- Serving: where bytes of a sender are answered as no frames of it, the bytes of its pieces, joined, break a rule at that offset
 abbrev pub AreForeign : Option ServeFault → ℕ → List Parcel → Type 0
@@ -49,8 +49,9 @@ Hears fault me h old new = (before : Heard) → IsReadSoFar me before old → Is
 -- a piece that was taken before
 pub record ServesPiece (rules : Rules) (fault : Option ServeFault) (piece : Parcel) (x y : Journalled) (p q : Option Pieces) (old new : List Reading) : Type 0 where
   pub arrived : List Frame
-  pub on : (lock : Option LockState) → ServesOn rules fault (heard [] arrived) x y (outside p lock) (outside q lock)
-  pub hears : Hears fault x.core.pnn (heard (piece ∷ []) arrived) old new
+  pub late : List Frame
+  pub on : (lock : Option LockState) → ServesOn rules fault (heard_but [] arrived late) x y (outside p lock) (outside q lock)
+  pub hears : Hears fault x.core.pnn (heard_but (piece ∷ []) arrived late) old new
 
 -- one turn
 pub record ServesTurn (rules : Rules) (fault : Option ServeFault) (x y : Journalled) (a b : Outside) (old new : List Reading) : Type 0 where

@@ -1,25 +1,30 @@
 -- What serving does to a node, and why it ends.
 use Rattle.std.specs.Prelude.{◌≡◌, ℕ, ◌+◌, ◌-◌, ◌^◌, ◌≤◌, ◌⊎◌, min, nat_le, Bool, true, false, List, Option, None, Some, Result, Ok, Err, OnOk, MatchBool}
+use Rattle.std.specs.Result.{result_err}
 use Rattle.ct_actor.specs.Acting.{IsActing}
 use Rattle.ct_call.specs.Rules.{Rules}
 use Rattle.ct_script.specs.Cues.{next_item}
 use Rattle.ct_script.specs.declared.cue.Cue.{Cue}
 use Rattle.ct_frame.specs.declared.event.Event.{Event}
+use Rattle.ct_frame.specs.declared.event.Event.TheVariants as event
 use Rattle.ct_frame.specs.declared.plan.PlanItem.{PlanItem}
+use Rattle.ct_frame.specs.declared.plan.PlanItem.TheVariants.{Call, Round}
 use Rattle.ct_journal.specs.declared.journal.JournalEntry.{JournalEntry}
-use Rattle.ct_actor.specs.Journalled.{Journalled, last_outs}
+use Rattle.ct_actor.specs.Journalled.{Journalled}
 use Rattle.ct_outside.specs.Causes.{Rose}
-use Rattle.ct_wire_link.specs.Parcels.{frames_sent}
+use Rattle.ct_rules_node.specs.Coming.{may_come}
 use Rattle.ct_rules_node.specs.Steps.{stepped}
-use Rattle.ct_wire_link.specs.Sending.{first_long}
+use Rattle.ct_values.specs.declared.client.ClientOp.{ClientOp}
+use Rattle.ct_actor_serving.specs.declared.fault.AtLimit.{AtLimit}
+use Rattle.ct_actor_serving.specs.declared.fault.AtLimit.TheVariants as limit
 use Rattle.ct_actor_serving.specs.declared.fault.Served.{Served}
 use Rattle.ct_actor_serving.specs.declared.fault.Served.TheVariants as served
 use Rattle.ct_actor_serving.specs.declared.fault.ServeFault.{ServeFault}
 use Rattle.ct_actor_serving.specs.declared.fault.ServeFault.TheVariants as fault
 use Rattle.ct_actor_serving.specs.declared.fault.Until.{Until}
 use Rattle.ct_actor_serving.specs.declared.fault.Until.TheVariants as until
-use Rattle.ct_node_plan.specs.declared.turn.CoreFault.{CoreFault}
-use Rattle.ct_node_plan.specs.declared.turn.CoreFault.TheVariants as core
+use Rattle.ct_node_turn.specs.declared.turn.CoreFault.{CoreFault}
+use Rattle.ct_node_turn.specs.declared.turn.CoreFault.TheVariants as core
 
 -- ---- what is counted outside
 
@@ -64,12 +69,26 @@ pub record GoesOn (rules : Rules) (script : List PlanItem) (x : Journalled) (c :
   pub pnn : y.core.pnn ≡ x.core.pnn
   pub config : y.core.config ≡ x.core.config
 
+-- an event may come, and the rules give no step of it, since a number would reach 2^62
+pub record IsRefused (rules : Rules) (e : Event) (x : Journalled) : Type 0 where
+  pub comes : may_come x.core.config x.core.pnn x.core.node e ≡ true
+  pub none : stepped x.core.config rules x.core.pnn e x.core.node ≡ None
+
+-- Serving: where a round gets no ticket, it is the next item of the script; so is a call or a round that the rules refuse
+abbrev pub IsNextItem : Rules → List PlanItem → Option ServeFault → Journalled → Cue → Type 0
+IsNextItem rules script (Some (fault.Held holder)) x c = (members : List ℕ) × (next_item script c ≡ Some (Round members))
+IsNextItem rules script (Some (fault.Exhausted limit.Ticket)) x c = (members : List ℕ) × (next_item script c ≡ Some (Round members))
+IsNextItem rules script (Some (fault.Exhausted limit.Call)) x c = (o : ClientOp) × (next_item script c ≡ Some (Call o)) × IsRefused rules (event.Client (c.calls + 1) o) x
+IsNextItem rules script (Some (fault.Exhausted (limit.Round ticket))) x c = (members : List ℕ) × (next_item script c ≡ Some (Round members)) × IsRefused rules (event.BeginRound ticket members) x
+IsNextItem rules script _ x c = Unit {0}
+
 -- Serving: a node acts by the rules and the script since it had these entries; where nothing went wrong, no item of the script
--- can be taken any more.
+-- can be taken any more, and where an item is refused, it is the next one.
 pub record HasActed (rules : Rules) (script : List PlanItem) (before : List JournalEntry) (result : Result Served ServeFault) (x : Journalled) : Type 0 where
   pub cue : Cue
   pub acting : IsActing rules script before x cue
   pub done : OnOk result (next_item script cue ≡ None)
+  pub next : IsNextItem rules script (result_err result) x cue
 
 -- ---- how it ends
 
@@ -92,34 +111,55 @@ abbrev pub is_full : Until → ℕ → Bool
 is_full (until.Turns turns) count = false
 is_full (until.Entries entries) count = nat_le entries count
 
--- Serving: how it ends where nothing went wrong. The end was told; or so many looks were answered.
-abbrev pub EndsBy : Until → Served → Counts → Counts → Type 0
-EndsBy u served.Closed old new = Rose old.ended new.ended
-EndsBy (until.Turns turns) served.Budget old new = RoseBy turns old.looked new.looked
-EndsBy (until.Entries entries) served.Budget old new = Unit {0}
+-- Serving: how it ends where nothing went wrong, with a journal of so many entries. The end was told; or so many looks were
+-- answered, or the journal has its entries.
+abbrev pub EndsBy : Until → Served → ℕ → Counts → Counts → Type 0
+EndsBy u served.Closed count old new = Rose old.ended new.ended
+EndsBy (until.Turns turns) served.Budget count old new = RoseBy turns old.looked new.looked
+EndsBy (until.Entries entries) served.Budget count old new = (entries ≤ count) ⊎ RoseBy (2 ^ 64 - 1) old.looked new.looked
 
 -- ---- why it ends too early
 
--- the fault where a step is refused
-abbrev pub fault_of : CoreFault → ServeFault
-fault_of core.Exhausted = fault.Exhausted
-fault_of core.NoMemory = fault.NoMemory
+-- the fault where a step of this is refused
+abbrev pub fault_of : AtLimit → CoreFault → ServeFault
+fault_of at core.Exhausted = fault.Exhausted at
+fault_of at core.NoMemory = fault.NoMemory
 
--- the rules give no step of this event, since a number would reach 2^62
-abbrev pub IsRefused : Rules → Event → Journalled → Type 0
-IsRefused rules e x = stepped x.core.config rules x.core.pnn e x.core.node ≡ None
-
--- Serving: why it ends too early, where it leaves the node so, by counts. Want of memory alone needs no cause, and that of bytes
--- which are no frames is told by the pieces that were taken (AreForeign).
-unfoldable pub HasCause : Rules → ServeFault → Journalled → Counts → Counts → Type 0
-HasCause rules fault.Link x old new = Rose old.failed new.failed ⊎ Rose old.lock_failed new.lock_failed
-HasCause rules (fault.Foreign sender offset) x old new = Unit {0}
-HasCause rules (fault.Held holder) x old new = Rose old.refused new.refused
-HasCause rules (fault.TooLong size) x old new = first_long (frames_sent (last_outs x.entries)) ≡ Some size
-HasCause rules fault.Exhausted x old new = Rose old.refused new.refused ⊎ ((e : Event) × IsRefused rules e x)
-HasCause rules fault.NoMemory x old new = Unit {0}
+-- Serving: why it ends too early, by counts. Want of memory alone needs no cause. What is told of an item is told by the script
+-- (IsNextItem), of a message by the pieces that were taken and by the entries that were made (Serves).
+unfoldable pub HasCause : ServeFault → Counts → Counts → Type 0
+HasCause fault.Link old new = Rose old.failed new.failed ⊎ Rose old.lock_failed new.lock_failed
+HasCause (fault.Foreign sender offset) old new = Unit {0}
+HasCause (fault.Held holder) old new = Rose old.refused new.refused
+HasCause (fault.TooLong size) old new = Unit {0}
+HasCause (fault.Exhausted limit.Ticket) old new = Rose old.refused new.refused
+HasCause (fault.Exhausted limit.Call) old new = Unit {0}
+HasCause (fault.Exhausted (limit.Round ticket)) old new = Unit {0}
+HasCause (fault.Exhausted (limit.Message sender)) old new = Unit {0}
+HasCause fault.NoMemory old new = Unit {0}
 
 -- the same of an answer, which needs none where it is no fault
-abbrev pub IsCaused : {A : Type 0} → Rules → Result A ServeFault → Journalled → Counts → Counts → Type 0
-IsCaused rules (Ok a) x old new = Unit {0}
-IsCaused rules (Err e) x old new = HasCause rules e x old new
+abbrev pub IsCaused : {A : Type 0} → Result A ServeFault → Counts → Counts → Type 0
+IsCaused (Ok a) old new = Unit {0}
+IsCaused (Err e) old new = HasCause e old new
+
+-- ---- of what a fault tells
+
+-- nothing of pieces
+abbrev pub IsNoPiece : Option ServeFault → Type 0
+IsNoPiece (Some (fault.Foreign sender offset)) = ⊥
+IsNoPiece (Some (fault.Exhausted (limit.Message sender))) = ⊥
+IsNoPiece _ = Unit {0}
+
+-- nothing of an item of a script
+abbrev pub IsNoItem : Option ServeFault → Type 0
+IsNoItem (Some (fault.Held holder)) = ⊥
+IsNoItem (Some (fault.Exhausted limit.Ticket)) = ⊥
+IsNoItem (Some (fault.Exhausted limit.Call)) = ⊥
+IsNoItem (Some (fault.Exhausted (limit.Round ticket))) = ⊥
+IsNoItem _ = Unit {0}
+
+-- nothing of a message that is sent
+abbrev pub IsNoSend : Option ServeFault → Type 0
+IsNoSend (Some (fault.TooLong size)) = ⊥
+IsNoSend _ = Unit {0}

@@ -22,6 +22,19 @@ pub enum Until {
     Entries(u64),
 }
 
+/// What a number would reach 2^62 of.
+#[derive(Clone, Copy, Debug, PartialEq, Eq)]
+pub enum AtLimit {
+    /// The lock has no ticket left for the round that is the next item of the script.
+    Ticket,
+    /// The call that is the next item of the script, under the number after that of the last one.
+    Call,
+    /// The round that is the next item of the script, in the generation of this ticket.
+    Round(u64),
+    /// The next message of this sender, which its pieces complete, arrives.
+    Message { sender: u32 },
+}
+
 /// Why serving ends too early. The node is where its journal leaves it.
 #[derive(Clone, Copy, Debug, PartialEq, Eq, Error)]
 pub enum ServeFault {
@@ -34,12 +47,13 @@ pub enum ServeFault {
     /// Another node holds the recovery lock.
     #[error("node {holder} holds the lock")]
     Held { holder: u32 },
-    /// A message of the last entry would have so many bytes, above what a frame may have.
+    /// A message of the last entry, which was made while the node served, would have so many bytes, above what a frame may
+    /// have.
     #[error("a frame of {0} bytes")]
     TooLong(u64),
-    /// No ticket is left, or a number of the next step would reach 2^62.
+    /// No ticket is left, or the rules give no step of this next event, since a number would reach 2^62.
     #[error("a number would reach 2^62")]
-    Exhausted,
+    Exhausted(AtLimit),
     /// This answer alone needs no cause.
     #[error("want of memory")]
     NoMemory,

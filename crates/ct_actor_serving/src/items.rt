@@ -6,24 +6,26 @@ ghost use Rattle.std.specs.Result.{result_err};
 ghost use Rattle.ct_call.specs.Rules.{Rules};
 ghost use Rattle.ct_call.specs.Shown.{rules_of};
 ghost use Rattle.ct_script.specs.Cues.{next_item};
+ghost use Rattle.ct_script.specs.declared.cue.Cue.{Cue as Cued};
 ghost use Rattle.ct_frame.specs.declared.plan.PlanItem.{PlanItem as Item};
+ghost use Rattle.ct_frame.specs.declared.plan.PlanItem.TheVariants as plan;
 ghost use Rattle.ct_actor.specs.Journalled.{Journalled, last_outs};
-ghost use Rattle.ct_outside.specs.Links.{Parcel, Pieces};
+ghost use Rattle.ct_outside.specs.Links.{Pieces};
 ghost use Rattle.ct_outside.specs.Locks.{LockState};
 ghost use Rattle.ct_outside.specs.Told.{Told};
 ghost use Rattle.ct_wire_link.specs.Parcels.{frames_sent};
 ghost use Rattle.ct_script.specs.Sound.{may_be_told};
 ghost use Rattle.ct_wire_link.specs.Sending.{is_sendable};
-ghost use Rattle.ct_actor_serving.specs.Hearing.{AreForeign};
-ghost use Rattle.ct_actor_serving.specs.Outside.{NotesOne, HasNoTicket, SendsOnly, ServesOn, TakesTicket, heard, outside};
-ghost use Rattle.ct_actor_serving.specs.Serving.{Acts, GoesOn, IsCaused, NoneFell, both, fault_of, of_link, of_lock};
+ghost use Rattle.ct_actor_serving.specs.Outside.{NotesOne, HasNoTicket, SendsLong, SendsOnly, ServesOn, TakesTicket, heard, outside};
+ghost use Rattle.ct_actor_serving.specs.Serving.{Acts, GoesOn, IsCaused, IsNextItem, IsNoItem, IsNoPiece, IsNoSend, NoneFell, both, fault_of, of_link, of_lock};
 
-use crate::fault::ServeFault;
+use crate::fault::{AtLimit, ServeFault};
+use crate::part::Part;
 use ct_actor::acting::{take_call, take_round};
 use ct_actor::node::Node;
 use ct_call::table::CallTable;
 use ct_frame::plan::PlanItem;
-use ct_node_plan::turn::CoreFault;
+use ct_node_turn::turn::CoreFault;
 use ct_outside::fault::TakeFault;
 use ct_outside::link::Link;
 use ct_outside::lock::RecLock;
@@ -33,12 +35,12 @@ use ct_wire_link::fault::SendFault;
 use ct_wire_link::send::send_all;
 use std::alloc::Global;
 
-/// The fault where a step is refused.
-pub(crate) fn fault_of(fault: CoreFault) -> ServeFault
-    ensures { result ≡ fault_of fault }
+/// The fault where a step of this is refused.
+pub(crate) fn fault_of(at: AtLimit, fault: CoreFault) -> ServeFault
+    ensures { result ≡ fault_of at fault }
 {
     match fault {
-        CoreFault::Exhausted => ServeFault::Exhausted,
+        CoreFault::Exhausted => ServeFault::Exhausted(at),
         CoreFault::NoMemory => ServeFault::NoMemory,
     }
 }
@@ -48,10 +50,12 @@ pub(crate) fn fault_of(fault: CoreFault) -> ServeFault
 pub(crate) fn send_last<L: Link>(alloc: Global, node: &Node, link: &mut L) -> Result<(), ServeFault>
     requires { list_all is_sendable (last_outs node.now.entries) ≡ true }
     ensures counts { NoneFell (of_link L.faults L.endings L.looks link.old) (of_link L.faults L.endings L.looks link.new) }
-    ensures cause { (rules : Rules) → IsCaused rules result node.now (of_link L.faults L.endings L.looks link.old) (of_link L.faults L.endings L.looks link.new) }
+    ensures cause { IsCaused result (of_link L.faults L.endings L.looks link.old) (of_link L.faults L.endings L.looks link.new) }
     ensures sent { Told (L.pieces link.old) (L.pieces link.new) (SendsOnly (result_err result) (frames_sent (last_outs node.now.entries))) }
-    ensures free { (rules : Rules) (lock : LockState) → HasNoTicket rules (result_err result) node.now lock }
-    ensures ours { (me : ℕ) (taken : List Parcel) → AreForeign (result_err result) me taken }
+    ensures long { SendsLong (result_err result) node.now.entries }
+    ensures free { (lock : LockState) → HasNoTicket (result_err result) node.now lock }
+    ensures piece { IsNoPiece (result_err result) }
+    ensures item { IsNoItem (result_err result) }
 {
     match send_all(alloc, link, node.last_outs()) {
         Ok(()) => Ok(()),
@@ -65,14 +69,16 @@ pub(crate) fn send_last<L: Link>(alloc: Global, node: &Node, link: &mut L) -> Re
 #[tactic(auto, unfolding(crate::specs::Serving::HasCause))]
 fn next_ticket<R: RecLock>(lock: &mut R, node: u32) -> Result<u64, ServeFault>
     ensures counts { NoneFell (of_lock R.faults R.refusals lock.old) (of_lock R.faults R.refusals lock.new) }
-    ensures cause { (rules : Rules) (x : Journalled) → IsCaused rules result x (of_lock R.faults R.refusals lock.old) (of_lock R.faults R.refusals lock.new) }
+    ensures cause { IsCaused result (of_lock R.faults R.refusals lock.old) (of_lock R.faults R.refusals lock.new) }
     ensures told { Told (R.state lock.old) (R.state lock.new) (TakesTicket result node) }
-    ensures ours { (me : ℕ) (taken : List Parcel) → AreForeign (result_err result) me taken }
+    ensures piece { IsNoPiece (result_err result) }
+    ensures send { IsNoSend (result_err result) }
+    ensures item { (rules : Rules) (script : List Item) (members : List ℕ) (x : Journalled) (c : Cued) → next_item script c ≡ Some (plan.Round members) → IsNextItem rules script (result_err result) x c }
 {
     match lock.take(node) {
         Ok(ticket) => Ok(ticket),
         Err(TakeFault::Held { holder, .. }) => Err(ServeFault::Held { holder }),
-        Err(TakeFault::Exhausted) => Err(ServeFault::Exhausted),
+        Err(TakeFault::Exhausted) => Err(ServeFault::Exhausted(AtLimit::Ticket)),
         Err(TakeFault::Failed) => Err(ServeFault::Link),
         Err(TakeFault::NoMemory) => Err(ServeFault::NoMemory),
     }
@@ -92,16 +98,17 @@ fn take<R: RecLock>(
     ensures taken { OnOk result (cue.new.taken ≡ cue.old.taken + 1) }
     ensures sendable { OnOk result (list_all is_sendable (last_outs node.new.entries) ≡ true) }
     ensures counts { NoneFell (of_lock R.faults R.refusals lock.old) (of_lock R.faults R.refusals lock.new) }
-    ensures cause { IsCaused (rules_of table.now) result node.new (of_lock R.faults R.refusals lock.old) (of_lock R.faults R.refusals lock.new) }
+    ensures cause { IsCaused result (of_lock R.faults R.refusals lock.old) (of_lock R.faults R.refusals lock.new) }
     ensures noted { OnOk result (NotesOne [] node.old node.new (R.state lock.old) (R.state lock.new)) }
+    ensures next { (script : List Item) → next_item script cue.old ≡ Some item.now → IsNextItem (rules_of table.now) script (result_err result) node.new cue.new }
     ensures stopped { (pieces : Option Pieces) → IfErr result (λ f. ServesOn (rules_of table.now) (Some f) (heard [] []) node.old node.new (outside pieces (R.state lock.old)) (outside pieces (R.state lock.new))) }
-    ensures ours { (me : ℕ) (taken : List Parcel) → AreForeign (result_err result) me taken }
+    ensures piece { IsNoPiece (result_err result) }
 {
     match item {
         PlanItem::Call(op) => match op.copy() {
             Ok(op) => match take_call(node, table, cue, op) {
                 Ok(()) => Ok(()),
-                Err(fault) => Err(fault_of(fault)),
+                Err(fault) => Err(fault_of(AtLimit::Call, fault)),
             },
             Err(_) => Err(ServeFault::NoMemory),
         },
@@ -109,7 +116,7 @@ fn take<R: RecLock>(
             Ok(members) => match next_ticket(lock, node.core().pnn()) {
                 Ok(ticket) => match take_round(node, table, cue, ticket, members) {
                     Ok(()) => Ok(()),
-                    Err(fault) => Err(fault_of(fault)),
+                    Err(fault) => Err(fault_of(AtLimit::Round(ticket), fault)),
                 },
                 Err(fault) => Err(fault),
             },
@@ -132,31 +139,30 @@ fn next_of<'a>(cue: &Cue, script: &'a [PlanItem]) -> Option<&'a PlanItem>
 /// The node takes the next item of its script, if it may take one, and sends what it then does. Was one taken?
 #[tactic(auto, using(crate::proofs::Taking::next_told))]
 pub(crate) fn take_next<L: Link, R: RecLock>(
-    alloc: Global,
     node: &mut Node,
-    table: &CallTable,
+    part: &Part,
     cue: &mut Cue,
-    script: &[PlanItem],
     link: &mut L,
     lock: &mut R,
 ) -> Result<bool, ServeFault>
-    requires acts { Acts (rules_of table.now) script.now node.old cue.old }
-    requires told { list_all (may_be_told node.old.core.config node.old.core.pnn) script.now ≡ true }
-    ensures goes_on { GoesOn (rules_of table.now) script.now node.old cue.old node.new cue.new }
+    requires acts { Acts (rules_of part.now.table.now) part.now.script.now node.old cue.old }
+    requires told { list_all (may_be_told node.old.core.config node.old.core.pnn) part.now.script.now ≡ true }
+    ensures goes_on { GoesOn (rules_of part.now.table.now) part.now.script.now node.old cue.old node.new cue.new }
     ensures counts { NoneFell (both (of_link L.faults L.endings L.looks link.old) (of_lock R.faults R.refusals lock.old)) (both (of_link L.faults L.endings L.looks link.new) (of_lock R.faults R.refusals lock.new)) }
-    ensures cause { IsCaused (rules_of table.now) result node.new (both (of_link L.faults L.endings L.looks link.old) (of_lock R.faults R.refusals lock.old)) (both (of_link L.faults L.endings L.looks link.new) (of_lock R.faults R.refusals lock.new)) }
-    ensures taken { IfOk result (λ one. MatchBool one ((cue.old.taken < length script.now) × (cue.new.taken ≡ cue.old.taken + 1)) (next_item script.now cue.new ≡ None)) }
-    ensures outside { ServesOn (rules_of table.now) (result_err result) (heard [] []) node.old node.new (outside (L.pieces link.old) (R.state lock.old)) (outside (L.pieces link.new) (R.state lock.new)) }
-    ensures ours { (me : ℕ) (taken : List Parcel) → AreForeign (result_err result) me taken }
+    ensures cause { IsCaused result (both (of_link L.faults L.endings L.looks link.old) (of_lock R.faults R.refusals lock.old)) (both (of_link L.faults L.endings L.looks link.new) (of_lock R.faults R.refusals lock.new)) }
+    ensures next { IsNextItem (rules_of part.now.table.now) part.now.script.now (result_err result) node.new cue.new }
+    ensures taken { IfOk result (λ one. MatchBool one ((cue.old.taken < length part.now.script.now) × (cue.new.taken ≡ cue.old.taken + 1)) (next_item part.now.script.now cue.new ≡ None)) }
+    ensures outside { ServesOn (rules_of part.now.table.now) (result_err result) (heard [] []) node.old node.new (outside (L.pieces link.old) (R.state lock.old)) (outside (L.pieces link.new) (R.state lock.new)) }
+    ensures piece { IsNoPiece (result_err result) }
 {
-    let Some(item) = next_of(cue, script) else {
+    let Some(item) = next_of(cue, part.script) else {
         return Ok(false);
     };
-    match take(node, table, cue, item, lock) {
+    match take(node, part.table, cue, item, lock) {
         Ok(()) => {}
         Err(fault) => return Err(fault),
     }
-    match send_last(alloc, node, link) {
+    match send_last(part.alloc, node, link) {
         Ok(()) => Ok(true),
         Err(fault) => Err(fault),
     }

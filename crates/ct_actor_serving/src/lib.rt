@@ -3,5 +3,6 @@
 
 pub mod fault;
 mod items;
+mod part;
 mod pieces;
 pub mod serve;

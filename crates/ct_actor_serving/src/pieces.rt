@@ -9,9 +9,9 @@ ghost use Rattle.ct_outside.specs.Links.{Parcel, parcel};
 ghost use Rattle.ct_wire_link.specs.Reading.{is_sound};
 ghost use Rattle.ct_actor_serving.specs.Hearing.{AreForeign, ServesPiece};
 ghost use Rattle.ct_actor_serving.specs.Outside.{ServesFrames};
-ghost use Rattle.ct_actor_serving.specs.Serving.{GoesOn, IsCaused, NoneFell, of_link};
+ghost use Rattle.ct_actor_serving.specs.Serving.{GoesOn, IsCaused, IsNoItem, NoneFell, of_link};
 
-use crate::fault::ServeFault;
+use crate::fault::{AtLimit, ServeFault};
 use crate::items::{fault_of, send_last};
 use ct_actor::acting::arrive;
 use ct_actor::node::Node;
@@ -36,13 +36,15 @@ fn take_frame<L: Link>(
     requires ours { frame.receiver ≡ node.old.core.pnn }
     ensures goes_on { (script : List Item) → GoesOn (rules_of table.now) script node.old cue.old node.new cue.new }
     ensures counts { NoneFell (of_link L.faults L.endings L.looks link.old) (of_link L.faults L.endings L.looks link.new) }
-    ensures cause { IsCaused (rules_of table.now) result node.new (of_link L.faults L.endings L.looks link.old) (of_link L.faults L.endings L.looks link.new) }
+    ensures cause { IsCaused result (of_link L.faults L.endings L.looks link.old) (of_link L.faults L.endings L.looks link.new) }
     ensures outside { ServesFrames (rules_of table.now) (result_err result) (frame ∷ []) node.old node.new (L.pieces link.old) (L.pieces link.new) }
     ensures ours { (me : ℕ) (taken : List Parcel) → AreForeign (result_err result) me taken }
+    ensures item { IsNoItem (result_err result) }
 {
+    let sender = frame.sender;
     match arrive(node, table, cue, frame) {
         Ok(()) => send_last(alloc, node, link),
-        Err(fault) => Err(fault_of(fault)),
+        Err(fault) => Err(fault_of(AtLimit::Message { sender }, fault)),
     }
 }
 
@@ -60,9 +62,10 @@ fn take_frames<L: Link>(
     requires { list_all (is_sound node.old.core.pnn sender) frames.items ≡ true }
     ensures goes_on { (script : List Item) → GoesOn (rules_of table.now) script node.old cue.old node.new cue.new }
     ensures counts { NoneFell (of_link L.faults L.endings L.looks link.old) (of_link L.faults L.endings L.looks link.new) }
-    ensures cause { IsCaused (rules_of table.now) result node.new (of_link L.faults L.endings L.looks link.old) (of_link L.faults L.endings L.looks link.new) }
+    ensures cause { IsCaused result (of_link L.faults L.endings L.looks link.old) (of_link L.faults L.endings L.looks link.new) }
     ensures outside { ServesFrames (rules_of table.now) (result_err result) frames.items node.old node.new (L.pieces link.old) (L.pieces link.new) }
     ensures ours { (me : ℕ) (taken : List Parcel) → AreForeign (result_err result) me taken }
+    ensures item { IsNoItem (result_err result) }
 {
     for frame in frames {
         match take_frame(alloc, node, table, cue, link, frame) {
@@ -86,8 +89,9 @@ pub(crate) fn take_piece<L: Link>(
 ) -> Result<(), ServeFault>
     ensures goes_on { (script : List Item) → GoesOn (rules_of table.now) script node.old cue.old node.new cue.new }
     ensures counts { NoneFell (of_link L.faults L.endings L.looks link.old) (of_link L.faults L.endings L.looks link.new) }
-    ensures cause { IsCaused (rules_of table.now) result node.new (of_link L.faults L.endings L.looks link.old) (of_link L.faults L.endings L.looks link.new) }
+    ensures cause { IsCaused result (of_link L.faults L.endings L.looks link.old) (of_link L.faults L.endings L.looks link.new) }
     ensures outside { ServesPiece (rules_of table.now) (result_err result) (parcel sender bytes.now) node.old node.new (L.pieces link.old) (L.pieces link.new) readers.old readers.new }
+    ensures item { IsNoItem (result_err result) }
 {
     let Ok(Arrived { frames, broken }) = readers.take(alloc, node.core().pnn(), sender, bytes)
     else {

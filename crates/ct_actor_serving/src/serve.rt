@@ -4,21 +4,20 @@ ghost use Rattle.std.specs.List.{list_all};
 ghost use Rattle.std.specs.Result.{result_err};
 ghost use Rattle.ct_call.specs.Shown.{rules_of};
 ghost use Rattle.ct_script.specs.Cues.{next_item};
-ghost use Rattle.ct_call.specs.Rules.{Rules};
 ghost use Rattle.ct_actor.specs.Journalled.{IsRunBy, Journalled};
 ghost use Rattle.ct_outside.specs.Causes.{Rose};
-ghost use Rattle.ct_outside.specs.Links.{Parcel};
 ghost use Rattle.ct_outside.specs.Locks.{LockState};
 ghost use Rattle.ct_outside.specs.Told.{Told};
 ghost use Rattle.ct_outside.specs.declared.link.Received.TheVariants as received;
 ghost use Rattle.ct_script.specs.Sound.{may_be_told};
 ghost use Rattle.ct_actor_serving.specs.declared.fault.Until.TheVariants as until;
-ghost use Rattle.ct_actor_serving.specs.Hearing.{AreForeign, Serves, ServesTurn};
+ghost use Rattle.ct_actor_serving.specs.Hearing.{Serves, ServesTurn};
 ghost use Rattle.ct_actor_serving.specs.Outside.{HasNoTicket, ServesOn, TakesOnly, heard, outside, taken_in};
-ghost use Rattle.ct_actor_serving.specs.Serving.{Acts, EndsBy, GoesOn, HasActed, IsCaused, NoneFell, Turned, both, is_full, most_turns, of_link, of_lock};
+ghost use Rattle.ct_actor_serving.specs.Serving.{Acts, EndsBy, GoesOn, HasActed, IsCaused, IsNextItem, IsNoItem, IsNoPiece, IsNoSend, NoneFell, Turned, both, is_full, most_turns, of_link, of_lock};
 
 use crate::fault::{ServeFault, Served, Until};
 use crate::items::take_next;
+use crate::part::Part;
 use crate::pieces::take_piece;
 use ct_actor::node::Node;
 use ct_call::table::CallTable;
@@ -45,12 +44,14 @@ fn may_wait(cue: &Cue, script: &[PlanItem]) -> bool
 #[tactic(auto, unfolding(crate::specs::Serving::HasCause))]
 fn look<L: Link>(link: &mut L, may_wait: bool) -> Result<Received, ServeFault>
     ensures counts { NoneFell (of_link L.faults L.endings L.looks link.old) (of_link L.faults L.endings L.looks link.new) }
-    ensures cause { (rules : Rules) (x : Journalled) → IsCaused rules result x (of_link L.faults L.endings L.looks link.old) (of_link L.faults L.endings L.looks link.new) }
+    ensures cause { IsCaused result (of_link L.faults L.endings L.looks link.old) (of_link L.faults L.endings L.looks link.new) }
     ensures looked { OnOk result (Rose (L.looks link.old) (L.looks link.new)) }
     ensures closed { result ≡ Ok received.Closed → IsTrue may_wait × Rose (L.endings link.old) (L.endings link.new) }
     ensures pieces { Told (L.pieces link.old) (L.pieces link.new) (TakesOnly (taken_in result)) }
-    ensures free { (rules : Rules) (x : Journalled) (lock : LockState) → HasNoTicket rules (result_err result) x lock }
-    ensures ours { (me : ℕ) (taken : List Parcel) → AreForeign (result_err result) me taken }
+    ensures free { (x : Journalled) (lock : LockState) → HasNoTicket (result_err result) x lock }
+    ensures piece { IsNoPiece (result_err result) }
+    ensures item { IsNoItem (result_err result) }
+    ensures send { IsNoSend (result_err result) }
 {
     match link.receive(may_wait) {
         Ok(received) => Ok(received),
@@ -59,36 +60,32 @@ fn look<L: Link>(link: &mut L, may_wait: bool) -> Result<Received, ServeFault>
     }
 }
 
-/// One turn: the node passes the gate and looks for a piece. It takes what comes, or else the next item of its script, if it
-/// may take one. Will nothing come any more?
-fn turn<L: Link, R: RecLock, G: Gate>(
-    alloc: Global,
+/// The node looks for a piece, and takes what comes, or else the next item of its script, if it may take one. Will nothing
+/// come any more?
+fn turn<L: Link, R: RecLock>(
     node: &mut Node,
-    table: &CallTable,
+    part: &Part,
     cue: &mut Cue,
     readers: &mut Readers,
-    script: &[PlanItem],
     link: &mut L,
     lock: &mut R,
-    gate: &mut G,
-    number: u64,
 ) -> Result<bool, ServeFault>
-    requires acts { Acts (rules_of table.now) script.now node.old cue.old }
-    requires told { list_all (may_be_told node.old.core.config node.old.core.pnn) script.now ≡ true }
-    ensures goes_on { GoesOn (rules_of table.now) script.now node.old cue.old node.new cue.new }
+    requires acts { Acts (rules_of part.now.table.now) part.now.script.now node.old cue.old }
+    requires told { list_all (may_be_told node.old.core.config node.old.core.pnn) part.now.script.now ≡ true }
+    ensures goes_on { GoesOn (rules_of part.now.table.now) part.now.script.now node.old cue.old node.new cue.new }
     ensures counts { NoneFell (both (of_link L.faults L.endings L.looks link.old) (of_lock R.faults R.refusals lock.old)) (both (of_link L.faults L.endings L.looks link.new) (of_lock R.faults R.refusals lock.new)) }
-    ensures cause { IsCaused (rules_of table.now) result node.new (both (of_link L.faults L.endings L.looks link.old) (of_lock R.faults R.refusals lock.old)) (both (of_link L.faults L.endings L.looks link.new) (of_lock R.faults R.refusals lock.new)) }
-    ensures turned { IfOk result (λ closed. Turned closed (of_link L.faults L.endings L.looks link.old) (of_link L.faults L.endings L.looks link.new) (next_item script.now cue.new)) }
-    ensures outside { ServesTurn (rules_of table.now) (result_err result) node.old node.new (outside (L.pieces link.old) (R.state lock.old)) (outside (L.pieces link.new) (R.state lock.new)) readers.old readers.new }
+    ensures cause { IsCaused result (both (of_link L.faults L.endings L.looks link.old) (of_lock R.faults R.refusals lock.old)) (both (of_link L.faults L.endings L.looks link.new) (of_lock R.faults R.refusals lock.new)) }
+    ensures next { IsNextItem (rules_of part.now.table.now) part.now.script.now (result_err result) node.new cue.new }
+    ensures turned { IfOk result (λ closed. Turned closed (of_link L.faults L.endings L.looks link.old) (of_link L.faults L.endings L.looks link.new) (next_item part.now.script.now cue.new)) }
+    ensures outside { ServesTurn (rules_of part.now.table.now) (result_err result) node.old node.new (outside (L.pieces link.old) (R.state lock.old)) (outside (L.pieces link.new) (R.state lock.new)) readers.old readers.new }
 {
-    gate.pass(node.core().pnn(), number);
-    let waits = may_wait(cue, script);
+    let waits = may_wait(cue, part.script);
     match look(link, waits) {
         Ok(Received::Piece { sender, bytes }) => {
             match take_piece(
-                alloc,
+                part.alloc,
                 node,
-                table,
+                part.table,
                 cue,
                 readers,
                 link,
@@ -99,7 +96,7 @@ fn turn<L: Link, R: RecLock, G: Gate>(
                 Err(fault) => Err(fault),
             }
         }
-        Ok(Received::Nothing) => match take_next(alloc, node, table, cue, script, link, lock) {
+        Ok(Received::Nothing) => match take_next(node, part, cue, link, lock) {
             Ok(_) => Ok(false),
             Err(fault) => Err(fault),
         },
@@ -110,25 +107,24 @@ fn turn<L: Link, R: RecLock, G: Gate>(
 
 /// The node takes each item of its script that it may take, one after the other.
 fn take_rest<L: Link, R: RecLock>(
-    alloc: Global,
     node: &mut Node,
-    table: &CallTable,
+    part: &Part,
     cue: &mut Cue,
-    script: &[PlanItem],
     link: &mut L,
     lock: &mut R,
 ) -> Result<(), ServeFault>
-    requires acts { Acts (rules_of table.now) script.now node.old cue.old }
-    requires told { list_all (may_be_told node.old.core.config node.old.core.pnn) script.now ≡ true }
-    ensures goes_on { GoesOn (rules_of table.now) script.now node.old cue.old node.new cue.new }
+    requires acts { Acts (rules_of part.now.table.now) part.now.script.now node.old cue.old }
+    requires told { list_all (may_be_told node.old.core.config node.old.core.pnn) part.now.script.now ≡ true }
+    ensures goes_on { GoesOn (rules_of part.now.table.now) part.now.script.now node.old cue.old node.new cue.new }
     ensures counts { NoneFell (both (of_link L.faults L.endings L.looks link.old) (of_lock R.faults R.refusals lock.old)) (both (of_link L.faults L.endings L.looks link.new) (of_lock R.faults R.refusals lock.new)) }
-    ensures cause { IsCaused (rules_of table.now) result node.new (both (of_link L.faults L.endings L.looks link.old) (of_lock R.faults R.refusals lock.old)) (both (of_link L.faults L.endings L.looks link.new) (of_lock R.faults R.refusals lock.new)) }
-    ensures rest { OnOk result (next_item script.now cue.new ≡ None) }
-    ensures outside { ServesOn (rules_of table.now) (result_err result) (heard [] []) node.old node.new (outside (L.pieces link.old) (R.state lock.old)) (outside (L.pieces link.new) (R.state lock.new)) }
-    ensures ours { (me : ℕ) (taken : List Parcel) → AreForeign (result_err result) me taken }
+    ensures cause { IsCaused result (both (of_link L.faults L.endings L.looks link.old) (of_lock R.faults R.refusals lock.old)) (both (of_link L.faults L.endings L.looks link.new) (of_lock R.faults R.refusals lock.new)) }
+    ensures next { IsNextItem (rules_of part.now.table.now) part.now.script.now (result_err result) node.new cue.new }
+    ensures rest { OnOk result (next_item part.now.script.now cue.new ≡ None) }
+    ensures outside { ServesOn (rules_of part.now.table.now) (result_err result) (heard [] []) node.old node.new (outside (L.pieces link.old) (R.state lock.old)) (outside (L.pieces link.new) (R.state lock.new)) }
+    ensures piece { IsNoPiece (result_err result) }
 {
     'items: loop {
-        match take_next(alloc, node, table, cue, script, link, lock) {
+        match take_next(node, part, cue, link, lock) {
             Ok(true) => {}
             Ok(false) => return Ok(()),
             Err(fault) => return Err(fault),
@@ -162,6 +158,8 @@ fn is_full(until: Until, node: &Node) -> bool
 /// becomes one entry, whose frames are sent. Once the node has had its turns, or its journal has its entries, each item that
 /// can still be taken is taken.
 ///
+/// `Exhausted` tells what the node, as its journal leaves it, is to do next, and the rules give no step of it.
+///
 /// An item can be taken where each call that was taken before is answered. A round is led in the generation of the ticket of
 /// one take of the lock.
 ///
@@ -182,33 +180,28 @@ pub fn serve_until<L: Link, R: RecLock, G: Gate>(
     ensures acting { HasActed (rules_of table.now) script.now node.old.entries result node.new }
     ensures same { (node.new.core.pnn ≡ node.old.core.pnn) × (node.new.core.config ≡ node.old.core.config) }
     ensures counts { NoneFell (both (of_link L.faults L.endings L.looks link.old) (of_lock R.faults R.refusals lock.old)) (both (of_link L.faults L.endings L.looks link.new) (of_lock R.faults R.refusals lock.new)) }
-    ensures cause { IsCaused (rules_of table.now) result node.new (both (of_link L.faults L.endings L.looks link.old) (of_lock R.faults R.refusals lock.old)) (both (of_link L.faults L.endings L.looks link.new) (of_lock R.faults R.refusals lock.new)) }
-    ensures ends { IfOk result (λ served. EndsBy until served (of_link L.faults L.endings L.looks link.old) (of_link L.faults L.endings L.looks link.new)) }
+    ensures cause { IsCaused result (both (of_link L.faults L.endings L.looks link.old) (of_lock R.faults R.refusals lock.old)) (both (of_link L.faults L.endings L.looks link.new) (of_lock R.faults R.refusals lock.new)) }
+    ensures ends { IfOk result (λ served. EndsBy until served (length node.new.entries) (of_link L.faults L.endings L.looks link.old) (of_link L.faults L.endings L.looks link.new)) }
     ensures outside { Serves (rules_of table.now) (result_err result) node.old node.new (outside (L.pieces link.old) (R.state lock.old)) (outside (L.pieces link.new) (R.state lock.new)) }
 {
+    let part = Part {
+        alloc,
+        table,
+        script,
+    };
     let mut cue = Cue::first(node.entries());
     let mut readers = Readers::new(alloc);
     let most = most_turns(until);
     let mut number = 0;
     while number < most && !is_full(until, node) {
-        match turn(
-            alloc,
-            node,
-            table,
-            &mut cue,
-            &mut readers,
-            script,
-            link,
-            lock,
-            gate,
-            number,
-        ) {
+        gate.pass(node.core().pnn(), number);
+        match turn(node, &part, &mut cue, &mut readers, link, lock) {
             Ok(false) => number += 1,
             Ok(true) => return Ok(Served::Closed),
             Err(fault) => return Err(fault),
         }
     }
-    match take_rest(alloc, node, table, &mut cue, script, link, lock) {
+    match take_rest(node, &part, &mut cue, link, lock) {
         Ok(()) => Ok(Served::Budget),
         Err(fault) => Err(fault),
     }
@@ -230,8 +223,8 @@ pub fn serve<L: Link, R: RecLock, G: Gate>(
     ensures acting { HasActed (rules_of table.now) script.now node.old.entries result node.new }
     ensures same { (node.new.core.pnn ≡ node.old.core.pnn) × (node.new.core.config ≡ node.old.core.config) }
     ensures counts { NoneFell (both (of_link L.faults L.endings L.looks link.old) (of_lock R.faults R.refusals lock.old)) (both (of_link L.faults L.endings L.looks link.new) (of_lock R.faults R.refusals lock.new)) }
-    ensures cause { IsCaused (rules_of table.now) result node.new (both (of_link L.faults L.endings L.looks link.old) (of_lock R.faults R.refusals lock.old)) (both (of_link L.faults L.endings L.looks link.new) (of_lock R.faults R.refusals lock.new)) }
-    ensures ends { IfOk result (λ served. EndsBy (until.Turns turns) served (of_link L.faults L.endings L.looks link.old) (of_link L.faults L.endings L.looks link.new)) }
+    ensures cause { IsCaused result (both (of_link L.faults L.endings L.looks link.old) (of_lock R.faults R.refusals lock.old)) (both (of_link L.faults L.endings L.looks link.new) (of_lock R.faults R.refusals lock.new)) }
+    ensures ends { IfOk result (λ served. EndsBy (until.Turns turns) served (length node.new.entries) (of_link L.faults L.endings L.looks link.old) (of_link L.faults L.endings L.looks link.new)) }
     ensures outside { Serves (rules_of table.now) (result_err result) node.old node.new (outside (L.pieces link.old) (R.state lock.old)) (outside (L.pieces link.new) (R.state lock.new)) }
 {
     serve_until(

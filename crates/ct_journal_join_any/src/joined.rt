@@ -2,7 +2,7 @@
 ghost use Rattle.ct_call.specs.Shown.{rules_of};
 ghost use Rattle.ct_law_journal_reach.specs.Counts.{AreNotTooMany, HaveOwnTickets};
 ghost use Rattle.ct_law_journal_schedule.specs.Laws.{AreRuns};
-ghost use Rattle.ct_promise.specs.Promises.{IsConfig};
+ghost use Rattle.ct_rules_config.specs.Configured.{IsConfig};
 ghost use Rattle.ct_journal_join_any.specs.Joined.{JoinsRuns};
 
 use crate::reach::Reach;

@@ -6,7 +6,7 @@ ghost use Rattle.ct_journal.specs.Order.{entries_of};
 ghost use Rattle.ct_law_journal_reach.specs.Counts.{AreAll, count_at, cut_to, entry_after};
 ghost use Rattle.ct_law_journal_reach.specs.Laws.{NoneMayGo};
 ghost use Rattle.ct_law_journal_reach.specs.Making.{HasMade, MayGo};
-ghost use Rattle.ct_promise.specs.Promises.{IsConfig};
+ghost use Rattle.ct_rules_config.specs.Configured.{IsConfig};
 ghost use Rattle.ct_journal_join_any.specs.Going.{GoesWith};
 ghost use Rattle.ct_journal_join_any.specs.Reaching.{HasReached, IsHeldAt, Reaches, ReachesOn};
 

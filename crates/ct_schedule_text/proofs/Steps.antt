@@ -14,8 +14,7 @@ use Rattle.ct_rules_cluster.specs.declared.step.StepFault.{StepFault}
 use Rattle.ct_values.specs.declared.config.Config.{Config}
 use Rattle.ct_text.specs.Line.{line_text, pending_text}
 use Rattle.ct_schedule_text.specs.Counted.{if_taken, last_frame, step_done, steps_done, with_lines}
-use Rattle.ct_schedule_text.specs.Schedule.{schedule_text, summary_text}
-use Rattle.ct_schedule_text.specs.declared.schedule.Summary.{Summary}
+use Rattle.ct_schedule_text.specs.Schedule.{run_text}
 use Rattle.ct_schedule_text.proofs.Frames.{all_lead, frame_on}
 
 -- ---- the loop
@@ -90,15 +89,17 @@ sent_none : (c : Config) → length (opening c).sent ≡ 0
 unfolding opening
 sent_none c = refl
 
-pub told_so : (c : Config) (rules : Rules) (ss : List Step) (x : Summary) (w : Cluster) (text : List ℕ) (last : ℕ) → list_all is_allowed ss ≡ true
+pub told_so : (c : Config) (rules : Rules) (ss : List Step) (w : Cluster) (text : List ℕ) → list_all is_allowed ss ≡ true
     → w ≡ (steps_done c rules (opening c) ss).cluster → text ≡ flat_map (line_text c) (steps_done c rules (opening c) ss).lines
-    → last ≡ last_frame 0 (steps_done c rules (opening c) ss).lines
-    → text ++ flat_map (pending_text c) (pending w) ++ summary_text c.nodes x last ≡ schedule_text c rules ss x
-told_so c rules ss x w text last h e t n =
+    → text ++ flat_map (pending_text c) (pending w) ≡ run_text c (ran c rules (opening c) [] ss)
+told_so c rules ss w text h e t =
     let all = all_agree c rules (opening c) (opening c) [] ss refl h in
     let same : w ≡ (ran c rules (opening c) [] ss).cluster = e ∙ sym all.cluster_is in
     let printed : text ≡ flat_map (line_text c) (ran c rules (opening c) [] ss).lines = t ∙ ap (flat_map (line_text c)) (sym all.lines_are) in
-    let frames : last ≡ length w.sent =
-    n ∙ sym (ap (λ (k : ℕ). last_frame k (steps_done c rules (opening c) ss).lines) (sent_none c)) ∙ all_lead c rules (opening c) ss ∙ sym (ap (λ (u : Cluster). length u.sent) e) in
-    ap (λ (k : ℕ). text ++ flat_map (pending_text c) (pending w) ++ summary_text c.nodes x k) frames
-    ∙ ap₂ (λ (l : List ℕ) (u : Cluster). l ++ flat_map (pending_text c) (pending u) ++ summary_text c.nodes x (length u.sent)) printed same
+    ap₂ (λ (l : List ℕ) (u : Cluster). l ++ flat_map (pending_text c) (pending u)) printed same
+
+pub sent_so : (c : Config) (rules : Rules) (ss : List Step) (last : ℕ) → list_all is_allowed ss ≡ true → last ≡ last_frame 0 (steps_done c rules (opening c) ss).lines
+    → last ≡ length (ran c rules (opening c) [] ss).cluster.sent
+sent_so c rules ss last h n =
+    let all = all_agree c rules (opening c) (opening c) [] ss refl h in
+    n ∙ sym (ap (λ (k : ℕ). last_frame k (steps_done c rules (opening c) ss).lines) (sent_none c)) ∙ all_lead c rules (opening c) ss ∙ ap (λ (u : Cluster). length u.sent) (sym all.cluster_is)

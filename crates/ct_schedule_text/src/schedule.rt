@@ -3,11 +3,14 @@ ghost use Rattle.std.specs.Prelude.{◌≡◌, ◌++◌, true, [], length, IfOk,
 ghost use Rattle.std.specs.List.{flat_map, list_all};
 ghost use Rattle.ct_call.specs.Shown.{rules_of};
 ghost use Rattle.ct_rules_cluster.specs.Faults.{is_allowed};
-ghost use Rattle.ct_promise.specs.Promises.{IsConfig};
+ghost use Rattle.ct_rules_config.specs.Configured.{IsConfig};
 ghost use Rattle.ct_text.specs.Line.{line_text, pending_text};
 ghost use Rattle.ct_schedule_text.specs.Counted.{frame_by, last_frame, step_done, steps_done};
-ghost use Rattle.ct_schedule_text.specs.Schedule.{command_name, schedule_text, summary_text};
+ghost use Rattle.ct_rules_cluster.specs.Cluster.{opening};
+ghost use Rattle.ct_rules_cluster.specs.Traces.{ran};
+ghost use Rattle.ct_schedule_text.specs.Schedule.{command_name, run_text, schedule_text, summary_text};
 
+use crate::telling::Lines;
 use ct_call::table::CallTable;
 use ct_rules_cluster::step::{Line, PendingCall, Step, StepFault};
 use ct_text::line::{push_line, push_pending};
@@ -144,10 +147,30 @@ pub fn push_summary(
     push(text, b"\n")
 }
 
-/// The text of a schedule: its steps are taken one after the other from the opening of the configuration. A line comes for all
-/// that they print, for each call that waits at the end, and last one that counts. A step that is refused prints nothing, as in
-/// every run; a schedule of journals has none.
-#[tactic(auto, using(crate::proofs::Steps::told_so))]
+/// The lines of a schedule as text, and how many messages its run sent: its steps are taken one after the other from the opening of
+/// the configuration. A line comes for all that they print, and for each call that waits at the end. A step that is refused
+/// prints nothing, as in every run; a schedule of journals has none.
+#[tactic(auto, using(crate::proofs::Steps::told_so, crate::proofs::Steps::sent_so))]
+pub fn text_of_steps(
+    alloc: Global,
+    table: &CallTable,
+    config: &Config,
+    steps: &[Step],
+) -> Result<Lines, NoMemory>
+    requires config { IsConfig config.now }
+    requires allowed { list_all is_allowed steps.now ≡ true }
+    ensures text { IfOk result (λ v. v.text.items ≡ run_text config.now (ran config.now (rules_of table.now) (opening config.now) [] steps.now)) }
+    ensures sent { IfOk result (λ v. v.sent ≡ length (ran config.now (rules_of table.now) (opening config.now) [] steps.now).cluster.sent) }
+{
+    let mut world = World::new(alloc, config)?;
+    let mut text = Vec::new(alloc);
+    let sent = play(&mut text, &mut world, table, config, steps)?;
+    let calls = world.pending()?;
+    push_calls(&mut text, &calls, config)?;
+    Ok(Lines { text, sent })
+}
+
+/// The text of a schedule: its lines, and last one that counts.
 pub fn schedule_text(
     alloc: Global,
     table: &CallTable,
@@ -159,11 +182,7 @@ pub fn schedule_text(
     requires allowed { list_all is_allowed steps.now ≡ true }
     ensures { IfOk result (λ text. text.items ≡ schedule_text config.now (rules_of table.now) steps.now summary.now) }
 {
-    let mut world = World::new(alloc, config)?;
-    let mut text = Vec::new(alloc);
-    let last = play(&mut text, &mut world, table, config, steps)?;
-    let calls = world.pending()?;
-    push_calls(&mut text, &calls, config)?;
-    push_summary(&mut text, config.nodes, summary, last)?;
+    let Lines { mut text, sent } = text_of_steps(alloc, table, config, steps)?;
+    push_summary(&mut text, config.nodes, summary, sent)?;
     Ok(text)
 }

@@ -1,6 +1,6 @@
 -- A node that has served.
-use Rattle.std.proofs.Common.{◌≡◌, ◌∙◌, ℕ, List, [], ◌++◌, Option, None, true, ◌⊎◌, inl, refl, sym, ap, subst}
-use Rattle.std.specs.Prelude.{Ok}
+use Rattle.std.proofs.Common.{◌≡◌, ◌∙◌, ℕ, List, [], ◌++◌, Option, None, true, ◌⊎◌, inl, inr, refl, sym, ap, subst}
+use Rattle.std.specs.Prelude.{Ok, length}
 use Rattle.std.specs.List.{list_all}
 use Rattle.ct_call.specs.Rules.{Rules}
 use Rattle.ct_script.specs.Cues.{IsScripted}
@@ -11,16 +11,13 @@ use Rattle.ct_journal.specs.declared.journal.JournalEntry.{JournalEntry}
 use Rattle.ct_law_journal_growing.specs.Following.{Follows}
 use Rattle.ct_law_journal_growing.proofs.Following.{ends_scripted}
 use Rattle.ct_actor.specs.Journalled.{Journalled, at_opening}
-use Rattle.ct_law_form.specs.Whole.{HasLimits}
-use Rattle.ct_law_form.proofs.Whole.{configs_have_limits}
 use Rattle.ct_actor.proofs.Running.{run_of}
 use Rattle.ct_script.specs.Sound.{IsSound, may_be_told, script_of}
-use Rattle.ct_actor_serving.specs.Serving.{HasActed}
+use Rattle.ct_actor_serving.specs.Serving.{Counts, EndsBy, HasActed}
 use Rattle.ct_actor_serving.specs.declared.fault.Served.{Served}
-use Rattle.ct_troupe_threads.specs.Threaded.{HasServed}
-
-pub has_limits : (p : Plan) → IsSound p → HasLimits p.config
-has_limits p sound = configs_have_limits p.config sound.config.0 sound.config.1 sound.config.2
+use Rattle.ct_actor_serving.specs.declared.fault.Served.TheVariants as served
+use Rattle.ct_actor_serving.specs.declared.fault.Until.TheVariants as until
+use Rattle.ct_troupe_threads.specs.Threaded.{HadTurns, HasServed, ServedFor, all_turns}
 
 pub may_serve : (p : Plan) (n : ℕ) (x : Journalled) (script : List PlanItem) → IsSound p → x ≡ at_opening n p.config → script ≡ script_of p n → list_all (may_be_told x.core.config x.core.pnn) script ≡ true
 may_serve p n x script sound at is =
@@ -43,3 +40,11 @@ has_served rules p n served script first x j at is pnn config h j_is =
     (served_from rules p n served x (pnn ∙ ap (λ (y : Journalled). y.core.pnn) at) (config ∙ ap (λ (y : Journalled). y.core.config) at)
     (subst (λ (s : List PlanItem). HasActed rules s [] (Ok served) x) is
     (subst (λ (y : Journalled). HasActed rules script y.entries (Ok served) x) at h)))
+
+turns_of : (end : Served) (count : ℕ) (old new : Counts) → EndsBy (until.Turns all_turns) end count old new → HadTurns old new
+turns_of served.Closed count old new h = inl h
+turns_of served.Budget count old new h = inr h
+
+-- a node that served for all its turns had them
+pub had_turns : (old new : Counts) (j : Journal) → ServedFor (until.Turns all_turns) old new j → HadTurns old new
+had_turns old new j h = turns_of h.0 (length j.entries) old new h.1

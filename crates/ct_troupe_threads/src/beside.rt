@@ -2,7 +2,8 @@
 ghost use Rattle.std.specs.Prelude.{◌≡◌, ◌<◌, IfOk, IfSome};
 ghost use Rattle.ct_call.specs.Shown.{rules_of};
 ghost use Rattle.ct_script.specs.Sound.{IsSound, script_of};
-ghost use Rattle.ct_troupe_threads.specs.Threaded.{HasServed};
+ghost use Rattle.ct_actor_serving.specs.Serving.{of_link};
+ghost use Rattle.ct_troupe_threads.specs.Threaded.{HasServed, ServedFor};
 
 use crate::settled::MOST_ENTRIES;
 use ct_actor::node::Node;
@@ -46,7 +47,8 @@ pub fn serve_plan<L: Link, S: RecLock, G: Gate>(
 ) -> Result<Option<Journal>, NoMemory>
     requires sound { IsSound plan.now }
     requires node { node < plan.now.config.nodes }
-    ensures { IfOk result (λ o. IfSome o (HasServed (rules_of table.now) plan.now node)) }
+    ensures served { IfOk result (λ o. IfSome o (HasServed (rules_of table.now) plan.now node)) }
+    ensures ends { IfOk result (λ o. IfSome o (ServedFor until (of_link L.faults L.endings L.looks link.old) (of_link L.faults L.endings L.looks link.new))) }
 {
     let mut own = Node::new(alloc, node, &plan.config)?;
     match serve_until(

@@ -23,6 +23,7 @@
 
 pub mod beside;
 pub mod gate;
+pub mod last_play;
 pub mod loopback;
 pub mod mesh;
 pub mod meshed;

@@ -4,12 +4,11 @@ ghost use Rattle.std.specs.Thread.{IsSync};
 ghost use Rattle.ct_troupe.specs.Stages.{AllHaveArrived};
 
 use crate::gate::ThreadGate;
+use crate::last_play::LastPlay;
 use ct_call::table::CallTable;
 use ct_frame::plan::Plan;
 use ct_journal::journal::Journal;
 use ct_troupe::troupe::{PlayFault, Troupe};
-use ct_troupe::turns::Turns;
-use ct_values::items::Items;
 use ct_values::memory::NoMemory;
 use std::alloc::Global;
 use std::marker::Model;
@@ -22,38 +21,27 @@ use std::thread::Threads as Spawns;
 pub struct Threads<R, G> {
     rt: R,
     gates: Vec<G>,
-    /// The journals of the threads, where the last play is theirs.
-    own: Items<Journal>,
-    turns: Turns,
-    /// Was the last plan played again?
-    again: bool,
+    last: LastPlay,
 }
 
 impl<R, G> Model for Threads<R, G> {
     ghost use Rattle.std.specs.Prelude.{List};
     ghost use Rattle.ct_journal.specs.declared.journal.Journal.{Journal as Told};
-    ghost use Rattle.ct_troupe_threads.specs.Threads.{told_journals};
-    ghost use Rattle.ct_troupe.specs.Stages.{AllHaveArrived};
 
     ghost Value = { List Told };
 
-    ghost view = { λ a. told_journals a.again a.turns.journals a.own };
-
-    ghost invariant = { λ a. AllHaveArrived (told_journals a.again a.turns.journals a.own) };
+    ghost view = { λ a. a.last };
 }
 
 impl<R: Drop, G: Drop> Threads<R, G> {
     /// No plan was played. It takes no memory.
-    #[tactic(auto, using(ct_troupe::proofs::Ending::none_left))]
     pub fn new(rt: R, alloc: Global, gates: Vec<G>) -> Threads<R, G>
         ensures { result ≡ [] }
     {
         Threads {
             rt,
             gates,
-            own: Items::empty(alloc),
-            turns: Turns::new(alloc),
-            again: false,
+            last: LastPlay::none(alloc),
         }
     }
 
@@ -61,7 +49,7 @@ impl<R: Drop, G: Drop> Threads<R, G> {
     pub fn all_have_arrived(&self)
         ensures { AllHaveArrived self.now }
     {
-        let _ = &self.again;
+        self.last.all_have_arrived();
     }
 }
 
@@ -74,28 +62,16 @@ impl<R: Spawns + Wait + Sync, G: ThreadGate> Troupe for Threads<R, G> {
     ghost ready = { λ _. IsSync R.row };
 
     /// Only want of memory refuses it, as `Turns` has it.
-    #[tactic(auto, using(ct_troupe::proofs::Ending::none_left, crate::proofs::Arriving::settled_arrived))]
     fn play(&mut self, alloc: Global, table: &CallTable, plan: &Plan) -> Result<(), PlayFault> {
-        self.own = Items::empty(alloc);
-        self.again = false;
-        match G::play_through(&self.rt, alloc, table, plan, self.gates.as_mut_slice()) {
-            Ok(Some(journals)) => {
-                self.own = Items::new(journals);
-                Ok(())
-            }
-            Ok(None) => {
-                self.again = true;
-                self.turns.play(alloc, table, plan)
-            }
+        self.last.forget(alloc);
+        let left = G::play_through(&self.rt, alloc, table, plan, self.gates.as_mut_slice());
+        match self.last.keep(alloc, table, plan, left) {
+            Ok(()) => Ok(()),
             Err(NoMemory) => Err(PlayFault::NoMemory),
         }
     }
 
     fn journals(&self) -> &[Journal] {
-        if self.again {
-            self.turns.journals()
-        } else {
-            self.own.as_slice()
-        }
+        self.last.journals()
     }
 }

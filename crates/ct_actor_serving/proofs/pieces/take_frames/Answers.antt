@@ -34,7 +34,7 @@ returns-in-Err-clause-goes_on g c = λ script.
 pub returns-in-Err-clause-cause : goal.returns-in-Err-clause-cause
 returns-in-Err-clause-cause g c =
     let link = of_link g.L.Link.faults g.L.Link.endings g.L.Link.looks in
-    cause_late (rules_of c.args.table.now) c.in-Err.fault c.take_frame.new.node (link c.args.link.now) (link c.loop-frame.link) (link c.take_frame.new.link) c.loop-frame.invariant.counts c.in-Err.ensures.cause
+    cause_late c.in-Err.fault (link c.args.link.now) (link c.loop-frame.link) (link c.take_frame.new.link) c.loop-frame.invariant.counts c.in-Err.ensures.cause
 
 pub returns-in-Err-clause-outside : goal.returns-in-Err-clause-outside
 returns-in-Err-clause-outside g c =

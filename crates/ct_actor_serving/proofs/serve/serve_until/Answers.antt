@@ -25,6 +25,7 @@ returns-in-Ok-true-clause-acting g c =
       cue = c.turn.new.cue;
       acting = c.turn.ensures.goes_on.acting c.args.node.now.entries (c.loop-number.invariant.goes_on.acting c.args.node.now.entries started);
       done = turned.1.1;
+      next = tt;
     }
 
 pub loop-number-preserved : goal.loop-number-preserved
@@ -49,13 +50,14 @@ returns-in-Err-clause-acting g c =
       cue = c.turn.new.cue;
       acting = c.turn.ensures.goes_on.acting c.args.node.now.entries (c.loop-number.invariant.goes_on.acting c.args.node.now.entries started);
       done = tt;
+      next = c.in-Err.ensures.next;
     }
 
 pub returns-in-Err-clause-cause : goal.returns-in-Err-clause-cause
 returns-in-Err-clause-cause g c =
     let link = of_link g.L.Link.faults g.L.Link.endings g.L.Link.looks in
     let lock = of_lock g.R.RecLock.faults g.R.RecLock.refusals in
-    cause_late (rules_of c.args.table.now) c.in-Err.fault c.turn.new.node (both (link c.args.link.now) (lock c.args.lock.now)) (both (link c.loop-number.link) (lock c.loop-number.lock)) (both (link c.turn.new.link) (lock c.turn.new.lock))
+    cause_late c.in-Err.fault (both (link c.args.link.now) (lock c.args.lock.now)) (both (link c.loop-number.link) (lock c.loop-number.lock)) (both (link c.turn.new.link) (lock c.turn.new.lock))
     c.loop-number.invariant.counts c.in-Err.ensures.cause
 
 pub take_rest-requires-clause-acts : goal.take_rest-requires-clause-acts
@@ -72,6 +74,7 @@ returns-in-Ok-clause-acting g c =
       cue = c.take_rest.new.cue;
       acting = c.take_rest.ensures.goes_on.acting c.args.node.now.entries (c.loop-number.invariant.goes_on.acting c.args.node.now.entries started);
       done = c.in-Ok.ensures.rest;
+      next = tt;
     }
 
 pub returns-clause-acting : goal.returns-clause-acting
@@ -81,13 +84,14 @@ returns-clause-acting g c =
       cue = c.take_rest.new.cue;
       acting = c.take_rest.ensures.goes_on.acting c.args.node.now.entries (c.loop-number.invariant.goes_on.acting c.args.node.now.entries started);
       done = tt;
+      next = c.in-Err-take_rest.ensures.next;
     }
 
 pub returns-clause-cause : goal.returns-clause-cause
 returns-clause-cause g c =
     let link = of_link g.L.Link.faults g.L.Link.endings g.L.Link.looks in
     let lock = of_lock g.R.RecLock.faults g.R.RecLock.refusals in
-    cause_late (rules_of c.args.table.now) c.in-Err-take_rest.fault c.take_rest.new.node (both (link c.args.link.now) (lock c.args.lock.now)) (both (link c.loop-number.link) (lock c.loop-number.lock)) (both (link c.take_rest.new.link) (lock c.take_rest.new.lock))
+    cause_late c.in-Err-take_rest.fault (both (link c.args.link.now) (lock c.args.lock.now)) (both (link c.loop-number.link) (lock c.loop-number.lock)) (both (link c.take_rest.new.link) (lock c.take_rest.new.lock))
     c.loop-number.invariant.counts c.in-Err-take_rest.ensures.cause
 
 pub loop-number-init : goal.loop-number-init
@@ -116,10 +120,10 @@ pub returns-in-Ok-clause-outside : goal.returns-in-Ok-clause-outside
 returns-in-Ok-clause-outside g c =
     serving_last (rules_of c.args.table.now) None c.args.node.now c.loop-number.node c.take_rest.new.node (outside (g.L.Link.pieces c.args.link.now) (g.R.RecLock.state c.args.lock.now)) (outside (g.L.Link.pieces c.loop-number.link) (g.R.RecLock.state c.loop-number.lock))
     (outside (g.L.Link.pieces c.take_rest.new.link) (g.R.RecLock.state c.take_rest.new.lock)) c.loop-number.readers c.loop-number.readers c.loop-number.invariant.serving c.loop-number.invariant.goes_on.pnn
-    (turn_rest (rules_of c.args.table.now) None c.loop-number.node c.take_rest.new.node (outside (g.L.Link.pieces c.loop-number.link) (g.R.RecLock.state c.loop-number.lock)) (outside (g.L.Link.pieces c.take_rest.new.link) (g.R.RecLock.state c.take_rest.new.lock)) c.loop-number.readers c.in-Ok.ensures.outside c.in-Ok.ensures.ours)
+    (turn_rest (rules_of c.args.table.now) None c.loop-number.node c.take_rest.new.node (outside (g.L.Link.pieces c.loop-number.link) (g.R.RecLock.state c.loop-number.lock)) (outside (g.L.Link.pieces c.take_rest.new.link) (g.R.RecLock.state c.take_rest.new.lock)) c.loop-number.readers c.in-Ok.ensures.outside c.in-Ok.ensures.piece)
 
 pub returns-clause-outside : goal.returns-clause-outside
 returns-clause-outside g c =
     serving_last (rules_of c.args.table.now) (Some c.in-Err-take_rest.fault) c.args.node.now c.loop-number.node c.take_rest.new.node (outside (g.L.Link.pieces c.args.link.now) (g.R.RecLock.state c.args.lock.now)) (outside (g.L.Link.pieces c.loop-number.link) (g.R.RecLock.state c.loop-number.lock))
     (outside (g.L.Link.pieces c.take_rest.new.link) (g.R.RecLock.state c.take_rest.new.lock)) c.loop-number.readers c.loop-number.readers c.loop-number.invariant.serving c.loop-number.invariant.goes_on.pnn
-    (turn_rest (rules_of c.args.table.now) (Some c.in-Err-take_rest.fault) c.loop-number.node c.take_rest.new.node (outside (g.L.Link.pieces c.loop-number.link) (g.R.RecLock.state c.loop-number.lock)) (outside (g.L.Link.pieces c.take_rest.new.link) (g.R.RecLock.state c.take_rest.new.lock)) c.loop-number.readers c.in-Err-take_rest.ensures.outside c.in-Err-take_rest.ensures.ours)
+    (turn_rest (rules_of c.args.table.now) (Some c.in-Err-take_rest.fault) c.loop-number.node c.take_rest.new.node (outside (g.L.Link.pieces c.loop-number.link) (g.R.RecLock.state c.loop-number.lock)) (outside (g.L.Link.pieces c.take_rest.new.link) (g.R.RecLock.state c.take_rest.new.lock)) c.loop-number.readers c.in-Err-take_rest.ensures.outside c.in-Err-take_rest.ensures.piece)

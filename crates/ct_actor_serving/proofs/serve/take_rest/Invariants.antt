@@ -10,10 +10,10 @@ invariant-items g l =
     let link = of_link g.L.Link.faults g.L.Link.endings g.L.Link.looks in
     let lock = of_lock g.R.RecLock.faults g.R.RecLock.refusals in
     record {
-      goes_on : GoesOn (rules_of l.initial.table) l.initial.script l.initial.node l.initial.cue l.node l.cue;
+      goes_on : GoesOn (rules_of l.initial.part.table.now) l.initial.part.script.now l.initial.node l.initial.cue l.node l.cue;
       counts : NoneFell (both (link l.initial.link) (lock l.initial.lock)) (both (link l.link) (lock l.lock));
-      served : ServesOn (rules_of l.initial.table) None (heard [] []) l.initial.node l.node (outside (g.L.Link.pieces l.initial.link) (g.R.RecLock.state l.initial.lock)) (outside (g.L.Link.pieces l.link) (g.R.RecLock.state l.lock));
+      served : ServesOn (rules_of l.initial.part.table.now) None (heard [] []) l.initial.node l.node (outside (g.L.Link.pieces l.initial.link) (g.R.RecLock.state l.initial.lock)) (outside (g.L.Link.pieces l.link) (g.R.RecLock.state l.lock));
     }
 
 abbrev pub decreases-items : goal.decreases-items
-decreases-items g l = length l.initial.script - l.cue.taken
+decreases-items g l = length l.initial.part.script.now - l.cue.taken
