@@ -1,0 +1,4 @@
+pub mod Played
+pub mod Told
+pub mod Ending
+pub mod Telling

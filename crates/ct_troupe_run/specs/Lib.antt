@@ -1,0 +1,4 @@
+pub mod Running
+pub mod Text
+pub mod Chains
+pub mod Columns
