@@ -1,0 +1,4 @@
+pub mod Ends
+pub mod Opening
+pub mod Relay
+pub mod Seats

@@ -1,0 +1,4 @@
+pub mod Exchange
+pub mod Handling
+pub mod Named
+pub mod Shown

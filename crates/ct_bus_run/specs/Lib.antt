@@ -1,0 +1,4 @@
+pub mod Ends
+pub mod Generated
+pub mod Numbers
+pub mod Text

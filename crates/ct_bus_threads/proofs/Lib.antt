@@ -1,0 +1,5 @@
+pub mod Planning
+pub mod Sounding
+pub mod Whole
+pub mod Ranged
+pub mod Served
