@@ -1,0 +1,4 @@
+pub mod Back
+pub mod Carrying
+pub mod Waiting
+pub mod Walking
