@@ -38,7 +38,7 @@ pub record Places (e : End) (left_before left before now : Option (List ℕ)) : 
   pub ends : Ends e bytes left before now
 
 -- no count of faults falls, and a fault is answered only where its count rose
-pub record HasEndCause (e : End) (in_before in_now out_before out_now : ℕ) : Type 0 where
+pub record HasPlacingCause (e : End) (in_before in_now out_before out_now : ℕ) : Type 0 where
   pub read_later : in_before ≤ in_now
   pub write_later : out_before ≤ out_now
   pub read : e ≡ end.ReadFault → Rose in_before in_now

@@ -1,6 +1,6 @@
 //! Reads lines that say nodes and addresses while their bytes come, and prints the placement at the end.
 ghost use Rattle.std.specs.Prelude.{◌≡◌, ◌≤◌, ◌<◌, ◌+◌, ◌^◌, ◌∷◌, [], length, OnOk};
-ghost use Rattle.ct_lcp2_lines.specs.Claims.{HasEndCause, Places};
+ghost use Rattle.ct_lcp2_lines.specs.Claims.{HasPlacingCause, Places};
 ghost use Rattle.ct_lcp2_lines.specs.Feeding.{Feeds, Finishes, FinishCause, ReadCause, ReadsOn, end_of, fault_end, first};
 ghost use Rattle.ct_lcp2_lines.specs.Room.{Fits, room};
 
@@ -163,7 +163,7 @@ fn fault_end(fault: SinkFault) -> End
 /// Reads the input to its end, or as far as it goes, and prints the placement over what its lines say.
 pub fn place<S: Source, K: Sink>(alloc: Global, input: &mut S, out: &mut K) -> End
     ensures places { Places result (S.left input.old) (S.left input.new) (K.held out.old) (K.held out.new) }
-    ensures cause { HasEndCause result (S.faults input.old) (S.faults input.new) (K.faults out.old) (K.faults out.new) }
+    ensures cause { HasPlacingCause result (S.faults input.old) (S.faults input.new) (K.faults out.old) (K.faults out.new) }
 {
     let mut placer = Placer::new(alloc);
     if let Err(end) = placer.read(input) {

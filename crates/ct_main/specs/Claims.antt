@@ -7,6 +7,7 @@ use Rattle.ct_outside.specs.Causes.{AppendsPart, Rose}
 use Rattle.ct_outside.specs.declared.fault.SinkFault.{SinkFault}
 use Rattle.ct_outside.specs.declared.fault.SinkFault.TheVariants as sink
 use Rattle.ct_call.specs.Rules.{Rules}
+use Rattle.ct_rules_config.specs.Configured.{IsConfig}
 use Rattle.ct_rules_cluster.specs.Cluster.{opening}
 use Rattle.ct_rules_cluster.specs.Traces.{ran}
 use Rattle.ct_promise.specs.Marked.{MarksRun, no_marks}
@@ -21,11 +22,17 @@ use Rattle.ct_play.specs.declared.what.What.TheVariants.{Line}
 use Rattle.ct_lcp2_lines.specs.declared.placer.End.{End as PlacingEnd}
 use Rattle.ct_lcp2_lines.specs.declared.placer.End.TheVariants as placing
 use Rattle.ct_soak.specs.Soaking.{soak_text}
-use Rattle.ct_main.specs.declared.running.End.{End as ClusterEnd}
-use Rattle.ct_main.specs.declared.running.End.TheVariants as running
-use Rattle.ct_main.specs.declared.running.Wanted.{Wanted}
+use Rattle.ct_troupe_run.specs.declared.running.End.{End as ClusterEnd}
+use Rattle.ct_troupe_run.specs.declared.running.End.TheVariants as running
+use Rattle.ct_troupe_run.specs.declared.running.Wanted.{Wanted}
+use Rattle.ct_bus_run.specs.declared.generated.BusWanted.{BusWanted}
+use Rattle.ct_bus_run.specs.declared.running.BusEnd.{BusEnd}
+use Rattle.ct_bus_run.specs.declared.running.BusEnd.TheVariants as exchanging
 use Rattle.ct_words.specs.Reading.{reading}
+use Rattle.ct_words.specs.declared.words.BusNumbers.{BusNumbers}
+use Rattle.ct_words.specs.declared.words.ChainNumbers.{ChainNumbers}
 use Rattle.ct_words.specs.declared.words.PlanNumbers.{PlanNumbers}
+use Rattle.ct_troupe_run.specs.declared.chains.CutWanted.{CutWanted}
 use Rattle.ct_words.specs.declared.words.Word.{Word}
 use Rattle.ct_words.specs.declared.words.Word.TheVariants as word
 use Rattle.ct_main.specs.declared.player.End.{End}
@@ -70,13 +77,13 @@ Ends rules end.TooLong bytes left before now = (length bytes ≡ most_bytes) × 
 Ends rules end.WriteFault bytes left before now = AppendsPart before now (text_at (rest bytes) (played rules bytes))
 Ends rules end.NoMemory bytes left before now = AppendsPart before now (text_at (rest bytes) (played rules bytes))
 
--- The steps that a run took from the opening of its cluster lead to where the cluster stands, and print what was printed. The
--- registers accept all that these steps told, and the cluster stands for them; step by step marks hold and go on. Before a
--- cluster was opened no step was taken.
+-- Some databases and addresses make the configuration, so each phrase of the law holds of this run. The steps that it took from
+-- the opening of its cluster lead to where the cluster stands, and print what was printed. The registers accept all that these
+-- steps told, and the cluster stands for them; step by step marks hold and go on. Before a cluster was opened no step was taken.
 abbrev pub KeepsPromise : Rules → Option World → List Deed → Type 0
 KeepsPromise rules None deeds = deeds ≡ []
 KeepsPromise rules (Some w) deeds = let run = ran w.config rules (opening w.config) [] (steps_of deeds) in
-    (run.cluster ≡ w.cluster) × (run.lines ≡ printed deeds) × Keeps w.config rules run × MarksRun w.config rules (opening w.config) [] (lines.opening w.config) (λ g. no_marks) (steps_of deeds)
+    IsConfig w.config × (run.cluster ≡ w.cluster) × (run.lines ≡ printed deeds) × Keeps w.config rules run × MarksRun w.config rules (opening w.config) [] (lines.opening w.config) (λ g. no_marks) (steps_of deeds)
 
 -- The bytes that were taken are a front of what the source had left. Out holds what the end says of them, and whatever the end
 -- is, their run keeps the promise.
@@ -163,6 +170,10 @@ SoakEnds rules s end.TooLong before now = ⊥
 abbrev pub wanted_by : Bool → PlanNumbers → Wanted
 wanted_by net p = record { nodes = p.nodes; calls = p.calls; seed = p.seed; net = net }
 
+-- what `chains` wants
+abbrev pub cut_wanted_by : ChainNumbers → CutWanted
+cut_wanted_by p = record { nodes = p.nodes; chains = p.chains; calls = p.calls; seed = p.seed }
+
 -- the line on err once a cluster has ended
 abbrev pub cluster_message : ClusterEnd → List ℕ
 cluster_message running.Done = message end.Read
@@ -176,11 +187,34 @@ cluster_status running.LinkFault = 7
 cluster_status running.WriteFault = status end.WriteFault
 cluster_status running.NoMemory = status end.NoMemory
 
+-- what `bus` wants
+abbrev pub bus_wanted_by : BusNumbers → BusWanted
+bus_wanted_by p = record { nodes = p.nodes; messages = p.messages; seed = p.seed }
+
+-- an end of an exchange as the program's
+abbrev pub bus_end : BusEnd → End
+bus_end exchanging.Done = end.Read
+bus_end exchanging.WriteFault = end.WriteFault
+bus_end exchanging.NoMemory = end.NoMemory
+
 -- do the words ask for a play of the troupe?
 abbrev pub asks_troupe : Option Word → Bool
 asks_troupe (Some (word.Cluster p)) = true
 asks_troupe (Some (word.Loopback p)) = true
+asks_troupe (Some (word.Chains p)) = true
 asks_troupe (Some word.Play) = false
 asks_troupe (Some word.Lcp2) = false
 asks_troupe (Some (word.Soak seed steps)) = false
+asks_troupe (Some (word.Bus p)) = false
 asks_troupe None = false
+
+-- do they ask for an exchange over the bus?
+abbrev pub asks_bus : Option Word → Bool
+asks_bus (Some (word.Bus p)) = true
+asks_bus (Some (word.Cluster p)) = false
+asks_bus (Some (word.Loopback p)) = false
+asks_bus (Some (word.Chains p)) = false
+asks_bus (Some word.Play) = false
+asks_bus (Some word.Lcp2) = false
+asks_bus (Some (word.Soak seed steps)) = false
+asks_bus None = false

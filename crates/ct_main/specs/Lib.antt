@@ -1,4 +1,4 @@
-pub mod Running
 pub mod Claims
 pub mod Complete
 pub mod Feeding
+pub mod Statuses

@@ -1,12 +1,9 @@
 //! The top call.
 //!
 //! The top call: what the program does with its words, its input and its outputs.
-//!
-//! A cluster that plays the plan of a seed: its nodes play each by itself, their journals are joined to one schedule, and the text
-//! of that schedule is written.
 #![tactic(auto)]
 
+mod bus;
 pub mod laws;
 pub mod player;
 pub mod run;
-pub mod running;

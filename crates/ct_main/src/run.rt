@@ -1,20 +1,30 @@
 //! The top call.
 ghost use Rattle.std.specs.Prelude.{◌≡◌, ◌≤◌, ℕ, true, false, IfOk, None, Some};
+ghost use Rattle.ct_bus_exchange.specs.Shown.{handled_by};
+ghost use Rattle.ct_bus_run.specs.Ends.{BusEnds, HasBusCause};
+ghost use Rattle.ct_bus_run.specs.declared.running.BusEnd.{BusEnd as ExchangeEnd};
 ghost use Rattle.ct_call.specs.Shown.{rules_of};
-ghost use Rattle.ct_main.specs.Running.{HasRunCause, Runs};
-ghost use Rattle.ct_main.specs.declared.running.End.{End as Ran};
+ghost use Rattle.ct_troupe_run.specs.Running.{HasRunCause, Runs};
+ghost use Rattle.ct_troupe_run.specs.declared.running.End.{End as Ran};
 ghost use Rattle.ct_outside.specs.Causes.{Rose};
 ghost use Rattle.ct_lcp2_lines.specs.Claims.{Places};
 ghost use Rattle.ct_lcp2_lines.specs.declared.placer.End.{End as PlacingEnd};
+ghost use Rattle.ct_words.specs.declared.words.BusNumbers.{BusNumbers as Exchanged};
+ghost use Rattle.ct_words.specs.declared.words.ChainNumbers.{ChainNumbers as CutNumbers};
 ghost use Rattle.ct_words.specs.declared.words.PlanNumbers.{PlanNumbers as Numbers};
+ghost use Rattle.ct_troupe_run.specs.Chains.{RunsColumns};
 ghost use Rattle.ct_words.specs.declared.words.Word.TheVariants as word;
-ghost use Rattle.ct_main.specs.Claims.{HasEndCause, Plays, Refuses, Reports, SoakEnds, asked, asks_troupe, cluster_message, cluster_status, message, placed_end, status, wanted_by};
+ghost use Rattle.ct_main.specs.Claims.{HasEndCause, Plays, Refuses, Reports, SoakEnds, asked, asks_bus, asks_troupe, bus_end, bus_wanted_by, cluster_message, cluster_status, cut_wanted_by, message, placed_end, status, wanted_by};
 ghost use Rattle.ct_main.specs.declared.player.End.{End as Ended};
 ghost use Rattle.ct_main.specs.declared.player.End.TheVariants as ended;
 
+use crate::bus::exchange;
 use crate::player::{End, play};
-use crate::running::{End as ClusterEnd, Wanted, cluster};
+use ct_bus_exchange::handlers::Handlers;
+use ct_bus_exchange::troupe::BusTroupe;
+use ct_bus_run::running::BusEnd;
 use ct_call::table::CallTable;
+use ct_chain_troupe::columns::Columns;
 use ct_lcp2_lines::placer::{End as PlacerEnd, place};
 use ct_outside::fault::SinkFault;
 use ct_outside::sink::{Sink, write_all};
@@ -24,8 +34,10 @@ use ct_play::what::What;
 use ct_soak::soaking::soak;
 use ct_text::words::{push, push_number};
 use ct_troupe::troupe::Troupe;
+use ct_troupe_run::chains::{CutWanted, chains};
+use ct_troupe_run::running::{End as ClusterEnd, Wanted, cluster};
 use ct_values::memory::NoMemory;
-use ct_words::words::{PlanNumbers, Word, WordsFault, read_words};
+use ct_words::words::{ChainNumbers, PlanNumbers, Word, WordsFault, read_words};
 use std::alloc::Global;
 
 /// The line that err gets.
@@ -104,6 +116,17 @@ fn placed_end(end: PlacerEnd) -> End
     }
 }
 
+/// The end of an exchange as the program's.
+fn bus_end(end: BusEnd) -> End
+    ensures { result ≡ bus_end end }
+{
+    match end {
+        BusEnd::Done => End::Read,
+        BusEnd::WriteFault => End::WriteFault,
+        BusEnd::NoMemory => End::NoMemory,
+    }
+}
+
 /// Takes the steps of a soak, and prints the line that counts them.
 fn soak_end<K: Sink>(alloc: Global, table: &CallTable, seed: u64, steps: u32, out: &mut K) -> End
     ensures ends { SoakEnds (rules_of table.now) (seed, steps) result (K.held out.old) (K.held out.new) }
@@ -133,6 +156,18 @@ fn wanted_by(net: bool, numbers: &PlanNumbers) -> Wanted
     }
 }
 
+/// What is to be played in columns, by the numbers of the words.
+fn cut_wanted_by(numbers: &ChainNumbers) -> CutWanted
+    ensures { result ≡ cut_wanted_by numbers.now }
+{
+    CutWanted {
+        nodes: numbers.nodes,
+        chains: numbers.chains,
+        calls: numbers.calls,
+        seed: numbers.seed,
+    }
+}
+
 /// Says on err how a cluster ended, and answers the status.
 fn report_cluster<E: Sink>(alloc: Global, end: ClusterEnd, err: &mut E) -> u8
     ensures { Reports (cluster_message end) (cluster_status end) result (E.held err.old) (E.held err.new) (E.faults err.old) (E.faults err.new) }
@@ -145,12 +180,12 @@ fn report_cluster<E: Sink>(alloc: Global, end: ClusterEnd, err: &mut E) -> u8
     }
 }
 
-/// All that the program does. `words` are the words after its name, and the troupe plays what they plan. The answer is the
-/// program's status: 0 where the input was read to its end, 1 where the words have no reading, 2 where a line is refused or
+/// All that the program does. `words` are the words after its name, the troupe plays what they plan, and the bus exchanges what they
+/// make, by these handlers. The answer is the program's status: 0 where the input was read to its end, 1 where the words have no reading, 2 where a line is refused or
 /// the input ends inside one, 3 where a read failed, 4 where a write failed, 5 for want of memory, 7 where the troupe failed,
 /// and 8 where 2^40 bytes were taken.
-#[tactic(auto, using(crate::proofs::Ranged::in_range, crate::proofs::Unread::nothing_played, crate::proofs::Unread::nothing_placed, crate::proofs::Unread::nothing_soaked, crate::proofs::Unread::no_cause, crate::proofs::Played::unwritten, crate::proofs::Played::no_run_cause))]
-pub fn run<S: Source, K: Sink, E: Sink, T: Troupe>(
+#[tactic(auto, using(crate::proofs::Ranged::in_range, crate::proofs::Ranged::in_cut_range, crate::proofs::Unread::nothing_played, crate::proofs::Unread::nothing_placed, crate::proofs::Unread::nothing_soaked, crate::proofs::Unread::no_cause, ct_troupe_run::proofs::Played::unwritten, ct_troupe_run::proofs::Played::no_run_cause, ct_troupe_run::proofs::Ending::unwritten, ct_bus_run::proofs::Ending::unwritten, ct_bus_run::proofs::Ending::uncaused))]
+pub fn run<S: Source, K: Sink, E: Sink, T: Troupe + Columns, B: BusTroupe>(
     alloc: Global,
     words: &[String],
     table: &CallTable,
@@ -158,8 +193,12 @@ pub fn run<S: Source, K: Sink, E: Sink, T: Troupe>(
     out: &mut K,
     err: &mut E,
     troupe: &mut T,
+    handlers: &Handlers,
+    bus: &mut B,
 ) -> u8
-    requires { T.ready troupe.old }
+    requires ready { T.ready troupe.old }
+    requires columns_ready { T.columns_ready troupe.old }
+    requires bus_ready { B.ready bus.old }
     // The words say `play`: bytes that came in were played, and err and the answer say how that ended.
     ensures play { asked words.now ≡ Some word.Play → (e : Ended)
         × Plays (rules_of table.now) e (S.left input.old) (S.left input.new) (K.held out.old) (K.held out.new)
@@ -189,8 +228,24 @@ pub fn run<S: Source, K: Sink, E: Sink, T: Troupe>(
         × HasRunCause e (T.faults troupe.old) (T.faults troupe.new) (K.faults out.old) (K.faults out.new)
         × Reports (cluster_message e) (cluster_status e) result (E.held err.old) (E.held err.new) (E.faults err.old) (E.faults err.new)
         × (input.new ≡ input.old) }
+    // The words say `chains`, with the numbers of a plan that is cut: the troupe played its columns, and the texts of schedules of
+    // their journals were printed, one after the other; nothing was read.
+    ensures chains { (p : CutNumbers) → asked words.now ≡ Some (word.Chains p) → (e : Ran)
+        × RunsColumns (rules_of table.now) (cut_wanted_by p) e (T.told_in troupe.new) (K.held out.old) (K.held out.new)
+        × HasRunCause e (T.column_faults troupe.old) (T.column_faults troupe.new) (K.faults out.old) (K.faults out.new)
+        × Reports (cluster_message e) (cluster_status e) result (E.held err.old) (E.held err.new) (E.faults err.old) (E.faults err.new)
+        × (input.new ≡ input.old) }
+    // The words say `bus`, with the numbers of an exchange: the bus exchanged the messages that the seed makes, and the text of what
+    // was handled was printed; nothing was read.
+    ensures bus { (p : Exchanged) → asked words.now ≡ Some (word.Bus p) → (e : ExchangeEnd)
+        × BusEnds (handled_by handlers.now) (bus_wanted_by p) e (K.held out.old) (K.held out.new)
+        × HasBusCause e (B.exchanges bus.old) (B.exchanges bus.new) (K.faults out.old) (K.faults out.new)
+        × Reports (message (bus_end e)) (status (bus_end e)) result (E.held err.old) (E.held err.new) (E.faults err.old) (E.faults err.new)
+        × (input.new ≡ input.old) }
     // For all other words the troupe plays nothing.
     ensures aside { asks_troupe (asked words.now) ≡ false → troupe.new ≡ troupe.old }
+    // For all other words than `bus` the bus exchanges nothing.
+    ensures bus_aside { asks_bus (asked words.now) ≡ false → bus.new ≡ bus.old }
     // The words have no reading: nothing was read or printed, and err says so, or that memory was wanting.
     ensures usage { asked words.now ≡ None → Refuses result (E.held err.old) (E.held err.new) (E.faults err.old) (E.faults err.new)
         × (input.new ≡ input.old) × (out.new ≡ out.old) }
@@ -217,6 +272,15 @@ pub fn run<S: Source, K: Sink, E: Sink, T: Troupe>(
             let wanted = wanted_by(true, &numbers);
             let end = cluster(alloc, table, &wanted, out, troupe);
             report_cluster(alloc, end, err)
+        }
+        Ok(Word::Chains(numbers)) => {
+            let wanted = cut_wanted_by(&numbers);
+            let end = chains(alloc, table, &wanted, out, troupe);
+            report_cluster(alloc, end, err)
+        }
+        Ok(Word::Bus(numbers)) => {
+            let end = exchange(alloc, &numbers, handlers, out, bus);
+            report(alloc, bus_end(end), err)
         }
         Err(WordsFault::Usage) => say(b"ctdbsim: usage\n", 1, err),
         Err(WordsFault::NoMemory) => report(alloc, End::NoMemory, err),

@@ -12,7 +12,7 @@ use Rattle.ct_values.specs.declared.config.ConfigFault.{ConfigFault}
 use Rattle.ct_values.specs.declared.config.ConfigFault.TheVariants.{BadNodes, TooMany, Repeated}
 use Rattle.ct_values.specs.declared.config.DbDecl.{DbDecl}
 use Rattle.ct_values.proofs.Repeats.{all_distinct}
-use Rattle.ct_promise.specs.Promises.{IsConfig}
+use Rattle.ct_rules_config.specs.Configured.{IsConfig}
 use Rattle.ct_world.specs.World.{World}
 use Rattle.ct_values.specs.declared.memory.NoMemory.{NoMemory}
 use Rattle.ct_play.specs.Opening.{ascending, config_of, world_opened, world_at}

@@ -5,7 +5,7 @@ use Rattle.ct_call.specs.Rules.{Rules}
 use Rattle.ct_rules_cluster.specs.Cluster.{opening}
 use Rattle.ct_rules_cluster.specs.Traces.{ran}
 use Rattle.ct_lines.specs.declared.line.LineKind.TheVariants.{Long}
-use Rattle.ct_promise.specs.Promises.{IsConfig}
+use Rattle.ct_rules_config.specs.Configured.{IsConfig}
 use Rattle.ct_world.specs.World.{World}
 use Rattle.ct_play.specs.Course.{Deed, printed, steps_of}
 use Rattle.ct_play.specs.Session.{Played, line_played, longest, pending_texts, start}

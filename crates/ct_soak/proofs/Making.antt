@@ -5,7 +5,7 @@ use Rattle.std.proofs.lemmas.List.Sorted.{IsPermutation-refl}
 use Rattle.ct_rules_cluster.specs.Cluster.{opening}
 use Rattle.ct_rules_cluster.specs.Steps.{is_counted}
 use Rattle.ct_values.specs.Generated.{each_kind}
-use Rattle.ct_promise.specs.Promises.{IsConfig}
+use Rattle.ct_rules_config.specs.Configured.{IsConfig}
 use Rattle.ct_world.specs.World.{World}
 use Rattle.ct_soak.specs.Counts.{IsCounted}
 use Rattle.ct_soak.specs.Soaking.{soak_config}

@@ -17,13 +17,14 @@ use Rattle.clap.specs.declared.error.kind.ErrorKind.TheVariants as kind
 use Rattle.clap.proofs.OnLiterals.{clap_on_literals}
 use Rattle.ct_values.specs.Number.{number_of}
 use Rattle.ct_words.specs.Command as command
-use Rattle.ct_words.specs.Matched.{matched, plan_in, soak_in}
-use Rattle.ct_words.specs.Reading.{IsRanged, Reads, alone, numbers, numbers_of, plan, reading, soak, soak_of, without_dashes}
+use Rattle.ct_words.specs.Matched.{bus_in, chains_in, matched, plan_in, soak_in}
+use Rattle.ct_words.specs.Reading.{IsRanged, Reads, alone, bus, bus_numbers, bus_numbers_of, chain_numbers, chain_numbers_of, chains, numbers, numbers_of, plan, reading, soak, soak_of, without_dashes}
 use Rattle.ct_words.specs.declared.words.WordsFault.{WordsFault}
 use Rattle.ct_words.specs.declared.words.WordsFault.TheVariants.{Usage}
 use Rattle.ct_words.specs.declared.words.Word.{Word}
+use Rattle.ct_words.specs.declared.words.ChainNumbers.{ChainNumbers}
 use Rattle.ct_words.specs.declared.words.PlanNumbers.{PlanNumbers}
-use Rattle.ct_words.specs.declared.words.Word.TheVariants.{Play, Lcp2, Cluster, Loopback}
+use Rattle.ct_words.specs.declared.words.Word.TheVariants.{Play, Lcp2, Cluster, Loopback, Chains, Bus}
 use Rattle.ct_words.proofs.Single.{NoOptions, Single, holding, is_odd, is_value, single}
 
 -- nothing fails and what was found is the reading, or something fails and there is no reading
@@ -365,6 +366,269 @@ module _ (name : Text) (word : PlanNumbers → Word) where
           (takes_place plan_leaf plan_options found [] None 1 (p1 false w) w ws _ e refl refl
           (λ none. ap (option_map word) (no_nodes w (without_dashes ws) none)) (p1_there w ws))
 
+-- ---- the command of a plan that is cut
+
+no_cut_nodes : (w : Text) (ws : List Text) → number_of w ≡ None → chain_numbers (w ∷ ws) ≡ None
+no_cut_nodes w [] e = refl
+no_cut_nodes w (b ∷ []) e = refl
+no_cut_nodes w (b ∷ c ∷ []) e = refl
+no_cut_nodes w (b ∷ c ∷ d ∷ []) e = ap (λ (o : Option ℕ). chain_numbers_of o (number_of b) (number_of c) (number_of d)) e
+no_cut_nodes w (b ∷ c ∷ d ∷ x ∷ ws) e = refl
+
+no_chains : (a w : Text) (ws : List Text) → number_of w ≡ None → chain_numbers (a ∷ w ∷ ws) ≡ None
+no_chains a w [] e = refl
+no_chains a w (c ∷ []) e = refl
+no_chains a w (c ∷ d ∷ []) e = go (number_of a)
+  where
+    go : (o : Option ℕ) → chain_numbers_of o (number_of w) (number_of c) (number_of d) ≡ None
+    go None = refl
+    go (Some n) = ap (λ (o : Option ℕ). chain_numbers_of (Some n) o (number_of c) (number_of d)) e
+no_chains a w (c ∷ d ∷ x ∷ ws) e = refl
+
+no_cut_calls : (a b w : Text) (ws : List Text) → number_of w ≡ None → chain_numbers (a ∷ b ∷ w ∷ ws) ≡ None
+no_cut_calls a b w [] e = refl
+no_cut_calls a b w (d ∷ []) e = go (number_of a) (number_of b)
+  where
+    go : (o p : Option ℕ) → chain_numbers_of o p (number_of w) (number_of d) ≡ None
+    go None p = refl
+    go (Some n) None = refl
+    go (Some n) (Some c) = ap (λ (o : Option ℕ). chain_numbers_of (Some n) (Some c) o (number_of d)) e
+no_cut_calls a b w (d ∷ x ∷ ws) e = refl
+
+no_cut_start : (a b c w : Text) (ws : List Text) → number_of w ≡ None → chain_numbers (a ∷ b ∷ c ∷ w ∷ ws) ≡ None
+no_cut_start a b c w [] e = go (number_of a) (number_of b) (number_of c)
+  where
+    go : (o p q : Option ℕ) → chain_numbers_of o p q (number_of w) ≡ None
+    go None p q = refl
+    go (Some n) None q = refl
+    go (Some n) (Some m) None = refl
+    go (Some n) (Some m) (Some k) = ap (chain_numbers_of (Some n) (Some m) (Some k)) e
+no_cut_start a b c w (x ∷ ws) e = refl
+
+abbrev chains_leaf : Shape
+chains_leaf = leaf command.chains.top
+
+chains_options : NoOptions chains_leaf.rules
+chains_options = record { long = λ n. refl; short = λ c. refl }
+
+abbrev c0 : Bool → Walk
+c0 t = standing [] None 1 t
+
+abbrev c1 : Bool → Text → Walk
+c1 t a = standing [] (Some (codes "nodes", a ∷ [])) 2 t
+
+abbrev c2 : Bool → Text → Text → Walk
+c2 t a b = standing (settled chains_leaf.rules (c1 t a).held).rows (Some (codes "chains", b ∷ [])) 3 t
+
+abbrev c3 : Bool → Text → Text → Text → Walk
+c3 t a b d = standing (settled chains_leaf.rules (c2 t a b).held).rows (Some (codes "calls", d ∷ [])) 4 t
+
+abbrev c4 : Bool → Text → Text → Text → Text → Walk
+c4 t a b d f = standing (settled chains_leaf.rules (c3 t a b d).held).rows (Some (codes "seed", f ∷ [])) 5 t
+
+-- from here on, with what was read before
+abbrev ChainsSaid : Walk → List Text → List Text → Type 0
+ChainsSaid v ws read = Agrees (rest_fault chains_leaf v ws) (chains_in (rest_rows chains_leaf v ws)) (chains read)
+
+c4_trailing : (a b d f : Text) (ws : List Text) → ChainsSaid (c4 true a b d f) ws (a ∷ b ∷ d ∷ f ∷ ws)
+unfolding clap_on_literals
+c4_trailing a b d f [] = taken refl refl
+c4_trailing a b d f (w ∷ ws) = stops chains_leaf chains_in (c4 true a b d f) w ws None kind.UnknownArgument [] refl refl
+
+c4_there : (a b d f : Text) (ws : List Text) → ChainsSaid (c4 false a b d f) ws (a ∷ b ∷ d ∷ f ∷ without_dashes ws)
+unfolding clap_on_literals
+c4_there a b d f [] = taken refl refl
+c4_there a b d f (w ∷ ws) = go (bytes_eq w (codes "--")) refl
+  where
+    go : (t : Bool) → bytes_eq w (codes "--") ≡ t → ChainsSaid (c4 false a b d f) (w ∷ ws) (a ∷ b ∷ d ∷ f ∷ without_dashes (w ∷ ws))
+    go true e = as_read _ _ (chains (a ∷ b ∷ d ∷ f ∷ ws)) _ (ap (λ (l : List Text). chains (a ∷ b ∷ d ∷ f ∷ l)) (dashes_here w ws e))
+        (passes_dashes chains_leaf chains_in (c4 false a b d f).held.rows (c4 false a b d f).held.pending 5 w ws _ e (c4_trailing a b d f ws))
+    go false e = no_place chains_leaf chains_options chains_in (c4 false a b d f).held.rows (c4 false a b d f).held.pending 5 w ws _ kind.UnknownArgument [] e refl
+        (ap (λ (l : List Text). chains (a ∷ b ∷ d ∷ f ∷ l)) (dashes_later w ws e))
+
+c3_trailing : (a b d : Text) (ws : List Text) → ChainsSaid (c3 true a b d) ws (a ∷ b ∷ d ∷ ws)
+unfolding clap_on_literals
+c3_trailing a b d [] = refused kind.MissingRequiredArgument [] refl refl
+c3_trailing a b d (w ∷ ws) = goes_on chains_leaf chains_in (c3 true a b d) (c4 true a b d w) w ws _ refl refl (c4_trailing a b d w ws)
+
+c3_there : (a b d : Text) (ws : List Text) → ChainsSaid (c3 false a b d) ws (a ∷ b ∷ d ∷ without_dashes ws)
+unfolding clap_on_literals
+c3_there a b d [] = refused kind.MissingRequiredArgument [] refl refl
+c3_there a b d (w ∷ ws) = go (bytes_eq w (codes "--")) refl
+  where
+    go : (t : Bool) → bytes_eq w (codes "--") ≡ t → ChainsSaid (c3 false a b d) (w ∷ ws) (a ∷ b ∷ d ∷ without_dashes (w ∷ ws))
+    go true e = as_read _ _ (chains (a ∷ b ∷ d ∷ ws)) _ (ap (λ (l : List Text). chains (a ∷ b ∷ d ∷ l)) (dashes_here w ws e))
+        (passes_dashes chains_leaf chains_in (c3 false a b d).held.rows (c3 false a b d).held.pending 4 w ws _ e (c3_trailing a b d ws))
+    go false e = as_read _ _ (chains (a ∷ b ∷ d ∷ w ∷ without_dashes ws)) _ (ap (λ (l : List Text). chains (a ∷ b ∷ d ∷ l)) (dashes_later w ws e))
+        (takes_place chains_leaf chains_options chains_in (c3 false a b d).held.rows (c3 false a b d).held.pending 4 (c4 false a b d w) w ws _ e refl refl
+        (λ none. ap (option_map (λ p. Chains p)) (no_cut_start a b d w (without_dashes ws) none)) (c4_there a b d w ws))
+
+c2_trailing : (a b : Text) (ws : List Text) → ChainsSaid (c2 true a b) ws (a ∷ b ∷ ws)
+unfolding clap_on_literals
+c2_trailing a b [] = refused kind.MissingRequiredArgument [] refl refl
+c2_trailing a b (w ∷ ws) = goes_on chains_leaf chains_in (c2 true a b) (c3 true a b w) w ws _ refl refl (c3_trailing a b w ws)
+
+c2_there : (a b : Text) (ws : List Text) → ChainsSaid (c2 false a b) ws (a ∷ b ∷ without_dashes ws)
+unfolding clap_on_literals
+c2_there a b [] = refused kind.MissingRequiredArgument [] refl refl
+c2_there a b (w ∷ ws) = go (bytes_eq w (codes "--")) refl
+  where
+    go : (t : Bool) → bytes_eq w (codes "--") ≡ t → ChainsSaid (c2 false a b) (w ∷ ws) (a ∷ b ∷ without_dashes (w ∷ ws))
+    go true e = as_read _ _ (chains (a ∷ b ∷ ws)) _ (ap (λ (l : List Text). chains (a ∷ b ∷ l)) (dashes_here w ws e))
+        (passes_dashes chains_leaf chains_in (c2 false a b).held.rows (c2 false a b).held.pending 3 w ws _ e (c2_trailing a b ws))
+    go false e = as_read _ _ (chains (a ∷ b ∷ w ∷ without_dashes ws)) _ (ap (λ (l : List Text). chains (a ∷ b ∷ l)) (dashes_later w ws e))
+        (takes_place chains_leaf chains_options chains_in (c2 false a b).held.rows (c2 false a b).held.pending 3 (c3 false a b w) w ws _ e refl refl
+        (λ none. ap (option_map (λ p. Chains p)) (no_cut_calls a b w (without_dashes ws) none)) (c3_there a b w ws))
+
+c1_trailing : (a : Text) (ws : List Text) → ChainsSaid (c1 true a) ws (a ∷ ws)
+unfolding clap_on_literals
+c1_trailing a [] = refused kind.MissingRequiredArgument [] refl refl
+c1_trailing a (w ∷ ws) = goes_on chains_leaf chains_in (c1 true a) (c2 true a w) w ws _ refl refl (c2_trailing a w ws)
+
+c1_there : (a : Text) (ws : List Text) → ChainsSaid (c1 false a) ws (a ∷ without_dashes ws)
+unfolding clap_on_literals
+c1_there a [] = refused kind.MissingRequiredArgument [] refl refl
+c1_there a (w ∷ ws) = go (bytes_eq w (codes "--")) refl
+  where
+    go : (t : Bool) → bytes_eq w (codes "--") ≡ t → ChainsSaid (c1 false a) (w ∷ ws) (a ∷ without_dashes (w ∷ ws))
+    go true e = as_read _ _ (chains (a ∷ ws)) _ (ap (λ (l : List Text). chains (a ∷ l)) (dashes_here w ws e))
+        (passes_dashes chains_leaf chains_in (c1 false a).held.rows (c1 false a).held.pending 2 w ws _ e (c1_trailing a ws))
+    go false e = as_read _ _ (chains (a ∷ w ∷ without_dashes ws)) _ (ap (λ (l : List Text). chains (a ∷ l)) (dashes_later w ws e))
+        (takes_place chains_leaf chains_options chains_in (c1 false a).held.rows (c1 false a).held.pending 2 (c2 false a w) w ws _ e refl refl
+        (λ none. ap (option_map (λ p. Chains p)) (no_chains a w (without_dashes ws) none)) (c2_there a w ws))
+
+c0_trailing : (ws : List Text) → ChainsSaid (c0 true) ws ws
+unfolding clap_on_literals
+c0_trailing [] = refused kind.MissingRequiredArgument [] refl refl
+c0_trailing (w ∷ ws) = goes_on chains_leaf chains_in (c0 true) (c1 true w) w ws _ refl refl (c1_trailing w ws)
+
+chains_start : (ws : List Text) → ChainsSaid (c0 false) ws (without_dashes ws)
+unfolding clap_on_literals
+chains_start [] = refused kind.MissingRequiredArgument [] refl refl
+chains_start (w ∷ ws) = go (bytes_eq w (codes "--")) refl
+  where
+    go : (t : Bool) → bytes_eq w (codes "--") ≡ t → ChainsSaid (c0 false) (w ∷ ws) (without_dashes (w ∷ ws))
+    go true e = as_read _ _ (chains (ws)) _ (ap chains (dashes_here w ws e))
+        (passes_dashes chains_leaf chains_in [] None 1 w ws _ e (c0_trailing ws))
+    go false e = as_read _ _ (chains (w ∷ without_dashes ws)) _ (ap chains (dashes_later w ws e))
+        (takes_place chains_leaf chains_options chains_in [] None 1 (c1 false w) w ws _ e refl refl
+        (λ none. ap (option_map (λ p. Chains p)) (no_cut_nodes w (without_dashes ws) none)) (c1_there w ws))
+
+-- ---- the command of a bus
+
+no_bus_nodes : (w : Text) (ws : List Text) → number_of w ≡ None → bus_numbers (w ∷ ws) ≡ None
+no_bus_nodes w [] e = refl
+no_bus_nodes w (b ∷ []) e = refl
+no_bus_nodes w (b ∷ c ∷ []) e = ap (λ (o : Option ℕ). bus_numbers_of o (number_of b) (number_of c)) e
+no_bus_nodes w (b ∷ c ∷ d ∷ ws) e = refl
+
+no_messages : (a w : Text) (ws : List Text) → number_of w ≡ None → bus_numbers (a ∷ w ∷ ws) ≡ None
+no_messages a w [] e = refl
+no_messages a w (c ∷ []) e = go (number_of a)
+  where
+    go : (o : Option ℕ) → bus_numbers_of o (number_of w) (number_of c) ≡ None
+    go None = refl
+    go (Some n) = ap (λ (o : Option ℕ). bus_numbers_of (Some n) o (number_of c)) e
+no_messages a w (c ∷ d ∷ ws) e = refl
+
+no_bus_seed : (a b w : Text) (ws : List Text) → number_of w ≡ None → bus_numbers (a ∷ b ∷ w ∷ ws) ≡ None
+no_bus_seed a b w [] e = go (number_of a) (number_of b)
+  where
+    go : (o p : Option ℕ) → bus_numbers_of o p (number_of w) ≡ None
+    go None p = refl
+    go (Some n) None = refl
+    go (Some n) (Some c) = ap (bus_numbers_of (Some n) (Some c)) e
+no_bus_seed a b w (d ∷ ws) e = refl
+
+abbrev bus_leaf : Shape
+bus_leaf = leaf command.bus.top
+
+bus_options : NoOptions bus_leaf.rules
+bus_options = record { long = λ n. refl; short = λ c. refl }
+
+abbrev b0 : Bool → Walk
+b0 t = standing [] None 1 t
+
+abbrev b1 : Bool → Text → Walk
+b1 t a = standing [] (Some (codes "nodes", a ∷ [])) 2 t
+
+abbrev b2 : Bool → Text → Text → Walk
+b2 t a b = standing (settled bus_leaf.rules (b1 t a).held).rows (Some (codes "messages", b ∷ [])) 3 t
+
+abbrev b3 : Bool → Text → Text → Text → Walk
+b3 t a b d = standing (settled bus_leaf.rules (b2 t a b).held).rows (Some (codes "seed", d ∷ [])) 4 t
+
+-- from here on, with what was read before
+abbrev BusSaid : Walk → List Text → List Text → Type 0
+BusSaid v ws read = Agrees (rest_fault bus_leaf v ws) (bus_in (rest_rows bus_leaf v ws)) (bus read)
+
+b3_trailing : (a b d : Text) (ws : List Text) → BusSaid (b3 true a b d) ws (a ∷ b ∷ d ∷ ws)
+unfolding clap_on_literals
+b3_trailing a b d [] = taken refl refl
+b3_trailing a b d (w ∷ ws) = stops bus_leaf bus_in (b3 true a b d) w ws None kind.UnknownArgument [] refl refl
+
+b3_there : (a b d : Text) (ws : List Text) → BusSaid (b3 false a b d) ws (a ∷ b ∷ d ∷ without_dashes ws)
+unfolding clap_on_literals
+b3_there a b d [] = taken refl refl
+b3_there a b d (w ∷ ws) = go (bytes_eq w (codes "--")) refl
+  where
+    go : (t : Bool) → bytes_eq w (codes "--") ≡ t → BusSaid (b3 false a b d) (w ∷ ws) (a ∷ b ∷ d ∷ without_dashes (w ∷ ws))
+    go true e = as_read _ _ (bus (a ∷ b ∷ d ∷ ws)) _ (ap (λ (l : List Text). bus (a ∷ b ∷ d ∷ l)) (dashes_here w ws e))
+        (passes_dashes bus_leaf bus_in (b3 false a b d).held.rows (b3 false a b d).held.pending 4 w ws _ e (b3_trailing a b d ws))
+    go false e = no_place bus_leaf bus_options bus_in (b3 false a b d).held.rows (b3 false a b d).held.pending 4 w ws _ kind.UnknownArgument [] e refl
+        (ap (λ (l : List Text). bus (a ∷ b ∷ d ∷ l)) (dashes_later w ws e))
+
+b2_trailing : (a b : Text) (ws : List Text) → BusSaid (b2 true a b) ws (a ∷ b ∷ ws)
+unfolding clap_on_literals
+b2_trailing a b [] = refused kind.MissingRequiredArgument [] refl refl
+b2_trailing a b (w ∷ ws) = goes_on bus_leaf bus_in (b2 true a b) (b3 true a b w) w ws _ refl refl (b3_trailing a b w ws)
+
+b2_there : (a b : Text) (ws : List Text) → BusSaid (b2 false a b) ws (a ∷ b ∷ without_dashes ws)
+unfolding clap_on_literals
+b2_there a b [] = refused kind.MissingRequiredArgument [] refl refl
+b2_there a b (w ∷ ws) = go (bytes_eq w (codes "--")) refl
+  where
+    go : (t : Bool) → bytes_eq w (codes "--") ≡ t → BusSaid (b2 false a b) (w ∷ ws) (a ∷ b ∷ without_dashes (w ∷ ws))
+    go true e = as_read _ _ (bus (a ∷ b ∷ ws)) _ (ap (λ (l : List Text). bus (a ∷ b ∷ l)) (dashes_here w ws e))
+        (passes_dashes bus_leaf bus_in (b2 false a b).held.rows (b2 false a b).held.pending 3 w ws _ e (b2_trailing a b ws))
+    go false e = as_read _ _ (bus (a ∷ b ∷ w ∷ without_dashes ws)) _ (ap (λ (l : List Text). bus (a ∷ b ∷ l)) (dashes_later w ws e))
+        (takes_place bus_leaf bus_options bus_in (b2 false a b).held.rows (b2 false a b).held.pending 3 (b3 false a b w) w ws _ e refl refl
+        (λ none. ap (option_map (λ p. Bus p)) (no_bus_seed a b w (without_dashes ws) none)) (b3_there a b w ws))
+
+b1_trailing : (a : Text) (ws : List Text) → BusSaid (b1 true a) ws (a ∷ ws)
+unfolding clap_on_literals
+b1_trailing a [] = refused kind.MissingRequiredArgument [] refl refl
+b1_trailing a (w ∷ ws) = goes_on bus_leaf bus_in (b1 true a) (b2 true a w) w ws _ refl refl (b2_trailing a w ws)
+
+b1_there : (a : Text) (ws : List Text) → BusSaid (b1 false a) ws (a ∷ without_dashes ws)
+unfolding clap_on_literals
+b1_there a [] = refused kind.MissingRequiredArgument [] refl refl
+b1_there a (w ∷ ws) = go (bytes_eq w (codes "--")) refl
+  where
+    go : (t : Bool) → bytes_eq w (codes "--") ≡ t → BusSaid (b1 false a) (w ∷ ws) (a ∷ without_dashes (w ∷ ws))
+    go true e = as_read _ _ (bus (a ∷ ws)) _ (ap (λ (l : List Text). bus (a ∷ l)) (dashes_here w ws e))
+        (passes_dashes bus_leaf bus_in (b1 false a).held.rows (b1 false a).held.pending 2 w ws _ e (b1_trailing a ws))
+    go false e = as_read _ _ (bus (a ∷ w ∷ without_dashes ws)) _ (ap (λ (l : List Text). bus (a ∷ l)) (dashes_later w ws e))
+        (takes_place bus_leaf bus_options bus_in (b1 false a).held.rows (b1 false a).held.pending 2 (b2 false a w) w ws _ e refl refl
+        (λ none. ap (option_map (λ p. Bus p)) (no_messages a w (without_dashes ws) none)) (b2_there a w ws))
+
+b0_trailing : (ws : List Text) → BusSaid (b0 true) ws ws
+unfolding clap_on_literals
+b0_trailing [] = refused kind.MissingRequiredArgument [] refl refl
+b0_trailing (w ∷ ws) = goes_on bus_leaf bus_in (b0 true) (b1 true w) w ws _ refl refl (b1_trailing w ws)
+
+bus_start : (ws : List Text) → BusSaid (b0 false) ws (without_dashes ws)
+unfolding clap_on_literals
+bus_start [] = refused kind.MissingRequiredArgument [] refl refl
+bus_start (w ∷ ws) = go (bytes_eq w (codes "--")) refl
+  where
+    go : (t : Bool) → bytes_eq w (codes "--") ≡ t → BusSaid (b0 false) (w ∷ ws) (without_dashes (w ∷ ws))
+    go true e = as_read _ _ (bus ws) _ (ap bus (dashes_here w ws e))
+        (passes_dashes bus_leaf bus_in [] None 1 w ws _ e (b0_trailing ws))
+    go false e = as_read _ _ (bus (w ∷ without_dashes ws)) _ (ap bus (dashes_later w ws e))
+        (takes_place bus_leaf bus_options bus_in [] None 1 (b1 false w) w ws _ e refl refl
+        (λ none. ap (option_map (λ p. Bus p)) (no_bus_nodes w (without_dashes ws) none)) (b1_there w ws))
+
 -- ---- the command
 
 abbrev app : App
@@ -431,6 +695,14 @@ loopback_said : (ws : List Text) → Said (codes "loopback" ∷ ws)
 unfolding clap_on_literals
 loopback_said ws = as_said _ _ _ _ _ (ended_fault (codes "loopback") ws ∙ or_none _) (ended_at (codes "loopback") ws) (plan_start (codes "loopback") (λ p. Loopback p) ws)
 
+chains_said : (ws : List Text) → Said (codes "chains" ∷ ws)
+unfolding clap_on_literals
+chains_said ws = as_said _ _ _ _ _ (ended_fault (codes "chains") ws ∙ or_none _) (ended_at (codes "chains") ws) (chains_start ws)
+
+bus_said : (ws : List Text) → Said (codes "bus" ∷ ws)
+unfolding clap_on_literals
+bus_said ws = as_said _ _ _ _ _ (ended_fault (codes "bus") ws ∙ or_none _) (ended_at (codes "bus") ws) (bus_start ws)
+
 -- ---- a first word that is no command
 
 turned : (a b : Text) → bytes_eq a b ≡ false → bytes_eq b a ≡ false
@@ -444,33 +716,40 @@ program_options : NoOptions app.top.rules
 program_options = record { long = λ n. refl; short = λ c. refl }
 
 module _ (w : Text) (no_play : bytes_eq w (codes "play") ≡ false) (no_lcp2 : bytes_eq w (codes "lcp2") ≡ false) (no_soak : bytes_eq w (codes "soak") ≡ false)
-    (no_cluster : bytes_eq w (codes "cluster") ≡ false) (no_loopback : bytes_eq w (codes "loopback") ≡ false) where
+    (no_cluster : bytes_eq w (codes "cluster") ≡ false) (no_loopback : bytes_eq w (codes "loopback") ≡ false) (no_chains_word : bytes_eq w (codes "chains") ≡ false)
+    (no_bus_word : bytes_eq w (codes "bus") ≡ false) where
   abbrev label : Text → Text × List Text
   label name = (name, [])
 
-  abbrev met_by : Bool → Bool → Bool → Bool → Bool → Option Text
-  met_by p l s c b = option_map (λ n. n.0)
+  abbrev met_by : Bool → Bool → Bool → Bool → Bool → Bool → Bool → Option Text
+  met_by p l s c b h u = option_map (λ n. n.0)
       (cond (p || false) (Some (label (codes "play"))) (cond (l || false) (Some (label (codes "lcp2"))) (cond (s || false) (Some (label (codes "soak")))
-      (cond (c || false) (Some (label (codes "cluster"))) (cond (b || false) (Some (label (codes "loopback"))) None)))))
+      (cond (c || false) (Some (label (codes "cluster"))) (cond (b || false) (Some (label (codes "loopback"))) (cond (h || false) (Some (label (codes "chains")))
+      (cond (u || false) (Some (label (codes "bus"))) None)))))))
 
   unnamed : subcommand_met names idle w ≡ None
-  unnamed = ap (λ (p : Bool). met_by p (bytes_eq (codes "lcp2") w) (bytes_eq (codes "soak") w) (bytes_eq (codes "cluster") w) (bytes_eq (codes "loopback") w)) (turned w (codes "play") no_play)
-      ∙ ap (λ (l : Bool). met_by false l (bytes_eq (codes "soak") w) (bytes_eq (codes "cluster") w) (bytes_eq (codes "loopback") w)) (turned w (codes "lcp2") no_lcp2)
-      ∙ ap (λ (s : Bool). met_by false false s (bytes_eq (codes "cluster") w) (bytes_eq (codes "loopback") w)) (turned w (codes "soak") no_soak)
-      ∙ ap (λ (c : Bool). met_by false false false c (bytes_eq (codes "loopback") w)) (turned w (codes "cluster") no_cluster)
-      ∙ ap (λ (b : Bool). met_by false false false false b) (turned w (codes "loopback") no_loopback)
+  unnamed = ap (λ (p : Bool). met_by p (bytes_eq (codes "lcp2") w) (bytes_eq (codes "soak") w) (bytes_eq (codes "cluster") w) (bytes_eq (codes "loopback") w) (bytes_eq (codes "chains") w) (bytes_eq (codes "bus") w)) (turned w (codes "play") no_play)
+      ∙ ap (λ (l : Bool). met_by false l (bytes_eq (codes "soak") w) (bytes_eq (codes "cluster") w) (bytes_eq (codes "loopback") w) (bytes_eq (codes "chains") w) (bytes_eq (codes "bus") w)) (turned w (codes "lcp2") no_lcp2)
+      ∙ ap (λ (s : Bool). met_by false false s (bytes_eq (codes "cluster") w) (bytes_eq (codes "loopback") w) (bytes_eq (codes "chains") w) (bytes_eq (codes "bus") w)) (turned w (codes "soak") no_soak)
+      ∙ ap (λ (c : Bool). met_by false false false c (bytes_eq (codes "loopback") w) (bytes_eq (codes "chains") w) (bytes_eq (codes "bus") w)) (turned w (codes "cluster") no_cluster)
+      ∙ ap (λ (b : Bool). met_by false false false false b (bytes_eq (codes "chains") w) (bytes_eq (codes "bus") w)) (turned w (codes "loopback") no_loopback)
+      ∙ ap (λ (h : Bool). met_by false false false false false h (bytes_eq (codes "bus") w)) (turned w (codes "chains") no_chains_word)
+      ∙ ap (λ (u : Bool). met_by false false false false false false u) (turned w (codes "bus") no_bus_word)
 
   module _ (ws : List Text) where
-    abbrev read_by : Bool → Bool → Bool → Bool → Bool → Option Word
-    read_by p l s c b = cond p (alone Play (without_dashes ws)) (cond l (alone Lcp2 (without_dashes ws)) (cond s (soak (without_dashes ws))
-        (cond c (plan (λ n. Cluster n) (without_dashes ws)) (cond b (plan (λ n. Loopback n) (without_dashes ws)) None))))
+    abbrev read_by : Bool → Bool → Bool → Bool → Bool → Bool → Bool → Option Word
+    read_by p l s c b h u = cond p (alone Play (without_dashes ws)) (cond l (alone Lcp2 (without_dashes ws)) (cond s (soak (without_dashes ws))
+        (cond c (plan (λ n. Cluster n) (without_dashes ws)) (cond b (plan (λ n. Loopback n) (without_dashes ws)) (cond h (chains (without_dashes ws))
+        (cond u (bus (without_dashes ws)) None))))))
 
     unread : reading (w ∷ ws) ≡ None
-    unread = ap (λ (p : Bool). read_by p (bytes_eq w (codes "lcp2")) (bytes_eq w (codes "soak")) (bytes_eq w (codes "cluster")) (bytes_eq w (codes "loopback"))) no_play
-        ∙ ap (λ (l : Bool). read_by false l (bytes_eq w (codes "soak")) (bytes_eq w (codes "cluster")) (bytes_eq w (codes "loopback"))) no_lcp2
-        ∙ ap (λ (s : Bool). read_by false false s (bytes_eq w (codes "cluster")) (bytes_eq w (codes "loopback"))) no_soak
-        ∙ ap (λ (c : Bool). read_by false false false c (bytes_eq w (codes "loopback"))) no_cluster
-        ∙ ap (λ (b : Bool). read_by false false false false b) no_loopback
+    unread = ap (λ (p : Bool). read_by p (bytes_eq w (codes "lcp2")) (bytes_eq w (codes "soak")) (bytes_eq w (codes "cluster")) (bytes_eq w (codes "loopback")) (bytes_eq w (codes "chains")) (bytes_eq w (codes "bus"))) no_play
+        ∙ ap (λ (l : Bool). read_by false l (bytes_eq w (codes "soak")) (bytes_eq w (codes "cluster")) (bytes_eq w (codes "loopback")) (bytes_eq w (codes "chains")) (bytes_eq w (codes "bus"))) no_lcp2
+        ∙ ap (λ (s : Bool). read_by false false s (bytes_eq w (codes "cluster")) (bytes_eq w (codes "loopback")) (bytes_eq w (codes "chains")) (bytes_eq w (codes "bus"))) no_soak
+        ∙ ap (λ (c : Bool). read_by false false false c (bytes_eq w (codes "loopback")) (bytes_eq w (codes "chains")) (bytes_eq w (codes "bus"))) no_cluster
+        ∙ ap (λ (b : Bool). read_by false false false false b (bytes_eq w (codes "chains")) (bytes_eq w (codes "bus"))) no_loopback
+        ∙ ap (λ (h : Bool). read_by false false false false false h (bytes_eq w (codes "bus"))) no_chains_word
+        ∙ ap (λ (u : Bool). read_by false false false false false false u) no_bus_word
 
     fails : (k : ErrorKind) (ks : Kinds) → turn_fault app.top names (walk_from nothing_held) w ≡ k ∷ ks → Said (w ∷ ws)
     unfolding walk_fault
@@ -499,17 +778,20 @@ said_at name w ws e h = subst (λ (x : Text). Said (x ∷ ws)) (sym ((bytes_eq-D
 pub said : (ws : List Text) → Said ws
 unfolding clap_on_literals
 said [] = refused kind.MissingSubcommand [] refl refl
-said (w ∷ ws) = go (bytes_eq w (codes "play")) (bytes_eq w (codes "lcp2")) (bytes_eq w (codes "soak")) (bytes_eq w (codes "cluster")) (bytes_eq w (codes "loopback")) (bytes_eq w (codes "--")) refl refl refl refl refl refl
+said (w ∷ ws) =
+    go (bytes_eq w (codes "play")) (bytes_eq w (codes "lcp2")) (bytes_eq w (codes "soak")) (bytes_eq w (codes "cluster")) (bytes_eq w (codes "loopback")) (bytes_eq w (codes "chains")) (bytes_eq w (codes "bus")) (bytes_eq w (codes "--")) refl refl refl refl refl refl refl refl
   where
-    go : (p l s c b d : Bool) → bytes_eq w (codes "play") ≡ p → bytes_eq w (codes "lcp2") ≡ l → bytes_eq w (codes "soak") ≡ s → bytes_eq w (codes "cluster") ≡ c
-        → bytes_eq w (codes "loopback") ≡ b → bytes_eq w (codes "--") ≡ d → Said (w ∷ ws)
-    go true l s c b d ep el es ec eb ed = said_at (codes "play") w ws ep (play_said ws)
-    go false true s c b d ep el es ec eb ed = said_at (codes "lcp2") w ws el (lcp2_said ws)
-    go false false true c b d ep el es ec eb ed = said_at (codes "soak") w ws es (soak_said ws)
-    go false false false true b d ep el es ec eb ed = said_at (codes "cluster") w ws ec (cluster_said ws)
-    go false false false false true d ep el es ec eb ed = said_at (codes "loopback") w ws eb (loopback_said ws)
-    go false false false false false true ep el es ec eb ed = said_at (codes "--") w ws ed (dashes_said ws)
-    go false false false false false false ep el es ec eb ed = other_said w ep el es ec eb ws ed
+    go : (p l s c b h u d : Bool) → bytes_eq w (codes "play") ≡ p → bytes_eq w (codes "lcp2") ≡ l → bytes_eq w (codes "soak") ≡ s → bytes_eq w (codes "cluster") ≡ c
+        → bytes_eq w (codes "loopback") ≡ b → bytes_eq w (codes "chains") ≡ h → bytes_eq w (codes "bus") ≡ u → bytes_eq w (codes "--") ≡ d → Said (w ∷ ws)
+    go true l s c b h u d ep el es ec eb eh eu ed = said_at (codes "play") w ws ep (play_said ws)
+    go false true s c b h u d ep el es ec eb eh eu ed = said_at (codes "lcp2") w ws el (lcp2_said ws)
+    go false false true c b h u d ep el es ec eb eh eu ed = said_at (codes "soak") w ws es (soak_said ws)
+    go false false false true b h u d ep el es ec eb eh eu ed = said_at (codes "cluster") w ws ec (cluster_said ws)
+    go false false false false true h u d ep el es ec eb eh eu ed = said_at (codes "loopback") w ws eb (loopback_said ws)
+    go false false false false false true u d ep el es ec eb eh eu ed = said_at (codes "chains") w ws eh (chains_said ws)
+    go false false false false false false true d ep el es ec eb eh eu ed = said_at (codes "bus") w ws eu (bus_said ws)
+    go false false false false false false false true ep el es ec eb eh eu ed = said_at (codes "--") w ws ed (dashes_said ws)
+    go false false false false false false false false ep el es ec eb eh eu ed = other_said w ep el es ec eb eh eu ws ed
 
 -- nothing fails: what was found is the reading
 pub found_read : (kinds : Kinds) (found read : Option Word) → Agrees kinds found read → kinds ≡ [] → found ≡ read

@@ -27,6 +27,15 @@ cluster = planned (codes "cluster")
 abbrev pub loopback : App
 loopback = planned (codes "loopback")
 
+-- the command with the numbers of a plan that is cut
+abbrev pub chains : App
+chains =
+    with_rule (with_rule (with_rule (with_rule (new_app (codes "chains")) (number (codes "nodes"))) (number (codes "chains"))) (number (codes "calls"))) (number (codes "seed"))
+
+-- the command with the numbers of a bus
+abbrev pub bus : App
+bus = with_rule (with_rule (with_rule (new_app (codes "bus")) (number (codes "nodes"))) (number (codes "messages"))) (number (codes "seed"))
+
 -- no command yet
 abbrev pub bare_shape : Shape → Shape
 bare_shape s = record s { no_binary_name = true; subcommand_required = true; disable_help_flag = true; disable_help_subcommand = true; disable_version_flag = true }
@@ -35,4 +44,6 @@ abbrev pub bare : App
 bare = on_top bare_shape (new_app (codes "ctdbsim"))
 
 abbrev pub program : App
-program = with_subcommand (with_subcommand (with_subcommand (with_subcommand (with_subcommand bare play.top) lcp2.top) soak.top) cluster.top) loopback.top
+program =
+    with_subcommand
+    (with_subcommand (with_subcommand (with_subcommand (with_subcommand (with_subcommand (with_subcommand bare play.top) lcp2.top) soak.top) cluster.top) loopback.top) chains.top) bus.top

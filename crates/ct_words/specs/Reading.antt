@@ -3,9 +3,11 @@ use Rattle.std.specs.Prelude.{◌≡◌, ◌≤◌, ℕ, nat_le, ◌&&◌, if◌
 use Rattle.std.specs.Option.{option_map}
 use Rattle.std.specs.Str.{bytes_eq}
 use Rattle.ct_values.specs.Number.{number_of}
+use Rattle.ct_words.specs.declared.words.BusNumbers.{BusNumbers}
+use Rattle.ct_words.specs.declared.words.ChainNumbers.{ChainNumbers}
 use Rattle.ct_words.specs.declared.words.PlanNumbers.{PlanNumbers}
 use Rattle.ct_words.specs.declared.words.Word.{Word}
-use Rattle.ct_words.specs.declared.words.Word.TheVariants.{Play, Lcp2, Soak, Cluster, Loopback}
+use Rattle.ct_words.specs.declared.words.Word.TheVariants.{Play, Lcp2, Soak, Cluster, Loopback, Chains, Bus}
 use Rattle.ct_words.specs.declared.words.WordsFault.{WordsFault}
 use Rattle.ct_words.specs.declared.words.WordsFault.TheVariants.{Usage, NoMemory}
 
@@ -44,12 +46,55 @@ numbers_of (Some nodes) (Some calls) None = None
 numbers_of (Some nodes) None seed = None
 numbers_of None calls seed = None
 
+-- a plan of 1 to 8 nodes, with 1 to 1,000 words of its generator each, that is cut into 1 to 8 chains
+abbrev pub chain_numbers_of : Option ℕ → Option ℕ → Option ℕ → Option ℕ → Option ChainNumbers
+chain_numbers_of (Some nodes) (Some chains) (Some calls) (Some seed) =
+    if nat_le 1 nodes && nat_le nodes 8
+    then if nat_le 1 chains && nat_le chains 8
+    then if nat_le 1 calls && nat_le calls 1000
+    then Some (record { nodes = nodes; chains = chains; calls = calls; seed = seed })
+    else None
+    else None
+    else None
+chain_numbers_of (Some nodes) (Some chains) (Some calls) None = None
+chain_numbers_of (Some nodes) (Some chains) None seed = None
+chain_numbers_of (Some nodes) None calls seed = None
+chain_numbers_of None chains calls seed = None
+
+-- a bus of 2 to 8 nodes, with 1 to 1,000 messages
+abbrev pub bus_numbers_of : Option ℕ → Option ℕ → Option ℕ → Option BusNumbers
+bus_numbers_of (Some nodes) (Some messages) (Some seed) =
+    if nat_le 2 nodes && nat_le nodes 8
+    then if nat_le 1 messages && nat_le messages 1000
+    then Some (record { nodes = nodes; messages = messages; seed = seed })
+    else None
+    else None
+bus_numbers_of (Some nodes) (Some messages) None = None
+bus_numbers_of (Some nodes) None seed = None
+bus_numbers_of None messages seed = None
+
 -- the numbers of a plan are in their range
 pub record HasRange (p : PlanNumbers) : Type 0 where
   pub some_nodes : 1 ≤ p.nodes
   pub few_nodes : p.nodes ≤ 8
   pub some_calls : 1 ≤ p.calls
   pub few_calls : p.calls ≤ 1000
+
+-- the numbers of a plan that is cut are
+pub record HasChainRange (p : ChainNumbers) : Type 0 where
+  pub some_nodes : 1 ≤ p.nodes
+  pub few_nodes : p.nodes ≤ 8
+  pub some_chains : 1 ≤ p.chains
+  pub few_chains : p.chains ≤ 8
+  pub some_calls : 1 ≤ p.calls
+  pub few_calls : p.calls ≤ 1000
+
+-- the numbers of a bus are
+pub record HasBusRange (p : BusNumbers) : Type 0 where
+  pub some_nodes : 2 ≤ p.nodes
+  pub few_nodes : p.nodes ≤ 8
+  pub some_messages : 1 ≤ p.messages
+  pub few_messages : p.messages ≤ 1000
 
 -- those of a word are
 abbrev pub IsRanged : Word → Type 0
@@ -58,6 +103,8 @@ IsRanged Lcp2 = Unit {0}
 IsRanged (Soak seed steps) = Unit {0}
 IsRanged (Cluster p) = HasRange p
 IsRanged (Loopback p) = HasRange p
+IsRanged (Chains p) = HasChainRange p
+IsRanged (Bus p) = HasBusRange p
 
 -- the numbers of nodes and of words, and the seed
 abbrev pub numbers : List (List ℕ) → Option PlanNumbers
@@ -70,6 +117,31 @@ numbers (nodes ∷ calls ∷ seed ∷ w ∷ ws) = None
 -- a command of a plan
 abbrev pub plan : (PlanNumbers → Word) → List (List ℕ) → Option Word
 plan word ws = option_map word (numbers ws)
+
+-- the numbers of nodes, of chains and of words, and the seed
+abbrev pub chain_numbers : List (List ℕ) → Option ChainNumbers
+chain_numbers [] = None
+chain_numbers (nodes ∷ []) = None
+chain_numbers (nodes ∷ chains ∷ []) = None
+chain_numbers (nodes ∷ chains ∷ calls ∷ []) = None
+chain_numbers (nodes ∷ chains ∷ calls ∷ seed ∷ []) = chain_numbers_of (number_of nodes) (number_of chains) (number_of calls) (number_of seed)
+chain_numbers (nodes ∷ chains ∷ calls ∷ seed ∷ w ∷ ws) = None
+
+-- the command of a plan that is cut
+abbrev pub chains : List (List ℕ) → Option Word
+chains ws = option_map (λ p. Chains p) (chain_numbers ws)
+
+-- the numbers of nodes and of messages, and the seed
+abbrev pub bus_numbers : List (List ℕ) → Option BusNumbers
+bus_numbers [] = None
+bus_numbers (nodes ∷ []) = None
+bus_numbers (nodes ∷ messages ∷ []) = None
+bus_numbers (nodes ∷ messages ∷ seed ∷ []) = bus_numbers_of (number_of nodes) (number_of messages) (number_of seed)
+bus_numbers (nodes ∷ messages ∷ seed ∷ w ∷ ws) = None
+
+-- the command of a bus
+abbrev pub bus : List (List ℕ) → Option Word
+bus ws = option_map (λ p. Bus p) (bus_numbers ws)
 
 -- The command stands first. Of the words after it the first `--` is dropped; the rest are exactly the command's numbers, in
 -- decimal without sign or leading zero.
@@ -85,6 +157,10 @@ command_of name rest =
     then plan (λ p. Cluster p) rest
     else if bytes_eq name (codes "loopback")
     then plan (λ p. Loopback p) rest
+    else if bytes_eq name (codes "chains")
+    then chains rest
+    else if bytes_eq name (codes "bus")
+    then bus rest
     else None
 
 abbrev pub reading : List (List ℕ) → Option Word

@@ -1,8 +1,8 @@
-//! The command line as `clap` knows it: five commands, and the numbers of three of them as texts.
+//! The command line as `clap` knows it: its commands, and the numbers of those that have any as texts.
 ghost use Rattle.std.specs.Prelude.{◌≡◌, IfOk, false};
 ghost use Rattle.clap.specs.Words.{app_of, rule_of};
 ghost use Rattle.clap.specs.declared.builder.command.Command.TheViews.{out-Command as fields_of};
-ghost use Rattle.ct_words.specs.Command.{number, planned, program, soak};
+ghost use Rattle.ct_words.specs.Command.{bare, bus, chains, number, planned, program, soak};
 
 use clap::{Arg, ArgAction, Command};
 use std::alloc::{AllocError, Global};
@@ -35,9 +35,32 @@ fn planned<'a>(alloc: Global, name: &'a str) -> Result<Command<'a>, AllocError>
         .arg(number(alloc, "seed"))
 }
 
-/// The program's command line: one command, which has to be there, and neither help nor version.
-pub fn program<'a>(alloc: Global) -> Result<Command<'a>, AllocError>
-    ensures { IfOk result (λ c. app_of c ≡ program) }
+/// The command with the numbers of a plan that is cut.
+fn chains<'a>(alloc: Global) -> Result<Command<'a>, AllocError>
+    ensures shape { IfOk result (λ c. app_of c ≡ chains) }
+    ensures local { IfOk result (λ c. (fields_of c).has_globals ≡ false) }
+{
+    Command::new(alloc, "chains")
+        .arg(number(alloc, "nodes"))?
+        .arg(number(alloc, "chains"))?
+        .arg(number(alloc, "calls"))?
+        .arg(number(alloc, "seed"))
+}
+
+/// The command with the numbers of a bus.
+fn bus<'a>(alloc: Global) -> Result<Command<'a>, AllocError>
+    ensures shape { IfOk result (λ c. app_of c ≡ bus) }
+    ensures local { IfOk result (λ c. (fields_of c).has_globals ≡ false) }
+{
+    Command::new(alloc, "bus")
+        .arg(number(alloc, "nodes"))?
+        .arg(number(alloc, "messages"))?
+        .arg(number(alloc, "seed"))
+}
+
+/// The command line with no command yet.
+fn bare<'a>(alloc: Global) -> Command<'a>
+    ensures { app_of result ≡ bare }
 {
     Command::new(alloc, "ctdbsim")
         .no_binary_name(true)
@@ -45,9 +68,18 @@ pub fn program<'a>(alloc: Global) -> Result<Command<'a>, AllocError>
         .disable_help_flag(true)
         .disable_help_subcommand(true)
         .disable_version_flag(true)
+}
+
+/// The program's command line: one command, which has to be there, and neither help nor version.
+pub fn program<'a>(alloc: Global) -> Result<Command<'a>, AllocError>
+    ensures { IfOk result (λ c. app_of c ≡ program) }
+{
+    bare(alloc)
         .subcommand(Command::new(alloc, "play"))?
         .subcommand(Command::new(alloc, "lcp2"))?
         .subcommand(soak(alloc)?)?
         .subcommand(planned(alloc, "cluster")?)?
-        .subcommand(planned(alloc, "loopback")?)
+        .subcommand(planned(alloc, "loopback")?)?
+        .subcommand(chains(alloc)?)?
+        .subcommand(bus(alloc)?)
 }

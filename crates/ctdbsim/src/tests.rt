@@ -1,7 +1,10 @@
 //! Runs of the top call with ample memory.
-ghost use Rattle.std.specs.Prelude.{None};
+ghost use Rattle.std.specs.Prelude.{[], None};
 
+use ct_bus_exchange::handlers::Handlers;
+use ct_bus_exchange::turns::BusTurns;
 use ct_call::table::CallTable;
+use ct_chain_troupe::columns::Columns;
 use ct_frame::plan::Plan;
 use ct_journal::journal::Journal;
 use ct_main::run::run;
@@ -100,6 +103,28 @@ impl Troupe for Broken {
 
     fn journals(&self) -> &[Journal] {
         self.journals.as_slice()
+    }
+}
+
+impl Columns for Broken {
+    ghost told_in = { λ _ _. [] };
+
+    ghost column_faults = { λ s. s.faults };
+
+    ghost columns_ready = { λ _. Unit {0} };
+
+    fn play_all(
+        &mut self,
+        _alloc: Global,
+        _table: &CallTable,
+        _plans: &[Plan],
+    ) -> Result<(), PlayFault> {
+        self.faults = self.faults.saturating_add(1);
+        Err(PlayFault::Link)
+    }
+
+    fn column(&self, _number: u32) -> &[Journal] {
+        &[]
     }
 }
 
@@ -241,9 +266,24 @@ const CLUSTER: &[&str] = &["cluster", "2", "5", "1"];
 
 const LOOPBACK: &[&str] = &["loopback", "2", "5", "1"];
 
+const CHAINS: &[&str] = &["chains", "2", "3", "5", "1"];
+
 const LINK_FAULT: &str = "ctdbsim: link fault\n";
 
-const TROUPES: [Case; 5] = [
+const TROUPES: [Case; 13] = [
+    (CHAINS, SESSION, NONE, (7, "", LINK_FAULT)),
+    (&["chains", "2", "9", "10", "3"], "", NONE, (1, "", USAGE)),
+    (&["chains", "0", "2", "10", "3"], "", NONE, (1, "", USAGE)),
+    (&["chains", "2", "2", "0", "3"], "", NONE, (1, "", USAGE)),
+    (&["chains", "2", "2", "1001", "3"], "", NONE, (1, "", USAGE)),
+    (&["chains", "2", "2", "10"], "", NONE, (1, "", USAGE)),
+    (
+        &["chains", "2", "2", "10", "3", "4"],
+        "",
+        NONE,
+        (1, "", USAGE),
+    ),
+    (&["chains", "2", "2", "10", "x"], "", NONE, (1, "", USAGE)),
     (CLUSTER, SESSION, NONE, (7, "", LINK_FAULT)),
     (LOOPBACK, SESSION, NONE, (7, "", LINK_FAULT)),
     (CLUSTER, "", [&[1], &[1], &[]], (7, "", LINK_FAULT)),
@@ -309,6 +349,8 @@ fn agrees(alloc: Global, case: &Case) -> Result<bool, Fail> {
         &mut held,
         &mut said,
         &mut Broken::new(alloc),
+        &Handlers::new(alloc),
+        &mut BusTurns::new(),
     );
     Ok(got == status && held.held() == out.as_bytes() && said.held() == err.as_bytes())
 }
@@ -395,6 +437,8 @@ fn moved(alloc: Global, input_fails: u64, out_fails: u64) -> Result<(u8, MemSink
         &mut held,
         &mut said,
         &mut Broken::new(alloc),
+        &Handlers::new(alloc),
+        &mut BusTurns::new(),
     );
     Ok((status, held))
 }
@@ -440,7 +484,9 @@ fn pieces(rt: HostRuntime) -> Result<(), Fail> {
                 &mut source,
                 &mut held,
                 &mut said,
-                &mut Broken::new(alloc)
+                &mut Broken::new(alloc),
+                &Handlers::new(alloc),
+                &mut BusTurns::new()
             ),
             0
         );
@@ -470,6 +516,8 @@ fn said_of_letters(alloc: Global, letters: usize, end: &[u8]) -> Result<MemSink,
         &mut held,
         &mut said,
         &mut Broken::new(alloc),
+        &Handlers::new(alloc),
+        &mut BusTurns::new(),
     );
     Ok(said)
 }

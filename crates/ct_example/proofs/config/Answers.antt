@@ -1,4 +1,4 @@
-use Rattle.ct_example.proofs.Limits.{has_limits}
+use Rattle.ct_law_form.proofs.Limits.{has_limits}
 use Rattle.ct_example.proofs.config.Goals as goal
 
 pub returns : goal.returns
