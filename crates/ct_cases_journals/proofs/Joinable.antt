@@ -18,7 +18,7 @@ use Rattle.ct_law_journal_schedule.specs.Laws.{AreRuns, IsRunOf}
 use Rattle.ct_law_journal_reach.specs.Counts.{AreNotTooMany, HaveOwnTickets, begins_round, has_ticket}
 use Rattle.ct_law_journal_reach.specs.Worked.{unsent_journals}
 use Rattle.ct_law_journal_reach.proofs.Computed.{none_is_reached, run_of, not_many}
-use Rattle.ct_promise.specs.Promises.{IsConfig}
+use Rattle.ct_rules_config.specs.Configured.{IsConfig}
 use Rattle.ct_cases_journals.proofs.Computed.{first_crossed_runs, first_straight_runs, second_crossed_runs, second_straight_runs}
 use Rattle.ct_cases_journals.specs.Worked.{MayJoin, crossed_journals, first_crossed, first_straight, second_crossed, second_straight, straight_journals}
 

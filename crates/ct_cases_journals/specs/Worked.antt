@@ -13,7 +13,7 @@ use Rattle.ct_journal.specs.Worked.{asks, noted, recalls, told}
 use Rattle.ct_journal.specs.declared.journal.Journal.{Journal}
 use Rattle.ct_law_journal_schedule.specs.Laws.{AreRuns}
 use Rattle.ct_law_journal_reach.specs.Counts.{AreNotTooMany, HaveOwnTickets}
-use Rattle.ct_promise.specs.Promises.{IsConfig}
+use Rattle.ct_rules_config.specs.Configured.{IsConfig}
 
 -- node 1 asks node 0 for another record, too
 abbrev pub asks_too : Frame

@@ -8,7 +8,7 @@ ghost use Rattle.ct_frame.specs.declared.frame.CallKind.TheVariants as kind;
 ghost use Rattle.ct_frame.specs.declared.frame.Msg.TheVariants as msg;
 ghost use Rattle.ct_law_journal_reach.specs.Worked.{unsent_journals};
 ghost use Rattle.ct_values.specs.declared.client.ClientOp.TheVariants as op;
-ghost use Rattle.ct_promise.specs.Promises.{IsConfig};
+ghost use Rattle.ct_rules_config.specs.Configured.{IsConfig};
 ghost use Rattle.ct_frame.specs.declared.event.Out.TheVariants as out;
 ghost use Rattle.ct_cases_journals.specs.Worked as crossed;
 ghost use Rattle.ct_cases_journals.specs.Worked.{MayJoin, crossed_journals, straight_journals};

@@ -88,7 +88,7 @@ fn stored(alloc: Global, tables: &[Stored]) -> Result<Items<PTable>, Fail> {
 }
 
 /// The configuration of a cluster.
-#[tactic(auto, using(crate::proofs::Limits::has_limits))]
+#[tactic(auto, using(ct_law_form::proofs::Limits::has_limits))]
 pub(crate) fn config(alloc: Global, made: Made) -> Result<Config, Fail>
     ensures { IfOk result HasLimits }
 {

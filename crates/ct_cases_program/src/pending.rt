@@ -1,5 +1,5 @@
 //! The calls that wait at a node with two databases beside `g_lock`.
-use ct_node_state::database::Committing;
+use ct_node_database::database::Committing;
 use ct_node_state::node::Node;
 use ct_node_view::pending::pending;
 use ct_persist::commit::Commit;

@@ -1,7 +1,7 @@
 //! Clusters, step by step, with ample memory.
 ghost use Rattle.std.specs.Prelude.{◌≡◌, true, IfOk, nat_lt};
 ghost use Rattle.ct_frame.specs.Fields.{ascends};
-ghost use Rattle.ct_promise.specs.Promises.{IsConfig};
+ghost use Rattle.ct_rules_config.specs.Configured.{IsConfig};
 
 use ct_call::table::CallTable;
 use ct_rules_cluster::step::Step;

@@ -1,4 +1,4 @@
-use Rattle.ct_actor.proofs.Limits.{has_limits}
+use Rattle.ct_law_form.proofs.Limits.{has_limits}
 use Rattle.ct_cases_journals.proofs.node.config.Goals as goal
 
 pub returns-clause-limits : goal.returns-clause-limits
