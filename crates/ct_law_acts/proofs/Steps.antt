@@ -78,14 +78,14 @@ same_at : (w v : Cluster) → v.nodes ≡ w.nodes → (k : ℕ) → node_at k v 
 unfolding node_at
 same_at w v e k = ap (λ (ns : List Node). or_absent (slice_get ns k)) e
 
-begun_aside : (n : ℕ) (o : ClientOp) (ls : List Line) → list_any is_note (begun_by n o ls) ≡ false
+begun_aside : (n call : ℕ) (o : ClientOp) (ls : List Line) → list_any is_note (begun_by n call o ls) ≡ false
 unfolding begun_by is_note
-begun_aside n (op.Commit db ws) ls = by (is_refused ls)
+begun_aside n call (op.Commit db ws) ls = by (is_refused call ls)
   where
     by : (b : Bool) → list_any is_note (cond b [] (Begun n db ws ∷ [])) ≡ false
     by true = refl
     by false = refl
-begun_aside n o ls = refl
+begun_aside n call o ls = refl
 
 -- ---- each step
 
@@ -174,8 +174,8 @@ module _ (c : Config) (rules : Rules) (w : Cluster) (there : (n : ℕ) → is_up
 
   taken_acts : (s : Step) (x : Stepped) → fault_of c w s ≡ None → steps c rules w s ≡ Ok x → Acts c rules w x.cluster (told_step w s x.lines)
   unfolding fault_of steps recover told_step own_labels answerable told_lines told_line members_of is_note
-  taken_acts (step.Client n o) x e ok = fed_acts n (event.Client (w.calls + 1) o) [] (record w { calls = w.calls + 1 }) (step.Client n o) (λ ls. begun_by n o ls) (answerable w (step.Client n o)) x refl refl (runs w n _ _ e) ok
-      (λ k u. ap (λ (l : List Label). begun_by n o (lines_of n k u.outs) ++ l) (labels_are (step.Client n o) n k (answerable w (step.Client n o)) u.outs)) (λ ls. begun_aside n o ls)
+  taken_acts (step.Client n o) x e ok = fed_acts n (event.Client (w.calls + 1) o) [] (record w { calls = w.calls + 1 }) (step.Client n o) (λ ls. begun_by n (w.calls + 1) o ls) (answerable w (step.Client n o)) x refl refl (runs w n _ _ e) ok
+      (λ k u. ap (λ (l : List Label). begun_by n (w.calls + 1) o (lines_of n k u.outs) ++ l) (labels_are (step.Client n o) n k (answerable w (step.Client n o)) u.outs)) (λ ls. begun_aside n (w.calls + 1) o ls)
   taken_acts (step.Deliver k) x e ok = deliver_acts k (sent_at k w) x refl ok
   taken_acts (step.Drop k) x e ok = drop_acts k (sent_at k w) x refl ok
   taken_acts (step.Repeat k) x e ok = repeat_acts k (sent_at k w) x refl ok

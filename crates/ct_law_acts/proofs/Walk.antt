@@ -45,7 +45,7 @@ module _ (config : Config) (rules : Rules) (w : Cluster) (Law : (ℕ → Node) �
 
   -- what is owed of each step that is not refused
   pub record Owes : Type 0 where
-    pub client : (n : ℕ) (o : ClientOp) → is_up n w ≡ true → OwesTurn n (event.Client (w.calls + 1) o) (λ u. begun_by n o (lines_of n (length w.sent + 1) u.outs)) (answerable w (step.Client n o))
+    pub client : (n : ℕ) (o : ClientOp) → is_up n w ≡ true → OwesTurn n (event.Client (w.calls + 1) o) (λ u. begun_by n (w.calls + 1) o (lines_of n (length w.sent + 1) u.outs)) (answerable w (step.Client n o))
     pub arrive : (f : Frame) → In f (frames_in w) → is_up f.receiver w ≡ true → OwesTurn f.receiver (event.Arrive f) (λ u. []) (pending w)
     pub retry : (n : ℕ) → is_up n w ≡ true → OwesTurn n event.Retry (λ u. []) (pending w)
     pub vacuum : (n db : ℕ) → is_up n w ≡ true → OwesTurn n (event.Vacuum db) (λ u. []) (pending w)
@@ -136,8 +136,8 @@ module _ (config : Config) (rules : Rules) (w : Cluster) (Law : (ℕ → Node) �
 
     taken_became : (s : Step) (x : Stepped) → fault_of config w s ≡ None → steps config rules w s ≡ Ok x → Step_became s x
     unfolding fault_of steps recover told_step own_labels answerable told_lines told_line members_of
-    taken_became (step.Client n o) x e ok = turn_became n (event.Client (w.calls + 1) o) [] (record w { calls = w.calls + 1 }) (step.Client n o) (λ u. begun_by n o (lines_of n (length w.sent + 1) u.outs)) (answerable w (step.Client n o)) x refl refl (runs w n _ _ e) ok
-        (λ u. ap (λ (l : List Label). begun_by n o (lines_of n (length w.sent + 1) u.outs) ++ l) (labels_are (step.Client n o) n _ (answerable w (step.Client n o)) u.outs)) (owes.client n o (runs w n _ _ e))
+    taken_became (step.Client n o) x e ok = turn_became n (event.Client (w.calls + 1) o) [] (record w { calls = w.calls + 1 }) (step.Client n o) (λ u. begun_by n (w.calls + 1) o (lines_of n (length w.sent + 1) u.outs)) (answerable w (step.Client n o)) x refl refl (runs w n _ _ e) ok
+        (λ u. ap (λ (l : List Label). begun_by n (w.calls + 1) o (lines_of n (length w.sent + 1) u.outs) ++ l) (labels_are (step.Client n o) n _ (answerable w (step.Client n o)) u.outs)) (owes.client n o (runs w n _ _ e))
     taken_became (step.Deliver k) x e ok = deliver_became k (sent_at k w) x refl ok
     taken_became (step.Drop k) x e ok = drop_became k (sent_at k w) x refl ok
     taken_became (step.Repeat k) x e ok = repeat_became k (sent_at k w) x refl ok

@@ -2,6 +2,7 @@
 use Rattle.std.proofs.Common.{◌≡◌, ℕ, ◌+◌, Bool, true, false, cond, List, [], ◌∷◌, ◌++◌, length, Option, None, Some, refl, sym, ap, ◌∙◌, subst, arith, ⊎_elim}
 use Rattle.std.specs.Prelude.{◌⊎◌, is_some}
 use Rattle.std.specs.List.{AllByRecursion}
+use Rattle.std.proofs.lemmas.Bool.{eq-eqb}
 use Rattle.ct_values.specs.Words.{others}
 use Rattle.ct_values.specs.Client.{db_of, key_of, is_read, wants_record}
 use Rattle.ct_values.specs.declared.client.Answer.{Answer}
@@ -107,9 +108,9 @@ refused_pending config rules x db ws w kind waits serving e = (let f : Some why.
 
 -- ---- what a call tells before its lines
 
-begun_refused : (n call : ℕ) (asked : ClientOp) (w : Why) → begun_by n asked (line.Answered call (answer.Refused w) ∷ []) ≡ []
+begun_refused : (n call : ℕ) (asked : ClientOp) (w : Why) → begun_by n call asked (line.Answered call (answer.Refused w) ∷ []) ≡ []
 unfolding begun_by is_refused is_refusal
-begun_refused n call (op.Commit db ws) w = refl
+begun_refused n call (op.Commit db ws) w = ap (λ (b : Bool). cond b [] (Begun n db ws ∷ [])) (eq-eqb call call refl)
 begun_refused n call (op.Read db key) w = refl
 begun_refused n call (op.Lock db key) w = refl
 begun_refused n call (op.Write db key v) w = refl
@@ -117,19 +118,19 @@ begun_refused n call (op.Apply db key f arg) w = refl
 begun_refused n call (op.Store db key v) w = refl
 begun_refused n call (op.Unlock db key) w = refl
 
-begun_other : (n : ℕ) (asked : ClientOp) (lines : List Line) → is_commit asked ≡ false → begun_by n asked lines ≡ []
+begun_other : (n call : ℕ) (asked : ClientOp) (lines : List Line) → is_commit asked ≡ false → begun_by n call asked lines ≡ []
 unfolding begun_by is_commit
-begun_other n (op.Commit db ws) lines e = absurd (cc)
-begun_other n asked lines e = refl
+begun_other n call (op.Commit db ws) lines e = absurd (cc)
+begun_other n call asked lines e = refl
 
 -- the first of what a commit does is no refusal
-commit_first : (n call db seq k : ℕ) (ws : List Pair) (ns : List ℕ) (x : Node) (sp : Bool) → is_refused (lines_of n k (awaits_others n call db seq ws ns (record { node = x; outs = []; spent = sp })).outs) ≡ false
+commit_first : (n call db seq k : ℕ) (ws : List Pair) (ns : List ℕ) (x : Node) (sp : Bool) → is_refused call (lines_of n k (awaits_others n call db seq ws ns (record { node = x; outs = []; spent = sp })).outs) ≡ false
 unfolding awaits_others answers does with_commit with_node lines_of is_refused is_refusal posts_all posts
 commit_first n call db seq k ws [] x sp = refl
 commit_first n call db seq k ws (m ∷ ms) x sp =
     let t : Turn = with_commit db (Some (record { call = call; writes = ws; pending = commit_begun seq (m ∷ ms) })) (record { node = x; outs = []; spent = sp }) in
     let rest = posted_outs (λ (o : Out). Unit {0}) x.generation n ms (msg.PUpdate db seq ws) (posts x.generation n m (msg.PUpdate db seq ws) t) (λ i. tt) in
-    ap (λ (l : List Out). is_refused (lines_of n k l)) rest.1
+    ap (λ (l : List Out). is_refused call (lines_of n k l)) rest.1
 
 -- ---- the call
 
@@ -139,10 +140,10 @@ module _ (config : Config) (rules : Rules) (who : Callers) (calls : ℕ) (nodes 
   t = makes call (begins (nodes n))
 
   abbrev Goes_to : ClientOp → Turn → Type 0
-  Goes_to asked u = Goes config nodes (at n u.node nodes) r has (begun_by n asked (lines_of n k u.outs) ++ labels_of n pend u.outs) (frame_list u.outs)
+  Goes_to asked u = Goes config nodes (at n u.node nodes) r has (begun_by n call asked (lines_of n k u.outs) ++ labels_of n pend u.outs) (frame_list u.outs)
 
   -- where nothing is told before its lines, and the step is calm
-  calm_call : (asked : ClientOp) (u : Turn) → begun_by n asked (lines_of n k u.outs) ≡ [] → Calm config who (bases r) has n (begins (nodes n)) u → Goes_to asked u
+  calm_call : (asked : ClientOp) (u : Turn) → begun_by n call asked (lines_of n k u.outs) ≡ [] → Calm config who (bases r) has n (begins (nodes n)) u → Goes_to asked u
   calm_call asked u none calm = subst (λ (l : List Label). Goes config nodes (at n u.node nodes) r has (l ++ labels_of n pend u.outs) (frame_list u.outs)) (sym none)
       (calm_goes config who nodes r has n (begins (nodes n)) u [] pend b.holds refl refl tt fit calm)
 
@@ -203,7 +204,7 @@ module _ (config : Config) (rules : Rules) (who : Callers) (calls : ℕ) (nodes 
     begins_so : Begins config nodes r has n db ws
     begins_so = record { kind = kind; present = present; there = i.there; installed = i.installed; born = i.born; owns = owns; acked = acked; whole = b.settled.owner_has (r.line n) db n kind owns; fit = has_fit config (nodes n) db ws f.room; heirs = λ l k is. b.settled.heirs l (r.line n) db k kind is }
 
-    begun_is : begun_by n (op.Commit db ws) (lines_of n k (commit n call db ws t).outs) ≡ Begun n db ws ∷ []
+    begun_is : begun_by n call (op.Commit db ws) (lines_of n k (commit n call db ws t).outs) ≡ Begun n db ws ∷ []
     unfolding begun_by commit commits_at updates makes with_node
     begun_is = ap (λ (c : Bool). cond c [] (Begun n db ws ∷ [])) (commit_first n call db _ k ws (others n (nodes n).members) _ _)
 
@@ -227,7 +228,7 @@ module _ (config : Config) (rules : Rules) (who : Callers) (calls : ℕ) (nodes 
 
   other_goes : (asked : ClientOp) → is_commit asked ≡ false → (is_read asked ≡ true → is_persistent (kind_at config (db_of asked)) ≡ false) → Answerable config who (bases r) calls n (db_of asked) (key_of asked) call asked → Goes_to asked (serves config rules n call t asked)
   unfolding makes
-  other_goes asked plain pair own = calm_call asked (serves config rules n call t asked) (begun_other n asked _ plain)
+  other_goes asked plain pair own = calm_call asked (serves config rules n call t asked) (begun_other n call asked _ plain)
       (calm_after (makes_calm config who (bases r) has n call (begins (nodes n))) (serves_calm config rules who calls (bases r) has n call asked t plain pair own (all_answerable config who (bases r) calls n (nodes n) known) tt))
 
   -- an unlock that is not refused is known, too

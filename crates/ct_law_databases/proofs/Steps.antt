@@ -141,8 +141,8 @@ module _ (config : Config) (rules : Rules) (who : Callers) (w : Cluster) (r : Li
       let unlocks : (db : ℕ) (key : List ℕ) → o ≡ op.Unlock db key → refusal config rules (node_at n w) (op.Unlock db key) ≡ None → Known known_as call n db key call (op.Unlock db key) × (has_records (kind_at config db) ≡ true)
       = λ db key same e. subst (λ (a : ClientOp). Known (called call (n, a) who) call n db key call (op.Unlock db key) × (has_records (kind_at config db) ≡ true)) (sym same) (unlock_known config rules who w.calls n db key (node_at n w) e) in
       let g = client_goes config rules known_as call (nodes_of w) (frames_in w) r has lost n call (length w.sent + 1) pend b.before (all n) fit o unlocks (new_known config rules who w.calls n o (node_at n w)) mine in
-      let ls : told_step w s (lines_of n (length w.sent + 1) u.outs) ≡ begun_by n o (lines_of n (length w.sent + 1) u.outs) ++ labels_of n pend u.outs
-      = ap (λ (l : List Label). begun_by n o (lines_of n (length w.sent + 1) u.outs) ++ l) (labels_are s n (length w.sent + 1) pend u.outs) in
+      let ls : told_step w s (lines_of n (length w.sent + 1) u.outs) ≡ begun_by n call o (lines_of n (length w.sent + 1) u.outs) ++ labels_of n pend u.outs
+      = ap (λ (l : List Label). begun_by n call o (lines_of n (length w.sent + 1) u.outs) ++ l) (labels_are s n (length w.sent + 1) pend u.outs) in
       subst (λ (y : Stepped). StepGoes config w y.cluster r has (told_step w s y.lines)) (sym f.1)
       (subst (λ (l : List Label). StepGoes config w (put n u [] v).cluster r has l) (sym ls)
       (put_goes n u [] v _ refl refl (b.there n up) g))

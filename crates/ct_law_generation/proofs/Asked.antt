@@ -1,6 +1,6 @@
 -- By the calls that wait no answer is unasked.
 use Rattle.std.proofs.Common.{List, [], ◌∷◌, ◌++◌}
-use Rattle.std.specs.Prelude.{ℕ, nat_eq, Result, Ok, Err}
+use Rattle.std.specs.Prelude.{ℕ, ◌+◌, nat_eq, Result, Ok, Err}
 use Rattle.std.proofs.lemmas.Bool.{cond_both}
 use Rattle.ct_values.specs.declared.client.Answer.{Answer}
 use Rattle.ct_values.specs.declared.client.ClientOp.{ClientOp}
@@ -62,14 +62,14 @@ lines_asked s calls (line.Started n ∷ xs) = lines_asked s calls xs
 lines_asked s calls (line.Gone call ∷ xs) = lines_asked s calls xs
 lines_asked s calls (line.Lost k ∷ xs) = lines_asked s calls xs
 
-begun_asked : (n : ℕ) (o : ClientOp) (lines : List Line) → NoneUnasked (begun_by n o lines)
+begun_asked : (n call : ℕ) (o : ClientOp) (lines : List Line) → NoneUnasked (begun_by n call o lines)
 unfolding begun_by NoneUnasked
-begun_asked n (op.Commit db writes) lines = cond_both (is_refused lines) [] (Begun n db writes ∷ []) (λ (l : List Label). NoneUnasked l) (λ _. tt) (λ _. tt)
-begun_asked n o lines = tt
+begun_asked n call (op.Commit db writes) lines = cond_both (is_refused call lines) [] (Begun n db writes ∷ []) (λ (l : List Label). NoneUnasked l) (λ _. tt) (λ _. tt)
+begun_asked n call o lines = tt
 
 own_asked : (w : Cluster) (s : Step) (lines : List Line) → NoneUnasked (own_labels w s lines)
 unfolding own_labels NoneUnasked
-own_asked w (step.Client n o) lines = begun_asked n o lines
+own_asked w (step.Client n o) lines = begun_asked n (w.calls + 1) o lines
 own_asked w (step.Takeover n) lines = tt
 own_asked w s lines = tt
 

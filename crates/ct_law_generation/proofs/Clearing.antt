@@ -144,14 +144,14 @@ lines_clear c rules r g db key w (step.Able n able) calls x order may ok = done_
 
 -- ---- what a step tells before its lines
 
-begun_none : (r : Lines) (g db : ℕ) (key : List ℕ) (n : ℕ) (asked : ClientOp) (lines : List Line) → is_removed r g db key (begun_by n asked lines) ≡ false
+begun_none : (r : Lines) (g db : ℕ) (key : List ℕ) (n call : ℕ) (asked : ClientOp) (lines : List Line) → is_removed r g db key (begun_by n call asked lines) ≡ false
 unfolding begun_by is_removal
-begun_none r g db key n (op.Commit d writes) lines = cond_both (refuses lines) _ _ (λ (l : List Label). is_removed r g db key l ≡ false) (λ _. refl) (λ _. refl)
-begun_none r g db key n _ lines = refl
+begun_none r g db key n call (op.Commit d writes) lines = cond_both (refuses call lines) _ _ (λ (l : List Label). is_removed r g db key l ≡ false) (λ _. refl) (λ _. refl)
+begun_none r g db key n call _ lines = refl
 
 own_none : (r : Lines) (g db : ℕ) (key : List ℕ) (w : Cluster) (s : Step) (lines : List Line) → is_removed r g db key (own_labels w s lines) ≡ false
 unfolding own_labels is_removal
-own_none r g db key w (step.Client n o) lines = begun_none r g db key n o lines
+own_none r g db key w (step.Client n o) lines = begun_none r g db key n (w.calls + 1) o lines
 own_none r g db key w (step.Takeover n) lines = refl
 own_none r g db key w _ lines = refl
 

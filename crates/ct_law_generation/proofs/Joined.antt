@@ -58,15 +58,15 @@ use Rattle.ct_promise.proofs.Follows.{filter_more}
 -- ---- what a call tells
 
 -- that a commit begins is left out
-begun_left_out : (c : Config) (n : ℕ) (o : ClientOp) (lines : List Line) → record_labels c (traces.begun_by n o lines) ≡ []
+begun_left_out : (c : Config) (n call : ℕ) (o : ClientOp) (lines : List Line) → record_labels c (traces.begun_by n call o lines) ≡ []
 unfolding traces.begun_by speaks_of_records
-begun_left_out c n (op.Lock db key) lines = refl
-begun_left_out c n (op.Read db key) lines = refl
-begun_left_out c n (op.Write db key v) lines = refl
-begun_left_out c n (op.Apply db key f arg) lines = refl
-begun_left_out c n (op.Store db key v) lines = refl
-begun_left_out c n (op.Unlock db key) lines = refl
-begun_left_out c n (op.Commit db writes) lines = either (traces.is_refused lines)
+begun_left_out c n call (op.Lock db key) lines = refl
+begun_left_out c n call (op.Read db key) lines = refl
+begun_left_out c n call (op.Write db key v) lines = refl
+begun_left_out c n call (op.Apply db key f arg) lines = refl
+begun_left_out c n call (op.Store db key v) lines = refl
+begun_left_out c n call (op.Unlock db key) lines = refl
+begun_left_out c n call (op.Commit db writes) lines = either (traces.is_refused call lines)
   where
     either : (b : Bool) → record_labels c (cond b [] (Begun n db writes ∷ [])) ≡ []
     either true = refl
@@ -82,8 +82,8 @@ unfolding told_step own_labels put
 call_tells c w v n o u x is =
     let s = step.Client n o in
     let calls = answerable w s in
-    filter_more (speaks_of_records c) (traces.begun_by n o x.lines) (told_lines s calls x.lines)
-    ∙ ap (λ (l : List Label). l ++ record_labels c (told_lines s calls x.lines)) (begun_left_out c n o x.lines)
+    filter_more (speaks_of_records c) (traces.begun_by n (w.calls + 1) o x.lines) (told_lines s calls x.lines)
+    ∙ ap (λ (l : List Label). l ++ record_labels c (told_lines s calls x.lines)) (begun_left_out c n (w.calls + 1) o x.lines)
     ∙ ap (λ (y : Stepped). record_labels c (told_lines s calls y.lines)) is
     ∙ ap (λ (l : List Label). record_labels c l) (labels_are s n _ calls u.outs)
 

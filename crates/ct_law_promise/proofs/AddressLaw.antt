@@ -42,14 +42,14 @@ use Rattle.ct_law_promise.proofs.Arrivals.{arrives_kept}
 
 -- ---- events beside rounds and messages
 
-begun_by_aside : (config : Config) (n : ℕ) (asked : ClientOp) (lines : List Line) → AllByRecursion (IsAside config) (begun_by n asked lines)
+begun_by_aside : (config : Config) (n call : ℕ) (asked : ClientOp) (lines : List Line) → AllByRecursion (IsAside config) (begun_by n call asked lines)
 unfolding begun_by
-begun_by_aside config n (op.Commit db ws) lines = either (is_refused lines)
+begun_by_aside config n call (op.Commit db ws) lines = either (is_refused call lines)
   where
     either : (b : Bool) → AllByRecursion (IsAside config) (cond b [] (Begun n db ws ∷ []))
     either true = tt
     either false = (begun_aside config n db ws, tt)
-begun_by_aside config n asked lines = tt
+begun_by_aside config n call asked lines = tt
 
 serves_present : (p : Phase) → is_serving p ≡ true → is_present p ≡ true
 unfolding is_serving is_present
@@ -105,7 +105,7 @@ module _ (config : Config) (rules : Rules) (x : Choice) (w : Cluster) (r : Lines
   owed : Owes config rules w Goes
   unfolding happens
   owed = record {
-    client = λ n o up. all_aside_kept config x (nodes_of w) (frames_in w) r turns b.ready n _ _ _ (begun_by_aside config n o _) (client_aside config rules n (w.calls + 1) o (begins (node_at n w)));
+    client = λ n o up. all_aside_kept config x (nodes_of w) (frames_in w) r turns b.ready n _ _ _ (begun_by_aside config n (w.calls + 1) o _) (client_aside config rules n (w.calls + 1) o (begins (node_at n w)));
     arrive = λ f came up. arrives_kept config rules x (nodes_of w) (frames_in w) r turns b.ready (pending w) f came f.msg refl;
     retry = λ n up. retry_kept config x (nodes_of w) (frames_in w) r turns b.ready n (pending w);
     vacuum = λ n db up. all_aside_kept config x (nodes_of w) (frames_in w) r turns b.ready n (pending w) [] _ tt (vacuums_aside config n db (begins (node_at n w)));

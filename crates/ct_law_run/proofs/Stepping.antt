@@ -130,10 +130,10 @@ there_up c w n rest e = (let a = first_none _ _ e in (required (nat_lt n c.nodes
 nothing_aside : (c : Config) (r : Lines) → Is_aside c r []
 nothing_aside c r = record { untold = refl; kept = λ g db key. refl }
 
-begun_aside : (c : Config) (r : Lines) (n : ℕ) (o : ClientOp) (ls : List Line) → Is_aside c r (begun_by n o ls)
+begun_aside : (c : Config) (r : Lines) (n call : ℕ) (o : ClientOp) (ls : List Line) → Is_aside c r (begun_by n call o ls)
 unfolding begun_by speaks_of_records is_removal
-begun_aside c r n (op.Commit db writes) ls = cond_both (traces.is_refused ls) _ _ (λ (l : List Label). Is_aside c r l) (λ _. nothing_aside c r) (λ _. record { untold = refl; kept = λ g d key. refl })
-begun_aside c r n o ls = nothing_aside c r
+begun_aside c r n call (op.Commit db writes) ls = cond_both (traces.is_refused call ls) _ _ (λ (l : List Label). Is_aside c r l) (λ _. nothing_aside c r) (λ _. record { untold = refl; kept = λ g d key. refl })
+begun_aside c r n call o ls = nothing_aside c r
 
 -- ---- each step
 
@@ -164,7 +164,7 @@ module _ (all : AllTurned) (c : Config) (rules : Rules) (w : Cluster) (r : Lines
   unfolding steps is_allowed fault_of lives_called own_labels answerable Comes pending node_at is_up
   client_after n o = after_taken c rules w r h (step.Client n o) (λ allowed e.
       let ok = there_up c w n [] e in
-      turn_after all c rules w (counted w) r h.ages (idle_after c rules w r h) (lives_called c rules w r h (n, o)) refl (step.Client n o) n (event.Client (w.calls + 1) o) (λ ls. begun_aside c r n o ls) is ok.0
+      turn_after all c rules w (counted w) r h.ages (idle_after c rules w r h) (lives_called c rules w r h (n, o)) refl (step.Client n o) n (event.Client (w.calls + 1) o) (λ ls. begun_aside c r n (w.calls + 1) o ls) is ok.0
       (refl, own_caller (w.calls + 1) (n, o) h.who, allowed, refl))
 
   retry_after : (n : ℕ) → After c rules r h.ages (outcome c rules w (step.Retry n))

@@ -1,5 +1,5 @@
 -- What a run tells of itself.
-use Rattle.std.specs.Prelude.{ℕ, ◌+◌, nat_eq, Bool, true, false, if◌then◌else◌, List, [], ◌∷◌, ◌++◌, Option, None, Some, Result, Ok, Err}
+use Rattle.std.specs.Prelude.{ℕ, ◌+◌, nat_eq, Bool, true, false, ◌&&◌, if◌then◌else◌, List, [], ◌∷◌, ◌++◌, Option, None, Some, Result, Ok, Err}
 use Rattle.ct_values.specs.declared.client.Answer.{Answer}
 use Rattle.ct_values.specs.declared.client.Answer.TheVariants as answer
 use Rattle.ct_values.specs.declared.client.ClientOp.{ClientOp}
@@ -92,19 +92,19 @@ unfoldable pub is_refusal : Answer → Bool
 is_refusal (answer.Refused w) = true
 is_refusal _ = false
 
--- is the first of these lines a refusal?
-unfoldable pub is_refused : List Line → Bool
-is_refused (line.Answered call a ∷ xs) = is_refusal a
-is_refused _ = false
+-- is this call refused by the first of these lines?
+unfoldable pub is_refused : ℕ → List Line → Bool
+is_refused own (line.Answered call a ∷ xs) = is_refusal a && nat_eq own call
+is_refused own _ = false
 
--- Labels: a commit that is not refused begins, before the lines of its step
-unfoldable pub begun_by : ℕ → ClientOp → List Line → List Label
-begun_by n (op.Commit db writes) lines = if is_refused lines then [] else Begun n db writes ∷ []
-begun_by n _ lines = []
+-- Labels: a commit that is not refused itself begins, before the lines of its step, whatever these say of other calls
+unfoldable pub begun_by : ℕ → ℕ → ClientOp → List Line → List Label
+begun_by n call (op.Commit db writes) lines = if is_refused call lines then [] else Begun n db writes ∷ []
+begun_by n call _ lines = []
 
 -- Labels: what a step tells before its lines
 unfoldable pub own_labels : Cluster → Step → List Line → List Label
-own_labels w (step.Client n o) lines = begun_by n o lines
+own_labels w (step.Client n o) lines = begun_by n (w.calls + 1) o lines
 own_labels w (step.Takeover n) lines = Takeover n (able_from 0 w.able) ∷ []
 own_labels w _ lines = []
 
