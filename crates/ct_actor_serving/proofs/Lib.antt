@@ -4,3 +4,4 @@ pub mod Noting
 pub mod Taking
 pub mod Telling
 pub mod Turning
+pub mod Turns

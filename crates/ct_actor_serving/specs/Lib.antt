@@ -1,3 +1,4 @@
 pub mod Hearing
 pub mod Outside
 pub mod Serving
+pub mod Turns

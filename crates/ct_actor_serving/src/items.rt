@@ -50,6 +50,7 @@ pub(crate) fn fault_of(at: AtLimit, fault: CoreFault) -> ServeFault
 pub(crate) fn send_last<L: Link>(alloc: Global, node: &Node, link: &mut L) -> Result<(), ServeFault>
     requires { list_all is_sendable (last_outs node.now.entries) ≡ true }
     ensures counts { NoneFell (of_link L.faults L.endings L.looks link.old) (of_link L.faults L.endings L.looks link.new) }
+    ensures permissions { L.permissions link.new ≡ L.permissions link.old }
     ensures cause { IsCaused result (of_link L.faults L.endings L.looks link.old) (of_link L.faults L.endings L.looks link.new) }
     ensures sent { Told (L.pieces link.old) (L.pieces link.new) (SendsOnly (result_err result) (frames_sent (last_outs node.now.entries))) }
     ensures long { SendsLong (result_err result) node.now.entries }
@@ -149,6 +150,7 @@ pub(crate) fn take_next<L: Link, R: RecLock>(
     requires told { list_all (may_be_told node.old.core.config node.old.core.pnn) part.now.script.now ≡ true }
     ensures goes_on { GoesOn (rules_of part.now.table.now) part.now.script.now node.old cue.old node.new cue.new }
     ensures counts { NoneFell (both (of_link L.faults L.endings L.looks link.old) (of_lock R.faults R.refusals lock.old)) (both (of_link L.faults L.endings L.looks link.new) (of_lock R.faults R.refusals lock.new)) }
+    ensures permissions { L.permissions link.new ≡ L.permissions link.old }
     ensures cause { IsCaused result (both (of_link L.faults L.endings L.looks link.old) (of_lock R.faults R.refusals lock.old)) (both (of_link L.faults L.endings L.looks link.new) (of_lock R.faults R.refusals lock.new)) }
     ensures next { IsNextItem (rules_of part.now.table.now) part.now.script.now (result_err result) node.new cue.new }
     ensures taken { IfOk result (λ one. MatchBool one ((cue.old.taken < length part.now.script.now) × (cue.new.taken ≡ cue.old.taken + 1)) (next_item part.now.script.now cue.new ≡ None)) }

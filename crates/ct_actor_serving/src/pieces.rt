@@ -36,6 +36,7 @@ fn take_frame<L: Link>(
     requires ours { frame.receiver ≡ node.old.core.pnn }
     ensures goes_on { (script : List Item) → GoesOn (rules_of table.now) script node.old cue.old node.new cue.new }
     ensures counts { NoneFell (of_link L.faults L.endings L.looks link.old) (of_link L.faults L.endings L.looks link.new) }
+    ensures permissions { L.permissions link.new ≡ L.permissions link.old }
     ensures cause { IsCaused result (of_link L.faults L.endings L.looks link.old) (of_link L.faults L.endings L.looks link.new) }
     ensures outside { ServesFrames (rules_of table.now) (result_err result) (frame ∷ []) node.old node.new (L.pieces link.old) (L.pieces link.new) }
     ensures ours { (me : ℕ) (taken : List Parcel) → AreForeign (result_err result) me taken }
@@ -62,6 +63,7 @@ fn take_frames<L: Link>(
     requires { list_all (is_sound node.old.core.pnn sender) frames.items ≡ true }
     ensures goes_on { (script : List Item) → GoesOn (rules_of table.now) script node.old cue.old node.new cue.new }
     ensures counts { NoneFell (of_link L.faults L.endings L.looks link.old) (of_link L.faults L.endings L.looks link.new) }
+    ensures permissions { L.permissions link.new ≡ L.permissions link.old }
     ensures cause { IsCaused result (of_link L.faults L.endings L.looks link.old) (of_link L.faults L.endings L.looks link.new) }
     ensures outside { ServesFrames (rules_of table.now) (result_err result) frames.items node.old node.new (L.pieces link.old) (L.pieces link.new) }
     ensures ours { (me : ℕ) (taken : List Parcel) → AreForeign (result_err result) me taken }
@@ -89,6 +91,7 @@ pub(crate) fn take_piece<L: Link>(
 ) -> Result<(), ServeFault>
     ensures goes_on { (script : List Item) → GoesOn (rules_of table.now) script node.old cue.old node.new cue.new }
     ensures counts { NoneFell (of_link L.faults L.endings L.looks link.old) (of_link L.faults L.endings L.looks link.new) }
+    ensures permissions { L.permissions link.new ≡ L.permissions link.old }
     ensures cause { IsCaused result (of_link L.faults L.endings L.looks link.old) (of_link L.faults L.endings L.looks link.new) }
     ensures outside { ServesPiece (rules_of table.now) (result_err result) (parcel sender bytes.now) node.old node.new (L.pieces link.old) (L.pieces link.new) readers.old readers.new }
     ensures item { IsNoItem (result_err result) }

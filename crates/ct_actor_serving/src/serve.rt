@@ -1,5 +1,5 @@
 //! A node serves.
-ghost use Rattle.std.specs.Prelude.{◌≡◌, [], ℕ, true, List, None, Ok, IfOk, IsTrue, OnOk, MatchBool, length};
+ghost use Rattle.std.specs.Prelude.{◌≡◌, ◌∷◌, [], ℕ, true, List, None, Ok, IfOk, IsTrue, OnOk, MatchBool, length};
 ghost use Rattle.std.specs.List.{list_all};
 ghost use Rattle.std.specs.Result.{result_err};
 ghost use Rattle.ct_call.specs.Shown.{rules_of};
@@ -7,13 +7,14 @@ ghost use Rattle.ct_script.specs.Cues.{next_item};
 ghost use Rattle.ct_actor.specs.Journalled.{IsRunBy, Journalled};
 ghost use Rattle.ct_outside.specs.Causes.{Rose};
 ghost use Rattle.ct_outside.specs.Locks.{LockState};
-ghost use Rattle.ct_outside.specs.Told.{Told};
+ghost use Rattle.ct_outside.specs.Told.{Lists, Told};
 ghost use Rattle.ct_outside.specs.declared.link.Received.TheVariants as received;
 ghost use Rattle.ct_script.specs.Sound.{may_be_told};
 ghost use Rattle.ct_actor_serving.specs.declared.fault.Until.TheVariants as until;
 ghost use Rattle.ct_actor_serving.specs.Hearing.{Serves, ServesTurn};
 ghost use Rattle.ct_actor_serving.specs.Outside.{HasNoTicket, ServesOn, TakesOnly, heard, outside, taken_in};
 ghost use Rattle.ct_actor_serving.specs.Serving.{Acts, EndsBy, GoesOn, HasActed, IsCaused, IsNextItem, IsNoItem, IsNoPiece, IsNoSend, NoneFell, Turned, both, is_full, most_turns, of_link, of_lock};
+ghost use Rattle.ct_actor_serving.specs.Turns.{ServesTurns, may_wait_at};
 
 use crate::fault::{ServeFault, Served, Until};
 use crate::items::take_next;
@@ -32,7 +33,8 @@ use std::alloc::Global;
 
 /// May the node wait for a piece? It may where it has no item of its script to take.
 fn may_wait(cue: &Cue, script: &[PlanItem]) -> bool
-    ensures { MatchBool result (next_item script.now cue.now ≡ None) (next_item script.now cue.now ≡ None → ⊥) }
+    ensures none { MatchBool result (next_item script.now cue.now ≡ None) (next_item script.now cue.now ≡ None → ⊥) }
+    ensures may { result ≡ may_wait_at script.now cue.now }
 {
     match cue.next(script) {
         Some(_) => false,
@@ -47,6 +49,7 @@ fn look<L: Link>(link: &mut L, may_wait: bool) -> Result<Received, ServeFault>
     ensures cause { IsCaused result (of_link L.faults L.endings L.looks link.old) (of_link L.faults L.endings L.looks link.new) }
     ensures looked { OnOk result (Rose (L.looks link.old) (L.looks link.new)) }
     ensures closed { result ≡ Ok received.Closed → IsTrue may_wait × Rose (L.endings link.old) (L.endings link.new) }
+    ensures permissions { Lists (may_wait ∷ []) (L.permissions link.old) (L.permissions link.new) }
     ensures pieces { Told (L.pieces link.old) (L.pieces link.new) (TakesOnly (taken_in result)) }
     ensures free { (x : Journalled) (lock : LockState) → HasNoTicket (result_err result) x lock }
     ensures piece { IsNoPiece (result_err result) }
@@ -76,6 +79,7 @@ fn turn<L: Link, R: RecLock>(
     ensures counts { NoneFell (both (of_link L.faults L.endings L.looks link.old) (of_lock R.faults R.refusals lock.old)) (both (of_link L.faults L.endings L.looks link.new) (of_lock R.faults R.refusals lock.new)) }
     ensures cause { IsCaused result (both (of_link L.faults L.endings L.looks link.old) (of_lock R.faults R.refusals lock.old)) (both (of_link L.faults L.endings L.looks link.new) (of_lock R.faults R.refusals lock.new)) }
     ensures next { IsNextItem (rules_of part.now.table.now) part.now.script.now (result_err result) node.new cue.new }
+    ensures permissions { Lists (may_wait_at part.now.script.now cue.old ∷ []) (L.permissions link.old) (L.permissions link.new) }
     ensures turned { IfOk result (λ closed. Turned closed (of_link L.faults L.endings L.looks link.old) (of_link L.faults L.endings L.looks link.new) (next_item part.now.script.now cue.new)) }
     ensures outside { ServesTurn (rules_of part.now.table.now) (result_err result) node.old node.new (outside (L.pieces link.old) (R.state lock.old)) (outside (L.pieces link.new) (R.state lock.new)) readers.old readers.new }
 {
@@ -117,6 +121,7 @@ fn take_rest<L: Link, R: RecLock>(
     requires told { list_all (may_be_told node.old.core.config node.old.core.pnn) part.now.script.now ≡ true }
     ensures goes_on { GoesOn (rules_of part.now.table.now) part.now.script.now node.old cue.old node.new cue.new }
     ensures counts { NoneFell (both (of_link L.faults L.endings L.looks link.old) (of_lock R.faults R.refusals lock.old)) (both (of_link L.faults L.endings L.looks link.new) (of_lock R.faults R.refusals lock.new)) }
+    ensures permissions { L.permissions link.new ≡ L.permissions link.old }
     ensures cause { IsCaused result (both (of_link L.faults L.endings L.looks link.old) (of_lock R.faults R.refusals lock.old)) (both (of_link L.faults L.endings L.looks link.new) (of_lock R.faults R.refusals lock.new)) }
     ensures next { IsNextItem (rules_of part.now.table.now) part.now.script.now (result_err result) node.new cue.new }
     ensures rest { OnOk result (next_item part.now.script.now cue.new ≡ None) }
@@ -182,6 +187,7 @@ pub fn serve_until<L: Link, R: RecLock, G: Gate>(
     ensures counts { NoneFell (both (of_link L.faults L.endings L.looks link.old) (of_lock R.faults R.refusals lock.old)) (both (of_link L.faults L.endings L.looks link.new) (of_lock R.faults R.refusals lock.new)) }
     ensures cause { IsCaused result (both (of_link L.faults L.endings L.looks link.old) (of_lock R.faults R.refusals lock.old)) (both (of_link L.faults L.endings L.looks link.new) (of_lock R.faults R.refusals lock.new)) }
     ensures ends { IfOk result (λ served. EndsBy until served (length node.new.entries) (of_link L.faults L.endings L.looks link.old) (of_link L.faults L.endings L.looks link.new)) }
+    ensures turns { ServesTurns until script.now result node.old node.new (L.permissions link.old) (L.permissions link.new) (G.passes gate.old) (G.passes gate.new) }
     ensures outside { Serves (rules_of table.now) (result_err result) node.old node.new (outside (L.pieces link.old) (R.state lock.old)) (outside (L.pieces link.new) (R.state lock.new)) }
 {
     let part = Part {
@@ -225,6 +231,7 @@ pub fn serve<L: Link, R: RecLock, G: Gate>(
     ensures counts { NoneFell (both (of_link L.faults L.endings L.looks link.old) (of_lock R.faults R.refusals lock.old)) (both (of_link L.faults L.endings L.looks link.new) (of_lock R.faults R.refusals lock.new)) }
     ensures cause { IsCaused result (both (of_link L.faults L.endings L.looks link.old) (of_lock R.faults R.refusals lock.old)) (both (of_link L.faults L.endings L.looks link.new) (of_lock R.faults R.refusals lock.new)) }
     ensures ends { IfOk result (λ served. EndsBy (until.Turns turns) served (length node.new.entries) (of_link L.faults L.endings L.looks link.old) (of_link L.faults L.endings L.looks link.new)) }
+    ensures turns { ServesTurns (until.Turns turns) script.now result node.old node.new (L.permissions link.old) (L.permissions link.new) (G.passes gate.old) (G.passes gate.new) }
     ensures outside { Serves (rules_of table.now) (result_err result) node.old node.new (outside (L.pieces link.old) (R.state lock.old)) (outside (L.pieces link.new) (R.state lock.new)) }
 {
     serve_until(

@@ -1,6 +1,7 @@
 pub mod Adapters
 pub mod Causes
 pub mod Links
+pub mod Listing
 pub mod Locks
 pub mod Memory
 pub mod MemoryLink

@@ -1,7 +1,7 @@
 //! Pieces of bytes between nodes.
-ghost use Rattle.std.specs.Prelude.{◌≡◌, ◌≤◌, ℕ, Option, is_ok, IsTrue};
+ghost use Rattle.std.specs.Prelude.{◌≡◌, ◌≤◌, ◌∷◌, [], ℕ, Bool, List, Option, is_ok, IsTrue};
 ghost use Rattle.ct_outside.specs.Links.{Parcel, Pieces, Looks, Receives, Sends, is_end, is_failure};
-ghost use Rattle.ct_outside.specs.Told.{RisesWhere, Told};
+ghost use Rattle.ct_outside.specs.Told.{Lists, RisesWhere, Told};
 
 use crate::fault::LinkFault;
 use std::marker::Model;
@@ -44,12 +44,16 @@ pub trait Link {
     /// How often it has answered a look.
     ghost looks: { Self → ℕ };
 
+    /// Whether it might wait at each of its looks so far, in order, where the link lists that.
+    ghost permissions: { Self → Option (List Bool) };
+
     /// Sends a piece to a node. A refusal sends nothing.
     fn send(&mut self, to: u32, bytes: &[u8]) -> Result<(), LinkFault>
         ensures pieces { Told (pieces self.old) (pieces self.new) (Sends result to bytes.now) }
         ensures cause { RisesWhere (is_failure result) (faults self.old) (faults self.new) }
         ensures endings { endings self.old ≤ endings self.new }
-        ensures looks { looks self.new ≡ looks self.old };
+        ensures looks { looks self.new ≡ looks self.old }
+        ensures permissions { permissions self.new ≡ permissions self.old };
 
     /// Looks for the first piece that waits. The link may wait for one where it has permission, and only there it may
     /// answer that nothing will come any more.
@@ -58,5 +62,6 @@ pub trait Link {
         ensures cause { RisesWhere (is_failure result) (faults self.old) (faults self.new) }
         ensures ended { RisesWhere (is_end result) (endings self.old) (endings self.new) }
         ensures permitted { IsTrue (is_end result) → IsTrue may_wait }
-        ensures looked { Looks (is_ok result) (looks self.old) (looks self.new) };
+        ensures looked { Looks (is_ok result) (looks self.old) (looks self.new) }
+        ensures permissions { Lists (may_wait ∷ []) (permissions self.old) (permissions self.new) };
 }

@@ -1,5 +1,5 @@
 //! A link in memory, of whose calls those fail that are named before.
-ghost use Rattle.std.specs.Prelude.{◌≡◌, ◌≤◌, ◌+◌, ℕ, Some, [], is_ok, IsTrue};
+ghost use Rattle.std.specs.Prelude.{◌≡◌, ◌≤◌, ◌+◌, ℕ, None, Some, [], is_ok, IsTrue};
 ghost use Rattle.ct_outside.specs.Links.{Looks, Receives, Sends, is_end, is_failure};
 ghost use Rattle.ct_outside.specs.MemoryLink.{ReceivesHere, SendsHere, fresh_link};
 ghost use Rattle.ct_outside.specs.Told.{RisesWhere};
@@ -59,6 +59,8 @@ impl Link for MemLink {
     ghost endings = { λ s. s.endings };
 
     ghost looks = { λ s. s.looks };
+
+    ghost permissions = { λ _. None };
 
     /// Want of memory is no fault, and counts as a call.
     fn send(&mut self, to: u32, bytes: &[u8]) -> Result<(), LinkFault>

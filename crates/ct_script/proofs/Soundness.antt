@@ -22,7 +22,7 @@ use Rattle.ct_script.proofs.Making.{length_drawn}
 
 -- ---- all nodes
 
-length_numbers : (i k : ℕ) → length (numbers i k) ≡ k
+pub length_numbers : (i k : ℕ) → length (numbers i k) ≡ k
 unfolding numbers
 length_numbers i zero = refl
 length_numbers i (suc k) = ap suc (length_numbers (i + 1) k)

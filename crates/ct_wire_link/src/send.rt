@@ -24,6 +24,7 @@ pub fn send_frame<L: Link>(alloc: Global, link: &mut L, frame: &Frame) -> Result
     ensures cause { RisesWhere (is_link_failure result) (L.faults link.old) (L.faults link.new) }
     ensures endings { L.endings link.old ≤ L.endings link.new }
     ensures looks { L.looks link.new ≡ L.looks link.old }
+    ensures permissions { L.permissions link.new ≡ L.permissions link.old }
 {
     let mut encoder = match Encoder::new(alloc, frame) {
         Ok(encoder) => encoder,
@@ -49,6 +50,7 @@ pub fn send_all<L: Link>(alloc: Global, link: &mut L, outs: &[Out]) -> Result<()
     ensures cause { RisesWhere (is_link_failure result) (L.faults link.old) (L.faults link.new) }
     ensures endings { L.endings link.old ≤ L.endings link.new }
     ensures looks { L.looks link.new ≡ L.looks link.old }
+    ensures permissions { L.permissions link.new ≡ L.permissions link.old }
 {
     'outs: for out in outs {
         match out {

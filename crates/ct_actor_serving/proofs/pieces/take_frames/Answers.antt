@@ -23,6 +23,7 @@ loop-frame-preserved g c =
       pnn = (c.in-Ok.ensures.goes_on []).pnn ∙ c.loop-frame.invariant.pnn;
       sound = all_rest (is_sound c.args.node.now.core.pnn c.args.sender) c.loop-frame.frame-iterator.rest.items c.next.new.self.rest.items c.in-Some.frame step c.loop-frame.invariant.sound;
       counts = fell_then (link c.args.link.now) (link c.loop-frame.link) (link c.take_frame.new.link) c.loop-frame.invariant.counts c.in-Ok.ensures.counts;
+      permissions = c.in-Ok.ensures.permissions ∙ c.loop-frame.invariant.permissions;
       served = frames_next (rules_of c.args.table.now) c.into_iter-frame-iterator.result.rest.items c.loop-frame.frame-iterator.rest.items c.next.new.self.rest.items c.in-Some.frame c.args.node.now c.loop-frame.node c.take_frame.new.node
           (g.L.Link.pieces c.args.link.now) (g.L.Link.pieces c.loop-frame.link) (g.L.Link.pieces c.take_frame.new.link) c.loop-frame.invariant.served step c.in-Ok.ensures.outside;
     }
@@ -59,5 +60,6 @@ loop-frame-init g c =
       pnn = refl;
       sound = ap (λ (fs : List Frame). list_all (is_sound c.args.node.now.core.pnn c.args.sender) fs) c.into_iter-frame-iterator.ensures.into_iter_gives.0 ∙ c.requires;
       counts = fell_same (link c.args.link.now);
+      permissions = refl;
       served = frames_first (rules_of c.args.table.now) c.into_iter-frame-iterator.result.rest.items c.args.node.now (g.L.Link.pieces c.args.link.now);
     }

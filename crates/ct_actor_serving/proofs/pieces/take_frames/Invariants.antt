@@ -18,5 +18,6 @@ invariant-loop-frame g l =
       pnn : l.node.core.pnn ≡ l.initial.node.core.pnn;
       sound : list_all (is_sound l.initial.node.core.pnn l.initial.sender) l.frame-iterator.rest.items ≡ true;
       counts : NoneFell (link l.initial.link) (link l.link);
+      permissions : g.L.Link.permissions l.link ≡ g.L.Link.permissions l.initial.link;
       served : FramesServed (rules_of l.initial.table) l.initial.frame-iterator.rest.items l.frame-iterator.rest.items l.initial.node l.node (g.L.Link.pieces l.initial.link) (g.L.Link.pieces l.link);
     }

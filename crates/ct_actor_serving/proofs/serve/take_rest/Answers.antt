@@ -1,7 +1,7 @@
 use Rattle.ct_call.specs.Shown.{rules_of}
 use Rattle.ct_actor_serving.specs.Serving.{both, of_link, of_lock}
 use Rattle.ct_actor_serving.proofs.Going.{cause_late, fell_then, goes_then, fell_same, goes_same}
-use Rattle.std.proofs.Common.{[], None, Some}
+use Rattle.std.proofs.Common.{◌∙◌, [], None, Some, refl}
 use Rattle.ct_actor_serving.specs.Outside.{heard, outside}
 use Rattle.ct_actor_serving.proofs.Telling.{serves_same, serves_then}
 use Rattle.ct_actor_serving.proofs.serve.take_rest.Goals as goal
@@ -14,6 +14,7 @@ items-preserved g c =
       goes_on =
           goes_then (rules_of c.args.part.now.table.now) c.args.part.now.script.now c.args.node.now c.items.node c.take_next.new.node c.args.cue.now c.items.cue c.take_next.new.cue c.items.invariant.goes_on c.take_next.ensures.goes_on;
       counts = fell_then (both (link c.args.link.now) (lock c.args.lock.now)) (both (link c.items.link) (lock c.items.lock)) (both (link c.take_next.new.link) (lock c.take_next.new.lock)) c.items.invariant.counts c.take_next.ensures.counts;
+      permissions = c.take_next.ensures.permissions ∙ c.items.invariant.permissions;
       served = serves_then (rules_of c.args.part.now.table.now) None (heard [] []) (heard [] []) c.args.node.now c.items.node c.take_next.new.node (outside (g.L.Link.pieces c.args.link.now) (g.R.RecLock.state c.args.lock.now)) (outside (g.L.Link.pieces c.items.link) (g.R.RecLock.state c.items.lock)) (outside (g.L.Link.pieces c.take_next.new.link) (g.R.RecLock.state c.take_next.new.lock))
           c.items.invariant.served c.in-Ok-true.ensures.outside;
     }
@@ -40,6 +41,7 @@ items-init g c =
     record {
       goes_on = goes_same (rules_of c.args.part.now.table.now) c.args.part.now.script.now c.args.node.now c.args.cue.now;
       counts = fell_same (both (link c.args.link.now) (lock c.args.lock.now));
+      permissions = refl;
       served = serves_same (rules_of c.args.part.now.table.now) None c.args.node.now (g.L.Link.pieces c.args.link.now) (g.R.RecLock.state c.args.lock.now) (λ t. tt) tt tt;
     }
 

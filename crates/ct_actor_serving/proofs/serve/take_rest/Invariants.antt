@@ -1,4 +1,4 @@
-use Rattle.std.proofs.Common.{◌-◌, [], None, length}
+use Rattle.std.proofs.Common.{◌≡◌, ◌-◌, [], None, length}
 use Rattle.ct_call.specs.Shown.{rules_of}
 use Rattle.ct_actor_serving.specs.Outside.{ServesOn, heard, outside}
 use Rattle.ct_actor_serving.specs.Serving.{GoesOn, NoneFell, both, of_link, of_lock}
@@ -12,6 +12,7 @@ invariant-items g l =
     record {
       goes_on : GoesOn (rules_of l.initial.part.table.now) l.initial.part.script.now l.initial.node l.initial.cue l.node l.cue;
       counts : NoneFell (both (link l.initial.link) (lock l.initial.lock)) (both (link l.link) (lock l.lock));
+      permissions : g.L.Link.permissions l.link ≡ g.L.Link.permissions l.initial.link;
       served : ServesOn (rules_of l.initial.part.table.now) None (heard [] []) l.initial.node l.node (outside (g.L.Link.pieces l.initial.link) (g.R.RecLock.state l.initial.lock)) (outside (g.L.Link.pieces l.link) (g.R.RecLock.state l.lock));
     }
 

@@ -9,6 +9,8 @@ use Rattle.ct_actor_serving.proofs.Turning.{turn_ends, turn_item, turn_piece}
 use Rattle.ct_outside.specs.Told.{Told}
 use Rattle.ct_outside.specs.declared.link.Received.{Received}
 use Rattle.ct_actor_serving.specs.Outside.{TakesOnly, taken_in}
+use Rattle.ct_actor_serving.specs.Turns.{may_wait_at}
+use Rattle.ct_actor_serving.proofs.Turns.{asked}
 use Rattle.ct_actor_serving.proofs.serve.turn.Goals as goal
 
 pub returns-in-Ok-clause-goes_on : goal.returns-in-Ok-clause-goes_on
@@ -84,3 +86,33 @@ returns-in-Ok-Piece-clause-next g c =
 
 pub returns-clause-next : goal.returns-clause-next
 returns-clause-next g c = no_item (rules_of c.args.part.now.table.now) c.args.part.now.script.now (Some c.in-Err.fault) c.args.node.now c.args.cue.now c.in-Err.ensures.item
+
+pub returns-in-Ok-clause-permissions : goal.returns-in-Ok-clause-permissions
+returns-in-Ok-clause-permissions g c =
+    let perm = g.L.Link.permissions in
+    asked c.may_wait-waits.result (may_wait_at c.args.part.now.script.now c.args.cue.now) (perm c.args.link.now) (perm c.look.new.link) (perm c.take_piece.new.link) c.may_wait-waits.ensures.may c.look.ensures.permissions c.take_piece.ensures.permissions
+
+pub returns-in-Ok-Piece-clause-permissions : goal.returns-in-Ok-Piece-clause-permissions
+returns-in-Ok-Piece-clause-permissions g c =
+    let perm = g.L.Link.permissions in
+    asked c.may_wait-waits.result (may_wait_at c.args.part.now.script.now c.args.cue.now) (perm c.args.link.now) (perm c.look.new.link) (perm c.take_piece.new.link) c.may_wait-waits.ensures.may c.look.ensures.permissions c.take_piece.ensures.permissions
+
+pub returns-in-Ok-take_next-clause-permissions : goal.returns-in-Ok-take_next-clause-permissions
+returns-in-Ok-take_next-clause-permissions g c =
+    let perm = g.L.Link.permissions in
+    asked c.may_wait-waits.result (may_wait_at c.args.part.now.script.now c.args.cue.now) (perm c.args.link.now) (perm c.look.new.link) (perm c.take_next.new.link) c.may_wait-waits.ensures.may c.look.ensures.permissions c.take_next.ensures.permissions
+
+pub returns-in-Ok-Nothing-clause-permissions : goal.returns-in-Ok-Nothing-clause-permissions
+returns-in-Ok-Nothing-clause-permissions g c =
+    let perm = g.L.Link.permissions in
+    asked c.may_wait-waits.result (may_wait_at c.args.part.now.script.now c.args.cue.now) (perm c.args.link.now) (perm c.look.new.link) (perm c.take_next.new.link) c.may_wait-waits.ensures.may c.look.ensures.permissions c.take_next.ensures.permissions
+
+pub returns-in-Ok-Closed-clause-permissions : goal.returns-in-Ok-Closed-clause-permissions
+returns-in-Ok-Closed-clause-permissions g c =
+    let perm = g.L.Link.permissions in
+    asked c.may_wait-waits.result (may_wait_at c.args.part.now.script.now c.args.cue.now) (perm c.args.link.now) (perm c.look.new.link) (perm c.look.new.link) c.may_wait-waits.ensures.may c.look.ensures.permissions refl
+
+pub returns-clause-permissions : goal.returns-clause-permissions
+returns-clause-permissions g c =
+    let perm = g.L.Link.permissions in
+    asked c.may_wait-waits.result (may_wait_at c.args.part.now.script.now c.args.cue.now) (perm c.args.link.now) (perm c.look.new.link) (perm c.look.new.link) c.may_wait-waits.ensures.may c.look.ensures.permissions refl

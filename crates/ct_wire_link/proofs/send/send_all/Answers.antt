@@ -24,6 +24,7 @@ outs-preserved g c =
             faults = omega (arith, c.outs.invariant.faults, w.send_frame.ensures.cause.later);
             endings = omega (arith, c.outs.invariant.endings, w.send_frame.ensures.endings);
             looks = w.send_frame.ensures.looks ∙ c.outs.invariant.looks;
+            permissions = w.send_frame.ensures.permissions ∙ c.outs.invariant.permissions;
           })
       | in-Answer w ↦
           let next = next_answers c.args.outs.now c.outs.out-index c.out-item.result w.in-Answer.call w.in-Answer.answer c.outs-test.true c.out-item.is w.in-Answer.is in
@@ -32,6 +33,7 @@ outs-preserved g c =
             faults = c.outs.invariant.faults;
             endings = c.outs.invariant.endings;
             looks = c.outs.invariant.looks;
+            permissions = c.outs.invariant.permissions;
           })
       | in-Note w ↦
           let next = next_notes c.args.outs.now c.outs.out-index c.out-item.result w.in-Note.field-0 c.outs-test.true c.out-item.is w.in-Note.is in
@@ -40,5 +42,6 @@ outs-preserved g c =
             faults = c.outs.invariant.faults;
             endings = c.outs.invariant.endings;
             looks = c.outs.invariant.looks;
+            permissions = c.outs.invariant.permissions;
           })
     ]

@@ -12,4 +12,5 @@ invariant-outs g l =
       faults : link.faults l.initial.link ≤ link.faults l.link;
       endings : link.endings l.initial.link ≤ link.endings l.link;
       looks : link.looks l.link ≡ link.looks l.initial.link;
+      permissions : link.permissions l.link ≡ link.permissions l.initial.link;
     }

@@ -39,6 +39,7 @@ pieces-preserved g c =
       faults = omega (arith, c.pieces.invariant.faults, c.send.ensures.cause.later);
       endings = omega (arith, c.pieces.invariant.endings, c.send.ensures.endings);
       looks = c.send.ensures.looks ∙ c.pieces.invariant.looks;
+      permissions = c.send.ensures.permissions ∙ c.pieces.invariant.permissions;
     }
 
 pub returns-clause-pieces : goal.returns-clause-pieces

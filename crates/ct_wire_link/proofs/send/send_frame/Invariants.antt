@@ -13,6 +13,7 @@ invariant-pieces g l =
       faults : link.faults l.initial.link ≤ link.faults l.link;
       endings : link.endings l.initial.link ≤ link.endings l.link;
       looks : link.looks l.link ≡ link.looks l.initial.link;
+      permissions : link.permissions l.link ≡ link.permissions l.initial.link;
     }
 
 abbrev pub decreases-pieces : goal.decreases-pieces
