@@ -7,6 +7,7 @@ use Rattle.ct_outside.specs.declared.fault.LinkFault.{LinkFault}
 use Rattle.ct_outside.specs.declared.fault.LinkFault.TheVariants.{Failed, NoMemory}
 use Rattle.ct_outside.specs.declared.link.Received.{Received}
 use Rattle.ct_outside.specs.declared.link.Received.TheVariants as answer
+use Rattle.ct_links.specs.declared.link.LinkTally.{LinkTally}
 use Rattle.ct_links.specs.Lanes.{AllRest, Fails, FirstDoes, Gives, LaneState, Puts, all_ended}
 
 -- a node and the stream to it
@@ -14,18 +15,12 @@ pub record Joint (S : Type 0) : Type 0 where
   pub node : ℕ
   pub stream : S
 
--- how often the outside failed, how often the end was answered, and how often a look
-pub record Tally : Type 0 where
-  pub faults : ℕ
-  pub endings : ℕ
-  pub looks : ℕ
-
 -- the node whose link it is, the pieces that it sent to itself and has not received, the streams, and the counts
 pub record LinkState (S : Type 0) : Type 0 where
   pub me : ℕ
   pub own : List Parcel
   pub lanes : List (LaneState S)
-  pub tally : Tally
+  pub tally : LinkTally
 
 -- a stream that has not given its end
 abbrev pub open_lane : {S : Type 0} → Joint S → LaneState S
@@ -36,7 +31,7 @@ abbrev pub Opened : {S : Type 0} → List (Joint S) → List (LaneState S) → T
 Opened {S} peers lanes = (sorted : List (Joint S)) × IsPermutation peers sorted × IsNonDecreasingBy (λ p. p.node) sorted × (lanes ≡ map open_lane sorted)
 
 -- nothing has been answered
-abbrev pub no_answers : Tally
+abbrev pub no_answers : LinkTally
 no_answers = record { faults = 0; endings = 0; looks = 0 }
 
 -- one more where it happened
@@ -44,11 +39,11 @@ abbrev pub more_where : Bool → ℕ → ℕ
 more_where happened count = if happened then one_more count else count
 
 -- after a send: a failure is counted, and no other answer
-abbrev pub tally_sent : Result (Unit {0}) LinkFault → Tally → Tally
+abbrev pub tally_sent : Result (Unit {0}) LinkFault → LinkTally → LinkTally
 tally_sent r t = record t { faults = more_where (is_failure r) t.faults }
 
 -- after a look: a failure is counted as a fault, the end as an ending, and any answer that is no refusal as a look
-abbrev pub tally_looked : Result Received LinkFault → Tally → Tally
+abbrev pub tally_looked : Result Received LinkFault → LinkTally → LinkTally
 tally_looked r t = record {
   faults = more_where (is_failure r) t.faults;
   endings = more_where (is_end r) t.endings;

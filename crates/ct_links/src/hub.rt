@@ -191,6 +191,8 @@ impl<'a, R: Wait> Link for HubLink<'a, R> {
 
     ghost looks = { λ s. s.looks };
 
+    ghost permissions = { λ _. None };
+
     /// Puts the piece into the receiver's box, under one hold of the hub's lock.
     fn send(&mut self, to: u32, bytes: &[u8]) -> Result<(), LinkFault>
         ensures cause { RisesWhere (is_failure result) 0 0 }

@@ -34,8 +34,36 @@ impl<S> Model for Peer<S> {
     ghost view = { λ a. record { node = a.node; stream = a.stream } };
 }
 
+/// How often a link failed, answered that nothing will come any more, and answered a look. Only a link makes one. Each count
+/// stops at 2^64 - 1.
+#[derive(Clone, Copy, Debug)]
+pub struct LinkTally {
+    faults: u64,
+    endings: u64,
+    looks: u64,
+}
+
+impl LinkTally {
+    pub fn faults(&self) -> u64
+        ensures { result ≡ self.now.faults }
+    {
+        self.faults
+    }
+
+    pub fn endings(&self) -> u64
+        ensures { result ≡ self.now.endings }
+    {
+        self.endings
+    }
+
+    pub fn looks(&self) -> u64
+        ensures { result ≡ self.now.looks }
+    {
+        self.looks
+    }
+}
+
 /// One node's way to the others over streams, one for each. It tells no pieces, since other processes write to the streams.
-/// Its counts stop at 2^64 - 1.
 #[derive(Drop)]
 pub struct TcpLink<S = TcpStream> {
     alloc: Global,
@@ -44,9 +72,7 @@ pub struct TcpLink<S = TcpStream> {
     lanes: Vec<Lane<S>>,
     /// What the next look reads into. It is empty where that is still to be made.
     room: Vec<u8>,
-    faults: u64,
-    endings: u64,
-    looks: u64,
+    tally: LinkTally,
 }
 
 impl<S> Model for TcpLink<S> {
@@ -54,7 +80,7 @@ impl<S> Model for TcpLink<S> {
 
     ghost Value = { LinkState S };
 
-    ghost view = { λ a. record { me = a.me; own = a.own.items; lanes = a.lanes.items; tally = record { faults = a.faults; endings = a.endings; looks = a.looks } } };
+    ghost view = { λ a. record { me = a.me; own = a.own.items; lanes = a.lanes.items; tally = a.tally } };
 }
 
 /// The peers by ascending node.
@@ -102,14 +128,23 @@ impl<S: Read + Write + Drop> TcpLink<S> {
             own: VecDeque::new(alloc),
             lanes,
             room: Vec::new(alloc),
-            faults: 0,
-            endings: 0,
-            looks: 0,
+            tally: LinkTally {
+                faults: 0,
+                endings: 0,
+                looks: 0,
+            },
         })
     }
 }
 
 impl<S> TcpLink<S> {
+    /// What it has answered so far.
+    pub fn tally(&self) -> LinkTally
+        ensures { result ≡ self.now.tally }
+    {
+        self.tally
+    }
+
     // Keeps a piece that the node sends to itself.
     fn keep(&mut self, bytes: &[u8]) -> Result<(), NoMemory>
         ensures kept { OnOk result (self.new ≡ record self.old { own = self.old.own ++ parcel self.old.me bytes.now ∷ [] }) }
@@ -132,11 +167,11 @@ impl<S> TcpLink<S> {
     {
         match answer {
             Ok(Received::Closed) => {
-                self.endings = self.endings.saturating_add(1);
-                self.looks = self.looks.saturating_add(1);
+                self.tally.endings = self.tally.endings.saturating_add(1);
+                self.tally.looks = self.tally.looks.saturating_add(1);
             }
-            Ok(_) => self.looks = self.looks.saturating_add(1),
-            Err(LinkFault::Failed) => self.faults = self.faults.saturating_add(1),
+            Ok(_) => self.tally.looks = self.tally.looks.saturating_add(1),
+            Err(LinkFault::Failed) => self.tally.faults = self.tally.faults.saturating_add(1),
             Err(LinkFault::NoMemory) => {}
         }
     }
@@ -194,6 +229,8 @@ impl<S: Read + Write + Drop> Link for TcpLink<S> {
 
     ghost looks = { λ s. s.tally.looks };
 
+    ghost permissions = { λ _. None };
+
     /// Keeps a piece for the node itself, and writes one for another node to its stream, whether or not that has ended. A
     /// write that would block is tried again, up to 1,000,000 times in one call. A failure may leave a front of the piece
     /// written: it is answered at any other error, at a write that takes nothing, where no try is left, and where no stream
@@ -215,7 +252,7 @@ impl<S: Read + Write + Drop> Link for TcpLink<S> {
         match put_to(&mut self.lanes, to, bytes) {
             Ok(()) => Ok(()),
             Err(Failed) => {
-                self.faults = self.faults.saturating_add(1);
+                self.tally.faults = self.tally.faults.saturating_add(1);
                 Err(LinkFault::Failed)
             }
         }
