@@ -4,4 +4,5 @@ pub mod Walking
 pub mod Frames
 pub mod Steps
 pub mod Adding
+pub mod Growing
 pub mod Calls

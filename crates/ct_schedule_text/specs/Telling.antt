@@ -1,5 +1,5 @@
 -- The lines that journals in order print: those of the run that they make, told from their entries alone.
-use Rattle.std.specs.Prelude.{◌≡◌, ℕ, ◌+◌, nat_eq, Bool, true, false, ◌&&◌, if◌then◌else◌, List, [], ◌∷◌, ◌++◌, Option, None, Some}
+use Rattle.std.specs.Prelude.{◌≡◌, ◌≢◌, ◌≤◌, ◌⊎◌, ◌^◌, ℕ, ◌+◌, nat_eq, Bool, true, false, ◌&&◌, if◌then◌else◌, List, [], ◌∷◌, ◌++◌, Option, None, Some}
 use Rattle.std.specs.List.{flat_map}
 use Rattle.ct_values.specs.declared.client.Answer.{Answer}
 use Rattle.ct_values.specs.declared.client.Answer.TheVariants as answer
@@ -119,11 +119,21 @@ told_from js (n ∷ ns) t = lines_then (told_if_next n (next_entry js t.front n)
 
 -- ---- what a call adds to a text
 
--- A call that tells what is to be told adds its lines to the text, and is as far as that. One that does not tell says nothing.
+-- the number of a message, or that of a call among those of all nodes, reaches 2^62
+abbrev pub IsPastLimit : Telling → Type 0
+IsPastLimit t = (2 ^ 62 ≤ t.sent) ⊎ (2 ^ 62 ≤ t.asked)
+
+-- A call that tells what is to be told adds its lines to the text, and is as far as that. One that does not tell has nothing to
+-- tell, or a number would reach 2^62.
 abbrev pub AddsLines : Config → Bool → Option ToldLines → Telling → List ℕ → List ℕ → Type 0
 AddsLines c true (Some u) t before now = (t ≡ u.telling) × (now ≡ before ++ flat_map (line_text c) u.lines)
 AddsLines c true None t before now = ⊥
-AddsLines c false o t before now = Unit {0}
+AddsLines c false (Some u) t before now = IsPastLimit u.telling
+AddsLines c false None t before now = Unit {0}
+
+-- Nothing tells all lines of journals in this order, or a call is open at their end, or a number would reach 2^62
+abbrev pub AreUntold : List Journal → List ℕ → Type 0
+AreUntold js order = (u : ToldLines) → told_from js order (first_telling js) ≡ Some u → (u.telling.calls ≢ []) ⊎ IsPastLimit u.telling
 
 -- All lines of journals in this order, at whose end no call is open, and how many messages they tell of
 pub record AreLines (c : Config) (js : List Journal) (order : List ℕ) (text : List ℕ) (sent : ℕ) : Type 0 where

@@ -1,11 +1,11 @@
 //! The lines of an entry, and those of all.
-ghost use Rattle.std.specs.Prelude.{◌≡◌, ◌+◌, ◌↔◌, ◌++◌, [], IfOk, IfSome, IsTrue, MatchOption, None, OnOk, Some, slice_get, slice_set};
+ghost use Rattle.std.specs.Prelude.{◌≡◌, ◌<◌, ◌+◌, ◌-◌, ◌^◌, ◌↔◌, ◌++◌, [], length, IfOk, IfSome, IsTrue, MatchOption, None, OnOk, Some, slice_get, slice_set};
 ghost use Rattle.std.specs.List.{flat_map, remove};
 ghost use Rattle.ct_frame.specs.declared.event.Out.TheVariants as out;
 ghost use Rattle.ct_rules_node.specs.Node.{or_zero};
 ghost use Rattle.ct_text.specs.Line.{line_text};
-ghost use Rattle.ct_journal.specs.Order.{next_entry, ticket_after};
-ghost use Rattle.ct_schedule_text.specs.Telling.{AddsLines, AreLines, first_telling, is_asked_call, names_no_call, open_call, open_without, entry_passed, told_answered, told_entry, told_event, told_from, told_if_next, told_out, told_outs, told_yield};
+ghost use Rattle.ct_journal.specs.Order.{next_entry, taken_of, ticket_after};
+ghost use Rattle.ct_schedule_text.specs.Telling.{AddsLines, AreLines, AreUntold, first_telling, is_asked_call, names_no_call, open_call, open_without, entry_passed, told_answered, told_entry, told_event, told_from, told_if_next, told_out, told_outs, told_yield};
 
 use ct_frame::event::{Event, Out};
 use ct_frame::frame::Frame;
@@ -109,16 +109,14 @@ fn taken_at(taken: &[usize], node: u32) -> usize
     }
 }
 
-/// One entry more of a node is told, where the node has its place and the count stays in range.
-fn count_taken(taken: &mut Vec<usize>, node: u32) -> bool
-    ensures { IsTrue result → taken.new.items ≡ slice_set taken.old.items node (or_zero (slice_get taken.old.items node) + 1) }
+/// One entry more of a node is told.
+fn count_taken(taken: &mut Vec<usize>, node: u32)
+    requires there { node < length taken.old.items }
+    requires room { or_zero (slice_get taken.old.items node) < 2 ^ 64 - 1 }
+    ensures { taken.new.items ≡ slice_set taken.old.items node (or_zero (slice_get taken.old.items node) + 1) }
 {
     let count = taken_at(taken.as_slice(), node);
-    if taken.len() <= node as usize || usize::MAX <= count {
-        return false;
-    }
     taken[node as usize] = count + 1;
-    true
 }
 
 /// The last ticket once an event has come.
@@ -280,7 +278,8 @@ impl Teller {
         node: u32,
         event: &Event,
     ) -> Result<bool, NoMemory>
-        ensures { IfOk result (λ told. AddsLines config.now told (told_event node event.now self.old) self.new text.old.items text.new.items) }
+        ensures front { self.new.front ≡ self.old.front }
+        ensures lines { IfOk result (λ told. AddsLines config.now told (told_event node event.now self.old) self.new text.old.items text.new.items) }
     {
         match event {
             Event::Client { call, .. } => {
@@ -311,18 +310,17 @@ impl Teller {
 
     /// An entry of the node with this event is told.
     #[tactic(auto, unfolding(crate::specs::Telling::entry_passed, ct_journal::specs::Order::front_after, ct_journal::specs::Order::taken_of))]
-    fn pass(&mut self, node: u32, event: &Event) -> bool
-        ensures { IsTrue result → self.new ≡ entry_passed node event.now self.old }
+    fn pass(&mut self, node: u32, event: &Event)
+        requires there { node < length self.old.front.taken }
+        requires room { taken_of self.old.front node < 2 ^ 64 - 1 }
+        ensures { self.new ≡ entry_passed node event.now self.old }
     {
-        if !count_taken(&mut self.taken, node) {
-            return false;
-        }
+        count_taken(&mut self.taken, node);
         self.ticket = ticket_after(event, self.ticket);
-        true
     }
 
     /// Tells an entry of the node.
-    #[tactic(auto, unfolding(crate::specs::Telling::told_entry), using(crate::proofs::Adding::adds_both))]
+    #[tactic(auto, unfolding(crate::specs::Telling::told_entry), using(crate::proofs::Adding::adds_both, crate::proofs::Growing::fails_second))]
     fn tell_entry(
         &mut self,
         text: &mut Vec<u8>,
@@ -330,29 +328,31 @@ impl Teller {
         node: u32,
         entry: &JournalEntry,
     ) -> Result<bool, NoMemory>
+        requires there { node < length self.old.front.taken }
+        requires room { taken_of self.old.front node < 2 ^ 64 - 1 }
         ensures { IfOk result (λ told. AddsLines config.now told (told_entry node entry.now self.old) self.new text.old.items text.new.items) }
     {
         if !self.tell_event(text, config, node, &entry.event)? {
             return Ok(false);
         }
-        if !self.pass(node, &entry.event) {
-            return Ok(false);
-        }
+        self.pass(node, &entry.event);
         self.tell_outs(text, config, node, entry.outs.as_slice())
     }
 
     /// The entry of a node that comes next.
     #[tactic(auto, unfolding(ct_journal::specs::Order::next_entry, ct_journal::specs::Order::entries_of, ct_journal::specs::Order::or_no_entries, ct_journal::specs::Order::taken_of))]
     fn next_entry<'a>(&self, journals: &'a [Journal], node: u32) -> Option<&'a JournalEntry>
-        ensures { MatchOption result (next_entry journals.now self.now.front node ≡ None) (λ x. next_entry journals.now self.now.front node ≡ Some x.now) }
+        ensures next { MatchOption result (next_entry journals.now self.now.front node ≡ None) (λ x. next_entry journals.now self.now.front node ≡ Some x.now) }
+        ensures there { IfSome result (λ x. node < length journals.now) }
+        ensures room { IfSome result (λ x. taken_of self.now.front node < 2 ^ 64 - 1) }
     {
-        match journals.get(node as usize) {
-            Some(journal) => journal
-                .entries
-                .as_slice()
-                .get(taken_at(self.taken.as_slice(), node)),
-            None => None,
+        let journal = journals.get(node as usize)?;
+        let entries = journal.entries.as_slice();
+        let count = taken_at(self.taken.as_slice(), node);
+        if entries.len() <= count {
+            return None;
         }
+        Some(&entries[count])
     }
 
     /// Tells the next entry of a node, where it has one more.
@@ -364,6 +364,7 @@ impl Teller {
         journals: &[Journal],
         node: u32,
     ) -> Result<bool, NoMemory>
+        requires places { length self.old.front.taken ≡ length journals.now }
         ensures { IfOk result (λ told. AddsLines config.now told (told_if_next node (next_entry journals.now self.old.front node) self.old) self.new text.old.items text.new.items) }
     {
         match self.next_entry(journals, node) {
@@ -380,6 +381,7 @@ impl Teller {
         journals: &[Journal],
         order: &[u32],
     ) -> Result<bool, NoMemory>
+        requires places { length self.old.front.taken ≡ length journals.now }
         ensures { IfOk result (λ told. AddsLines config.now told (told_from journals.now order.now self.old) self.new text.old.items text.new.items) }
     {
         for node in order {
@@ -391,16 +393,17 @@ impl Teller {
     }
 }
 
-/// The lines of journals in this order, and how many messages they tell of. `None` where they are not told from the entries
-/// alone: a call stays open, an answer names another call or one that is not open, or an entry is missing or none of a plan's.
-#[tactic(auto, using(crate::proofs::Adding::are_lines))]
+/// The lines of journals in this order, and how many messages they tell of. `None` only where they are not told from the entries
+/// alone: a call stays open, an answer names another call or one that is not open, or an entry is missing or none of a plan's; or
+/// where the number of a message or a call would reach 2^62.
+#[tactic(auto, using(crate::proofs::Adding::are_lines, crate::proofs::Growing::are_untold, crate::proofs::Growing::are_open, crate::proofs::Growing::first_places))]
 pub fn lines_of(
     alloc: Global,
     config: &Config,
     journals: &[Journal],
     order: &[u32],
 ) -> Result<Option<Lines>, NoMemory>
-    ensures { IfOk result (λ o. IfSome o (λ v. AreLines config.now journals.now order.now v.text.items v.sent)) }
+    ensures { IfOk result (λ o. MatchOption o (AreUntold journals.now order.now) (λ v. AreLines config.now journals.now order.now v.text.items v.sent)) }
 {
     let mut teller = Teller::new(alloc, journals)?;
     let mut text = Vec::new(alloc);

@@ -16,7 +16,7 @@ use Rattle.ct_script.specs.Sound.{IsSound}
 use Rattle.ct_troupe.specs.Played.{ArePlayed}
 use Rattle.ct_troupe_run.specs.Text.{IsRunText}
 use Rattle.ct_troupe_run.proofs.Told.{has_text}
-use Rattle.ct_chain_troupe.specs.Columns.{ArePlayedIn}
+use Rattle.ct_troupe.specs.Columns.{ArePlayedIn}
 use Rattle.ct_troupe_run.specs.Columns.{AreColumns, Column, IsColumn, IsTold, WritesColumn, WritesColumns, all_counts, both_counts, column_text, columns_text}
 use Rattle.ct_troupe_run.specs.declared.columns.Counts.{Counts}
 

@@ -24,10 +24,10 @@ use Rattle.ct_journal_order.specs.Order.{IsOrderOf, tally_of}
 use Rattle.ct_script.specs.Sound.{IsSound}
 use Rattle.ct_rules_config.specs.Configured.{IsConfig}
 use Rattle.ct_schedule_text.specs.Schedule.{run_text}
-use Rattle.ct_schedule_text.specs.Telling.{AreLines, ToldLines, first_telling, told_from}
+use Rattle.ct_schedule_text.specs.Telling.{AreLines, AreUntold, ToldLines, first_telling, told_from}
 use Rattle.ct_text.specs.Line.{line_text, pending_text}
 use Rattle.ct_troupe.specs.Played.{ArePlayed}
-use Rattle.ct_troupe_run.specs.Text.{IsRunText, run_of}
+use Rattle.ct_troupe_run.specs.Text.{AreUntoldInOrder, IsRunText, run_of}
 
 -- the entries are counted: neither count has reached its end
 pub counted : (js : List Journal) → AreInOrder js → (tally_of (all_entries js)).all - (tally_of (all_entries js)).sent ≡ length (all_entries js)
@@ -118,3 +118,11 @@ lines_told rules p js order lines sent sound io al a =
     let stands = (promise c rules ss sound.config).3 in
     let none = none_waits (pending r.cluster) r.log stands.waiting (told.closed al.none_open) in
     steps_told rules p js ss lines sent sound a (λ d rs runs. in_order_is_scheduled d rs js runs o) (run_told c r al.told lines told none al.text_is) (al.sent_is ∙ sym told.sent)
+
+-- ---- what is not told
+
+pub in_no_order : (js : List Journal) → (AreInOrder js → ⊥) → AreUntoldInOrder js
+in_no_order js h = inl h
+
+pub untold_in_order : (js : List Journal) (order : List ℕ) → IsOrderOf js order → AreUntold js order → AreUntoldInOrder js
+untold_in_order js order is h = inr (is.in_order, subst (λ (ns : List ℕ). AreUntold js ns) is.same h)

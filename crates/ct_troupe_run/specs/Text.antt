@@ -1,5 +1,5 @@
 -- What the text of a run is that journals tell.
-use Rattle.std.specs.Prelude.{◌≡◌, ℕ, List, [], length}
+use Rattle.std.specs.Prelude.{◌≡◌, ◌⊎◌, ℕ, List, [], length}
 use Rattle.ct_values.specs.declared.config.Config.{Config}
 use Rattle.ct_call.specs.Rules.{Rules}
 use Rattle.ct_frame.specs.declared.plan.Plan.{Plan}
@@ -7,12 +7,14 @@ use Rattle.ct_rules_config.specs.Configured.{IsConfig}
 use Rattle.ct_rules_cluster.specs.Cluster.{opening}
 use Rattle.ct_rules_cluster.specs.Traces.{Ran, ran}
 use Rattle.ct_rules_cluster.specs.declared.step.Step.{Step}
+use Rattle.ct_journal.specs.Order.{AreInOrder}
 use Rattle.ct_journal.specs.Schedules.{IsSchedule}
 use Rattle.ct_journal.specs.declared.journal.Journal.{Journal}
 use Rattle.ct_promise.specs.Marked.{MarksRun, no_marks}
 use Rattle.ct_promise.specs.Promises.{Keeps}
 use Rattle.ct_register.specs.Lines as lines
 use Rattle.ct_schedule_text.specs.Schedule.{run_text}
+use Rattle.ct_schedule_text.specs.Telling.{AreUntold}
 use Rattle.ct_troupe.specs.Played.{ArePlayed}
 
 -- the run of these steps, taken one after the other from the opening
@@ -23,6 +25,10 @@ run_of c rules steps = ran c rules (opening c) [] steps
 -- accept all that it told, from the opening on, and its cluster stands for them; step by step marks hold and go on.
 abbrev pub StepsKeepPromise : Config → Rules → List Step → Type 0
 StepsKeepPromise c rules steps = IsConfig c × Keeps c rules (run_of c rules steps) × MarksRun c rules (opening c) [] (lines.opening c) (λ g. no_marks) steps
+
+-- Journals are in no order, or not all of their lines are told in one
+abbrev pub AreUntoldInOrder : List Journal → Type 0
+AreUntoldInOrder js = (AreInOrder js → ⊥) ⊎ ((o : AreInOrder js) × AreUntold js o.order)
 
 -- Plays: journals are those of a plan, and a text is that of the run of a schedule of them, which keeps the promise and sent so
 -- many messages

@@ -4,18 +4,18 @@ ghost use Rattle.ct_call.specs.Shown.{rules_of};
 ghost use Rattle.ct_outside.specs.Causes.{HasWriteCause};
 ghost use Rattle.ct_script.specs.Sound.{IsSound};
 ghost use Rattle.ct_troupe.specs.Played.{ArePlayed};
-ghost use Rattle.ct_chain_troupe.specs.Columns.{ArePlayedIn};
+ghost use Rattle.ct_troupe.specs.Columns.{ArePlayedIn};
 ghost use Rattle.ct_troupe_run.specs.Columns.{IsTold, WritesColumn, WritesColumns, column_text};
 
 use crate::text::{count_entries, run_text};
 use ct_call::table::CallTable;
-use ct_chain_troupe::columns::Columns;
 use ct_frame::plan::Plan;
 use ct_journal::journal::Journal;
 use ct_outside::fault::SinkFault;
 use ct_outside::sink::{Sink, write_all};
 use ct_schedule_text::telling::Lines;
 use ct_text::words::{push, push_number};
+use ct_troupe::columns::Columns;
 use ct_values::memory::NoMemory;
 use std::alloc::Global;
 

@@ -1,11 +1,11 @@
 //! The text of a run that journals tell.
-ghost use Rattle.std.specs.Prelude.{◌≡◌, ◌<◌, ◌^◌, length, IfOk, IfSome};
+ghost use Rattle.std.specs.Prelude.{◌≡◌, ◌<◌, ◌^◌, length, IfOk, MatchOption};
 ghost use Rattle.ct_call.specs.Rules.{Rules};
 ghost use Rattle.ct_call.specs.Shown.{rules_of};
 ghost use Rattle.ct_journal.specs.Order.{AreInOrder, all_entries};
 ghost use Rattle.ct_script.specs.Sound.{IsSound};
 ghost use Rattle.ct_troupe.specs.Played.{ArePlayed};
-ghost use Rattle.ct_troupe_run.specs.Text.{IsRunText};
+ghost use Rattle.ct_troupe_run.specs.Text.{AreUntoldInOrder, IsRunText};
 
 use ct_call::table::CallTable;
 use ct_frame::plan::Plan;
@@ -29,17 +29,20 @@ pub fn count_entries(journals: &[Journal]) -> u64
 }
 
 /// The text of the run of a schedule of the journals that a plan left, told from their entries alone, and how many messages it sent.
-/// None where that does not tell all.
-#[tactic(auto, using(crate::proofs::Told::lines_told))]
+/// None only where that does not tell all, or a number would reach 2^62.
+#[tactic(auto, using(crate::proofs::Told::lines_told, crate::proofs::Told::in_no_order, crate::proofs::Told::untold_in_order))]
 fn told_lines(alloc: Global, plan: &Plan, journals: &[Journal]) -> Result<Option<Lines>, NoMemory>
     requires sound { IsSound plan.now }
     requires few { length journals.now < 2 ^ 32 }
-    ensures { IfOk result (λ o. IfSome o (λ v. (rules : Rules) → ArePlayed rules plan.now journals.now → IsRunText rules plan.now journals.now v.text.items v.sent)) }
+    ensures { IfOk result (λ o. MatchOption o (AreUntoldInOrder journals.now) (λ v. (rules : Rules) → ArePlayed rules plan.now journals.now → IsRunText rules plan.now journals.now v.text.items v.sent)) }
 {
     let Some(order) = order_of(alloc, journals)? else {
         return Ok(None);
     };
-    lines_of(alloc, &plan.config, journals, order.as_slice())
+    match lines_of(alloc, &plan.config, journals, order.as_slice())? {
+        Some(lines) => Ok(Some(lines)),
+        None => Ok(None),
+    }
 }
 
 /// The text of the run of a schedule of the journals that a plan left, as a cluster plays it, and how many messages it sent.
