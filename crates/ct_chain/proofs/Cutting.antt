@@ -16,6 +16,7 @@ use Rattle.ct_frame.specs.declared.plan.PlanItem.TheVariants.{Call, Round}
 use Rattle.ct_rules_cluster.specs.Cluster.{numbers}
 use Rattle.ct_rules_cluster.proofs.Numbers.{numbers_more}
 use Rattle.ct_rules_node.specs.Clients.{is_commit}
+use Rattle.ct_script.proofs.Soundness.{length_numbers}
 use Rattle.ct_script.specs.Sound.{IsSound, has_round, is_round, may_be_told, or_no_items, script_of}
 use Rattle.ct_chain.specs.Chains.{chain_of, chain_of_record}
 use Rattle.ct_chain.specs.Cut.{cut, cut_one, cut_script, in_chain}
@@ -91,13 +92,8 @@ cut_sound p chains i s = record {
 
 -- ---- the plans of the columns
 
-so_many : (i k : ℕ) → length (numbers i k) ≡ k
-unfolding numbers
-so_many i zero = refl
-so_many i (suc k) = ap suc (so_many (i + 1) k)
-
 pub length_cut : (p : Plan) (chains : ℕ) → length (cut p chains) ≡ chains
-length_cut p chains = length-map (numbers 0 chains) (cut_one p chains) ∙ so_many 0 chains
+length_cut p chains = length-map (numbers 0 chains) (cut_one p chains) ∙ length_numbers 0 chains
 
 pub cut_more : (p : Plan) (chains n : ℕ) → map (cut_one p chains) (numbers 0 (n + 1)) ≡ map (cut_one p chains) (numbers 0 n) ++ cut_one p chains n ∷ []
 cut_more p chains n = ap (map (cut_one p chains)) (numbers_more n) ∙ map-append (cut_one p chains) (numbers 0 n) (n ∷ [])

@@ -1,3 +1,6 @@
 pub mod Both
 pub mod Played
 pub mod Stages
+pub mod Columns
+pub mod ColumnTurns
+pub mod Laws

@@ -3,4 +3,6 @@ pub mod Joining
 pub mod Serving
 pub mod Settling
 pub mod Threading
+pub mod Meshing
 pub mod Arriving
+pub mod Ending

@@ -1,5 +1,5 @@
 -- A node that has served.
-use Rattle.std.proofs.Common.{◌≡◌, ◌∙◌, ℕ, List, [], ◌++◌, Option, None, true, ◌⊎◌, inl, inr, refl, sym, ap, subst}
+use Rattle.std.proofs.Common.{◌≡◌, ◌∙◌, ℕ, ◌<◌, ◌≤◌, List, [], ◌++◌, Option, None, true, ◌⊎◌, inl, inr, refl, sym, ap, subst, arith}
 use Rattle.std.specs.Prelude.{Ok, length}
 use Rattle.std.specs.List.{list_all}
 use Rattle.ct_call.specs.Rules.{Rules}
@@ -13,11 +13,14 @@ use Rattle.ct_law_journal_growing.proofs.Following.{ends_scripted}
 use Rattle.ct_actor.specs.Journalled.{Journalled, at_opening}
 use Rattle.ct_actor.proofs.Running.{run_of}
 use Rattle.ct_script.specs.Sound.{IsSound, may_be_told, script_of}
-use Rattle.ct_actor_serving.specs.Serving.{Counts, EndsBy, HasActed}
+use Rattle.ct_actor_serving.specs.Serving.{Counts, EndsBy, HasActed, of_link}
 use Rattle.ct_actor_serving.specs.declared.fault.Served.{Served}
 use Rattle.ct_actor_serving.specs.declared.fault.Served.TheVariants as served
 use Rattle.ct_actor_serving.specs.declared.fault.Until.TheVariants as until
-use Rattle.ct_troupe_threads.specs.Threaded.{HadTurns, HasServed, ServedFor, all_turns}
+use Rattle.ct_links.specs.Streams.{LinkState, no_answers}
+use Rattle.ct_links.specs.declared.link.LinkTally.{LinkTally}
+use Rattle.ct_troupe_threads.specs.Meshed.{HadTurns, all_turns}
+use Rattle.ct_troupe_threads.specs.Threaded.{HasServed, ServedFor}
 
 pub may_serve : (p : Plan) (n : ℕ) (x : Journalled) (script : List PlanItem) → IsSound p → x ≡ at_opening n p.config → script ≡ script_of p n → list_all (may_be_told x.core.config x.core.pnn) script ≡ true
 may_serve p n x script sound at is =
@@ -41,10 +44,15 @@ has_served rules p n served script first x j at is pnn config h j_is =
     (subst (λ (s : List PlanItem). HasActed rules s [] (Ok served) x) is
     (subst (λ (y : Journalled). HasActed rules script y.entries (Ok served) x) at h)))
 
-turns_of : (end : Served) (count : ℕ) (old new : Counts) → EndsBy (until.Turns all_turns) end count old new → HadTurns old new
-turns_of served.Closed count old new h = inl h
-turns_of served.Budget count old new h = inr h
+-- the link of a node that served for all its turns, and of which nothing was asked before, answered so
+turns_of : (end : Served) (count : ℕ) (old new : Counts) → old.ended ≡ 0 → old.looked ≡ 0 → EndsBy (until.Turns all_turns) end count old new → (0 < new.ended) ⊎ (all_turns ≤ new.looked)
+turns_of served.Closed count old new ended looked h = inl (omega (arith, ended, h))
+turns_of served.Budget count old new ended looked h = inr (omega (arith, looked, h))
 
--- a node that served for all its turns had them
-pub had_turns : (old new : Counts) (j : Journal) → ServedFor (until.Turns all_turns) old new j → HadTurns old new
-had_turns old new j h = turns_of h.0 (length j.entries) old new h.1
+module _ {S : Type 0} where
+  -- what the answers of a link count
+  abbrev pub counts_of : LinkState S → Counts
+  counts_of link = of_link (λ (s : LinkState S). s.tally.faults) (λ (s : LinkState S). s.tally.endings) (λ (s : LinkState S). s.tally.looks) link
+
+  pub had_turns : (old new : LinkState S) (j : Journal) → old.tally ≡ no_answers → ServedFor (until.Turns all_turns) (counts_of old) (counts_of new) j → HadTurns new.tally
+  had_turns old new j none h = turns_of h.0 (length j.entries) (counts_of old) (counts_of new) (ap (λ (t : LinkTally). t.endings) none) (ap (λ (t : LinkTally). t.looks) none) h.1

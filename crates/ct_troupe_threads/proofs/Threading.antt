@@ -20,20 +20,21 @@ use Rattle.ct_troupe.specs.Played.{ArePlayed}
 use Rattle.ct_script.proofs.Soundness.{no_script_past}
 use Rattle.ct_law_journal_schedule.proofs.Scheduled.{has_entries}
 
--- what each node leaves is the journal of a node that served, where it is one
-abbrev pub AllServed : Rules → Plan → List (Result (Option Journal) NoMemory) → Type 0
-AllServed rules p all = (n : ℕ) (r : Result (Option Journal) NoMemory) → slice_get all n ≡ Some r → IfOk r (λ o. IfSome o (HasServed rules p n))
+module _ {X : Type 0} where
+  -- what each node leaves is so, where it served to its end
+  abbrev pub AllServed : (ℕ → X → Type 0) → List (Result (Option X) NoMemory) → Type 0
+  AllServed P all = (n : ℕ) (r : Result (Option X) NoMemory) → slice_get all n ≡ Some r → IfOk r (λ o. IfSome o (P n))
 
-got_served : (js : List Journal) (n : ℕ) (j : Journal) → slice_get js n ≡ Some j → slice_get (map served js) n ≡ Some (served j)
-got_served [] n j e = absurd (cc)
-got_served (k ∷ ks) zero j e = ap (λ (x : Journal). Some (served x)) (same_Some k j e)
-got_served (k ∷ ks) (suc n) j e = got_served ks n j e
+  got_served : (xs : List X) (n : ℕ) (x : X) → slice_get xs n ≡ Some x → slice_get (map served xs) n ≡ Some (served x)
+  got_served [] n x e = absurd (cc)
+  got_served (y ∷ ys) zero x e = ap (λ (z : X). Some (served z)) (same_Some y x e)
+  got_served (y ∷ ys) (suc n) x e = got_served ys n x e
 
-each_served : (rules : Rules) (p : Plan) (all : List (Result (Option Journal) NoMemory)) (js : List Journal) → AllServed rules p all → all ≡ map served js → (n : ℕ) (j : Journal) → slice_get js n ≡ Some j → HasServed rules p n j
-each_served rules p all js h is n j e = h n (served j) (ap (λ (rs : List (Result (Option Journal) NoMemory)). slice_get rs n) is ∙ got_served js n j e)
+  pub each_served : (P : ℕ → X → Type 0) (all : List (Result (Option X) NoMemory)) (xs : List X) → AllServed P all → all ≡ map served xs → (n : ℕ) (x : X) → slice_get xs n ≡ Some x → P n x
+  each_served P all xs h is n x e = h n (served x) (ap (λ (rs : List (Result (Option X) NoMemory)). slice_get rs n) is ∙ got_served xs n x e)
 
-count_served : (all : List (Result (Option Journal) NoMemory)) (js : List Journal) → all ≡ map served js → length all ≡ length js
-count_served all js is = ap (λ (rs : List (Result (Option Journal) NoMemory)). length rs) is ∙ length-map js served
+  pub count_served : (all : List (Result (Option X) NoMemory)) (xs : List X) → all ≡ map served xs → length all ≡ length xs
+  count_served all xs is = ap (λ (rs : List (Result (Option X) NoMemory)). length rs) is ∙ length-map xs served
 
 own_entries : (js : List Journal) (n : ℕ) (j : Journal) → slice_get js n ≡ Some j → entries_of js n ≡ j.entries
 unfolding entries_of or_no_entries
@@ -56,11 +57,11 @@ scripted rules p js sound count each n = let b = sound.scripts in ⊎_elim
 runs : (rules : Rules) (p : Plan) (js : List Journal) → length js ≡ p.config.nodes → ((n : ℕ) (j : Journal) → slice_get js n ≡ Some j → HasServed rules p n j) → AreRuns p.config rules js
 runs rules p js count each = record { count = count; each = λ n j e. (each n j e).run }
 
-pub are_played : (rules : Rules) (p : Plan) (all : List (Result (Option Journal) NoMemory)) (js : List Journal) → IsSound p → length all ≡ p.config.nodes → AllServed rules p all → all ≡ map served js → AreInOrder js → ArePlayed rules p js
-are_played rules p all js sound count h is order =
-    let n = sym (count_served all js is) ∙ count in
-    let each = each_served rules p all js h is in
-    record { runs = runs rules p js n each; scripted = scripted rules p js sound n each; in_order = order }
+pub each_played : (rules : Rules) (p : Plan) (js : List Journal) → IsSound p → length js ≡ p.config.nodes → ((n : ℕ) (j : Journal) → slice_get js n ≡ Some j → HasServed rules p n j) → AreInOrder js → ArePlayed rules p js
+each_played rules p js sound count each order = record { runs = runs rules p js count each; scripted = scripted rules p js sound count each; in_order = order }
+
+pub are_played : (rules : Rules) (p : Plan) (all : List (Result (Option Journal) NoMemory)) (js : List Journal) → IsSound p → length all ≡ p.config.nodes → AllServed (HasServed rules p) all → all ≡ map served js → AreInOrder js → ArePlayed rules p js
+are_played rules p all js sound count h is order = each_played rules p js sound (sym (count_served all js is) ∙ count) (each_served (HasServed rules p) all js h is) order
 
 pub few_journals : (p : Plan) (all : List (Result (Option Journal) NoMemory)) (js : List Journal) → p.config.nodes < 2 ^ 32 → length all ≡ p.config.nodes → all ≡ map served js → length js < 2 ^ 32
 few_journals p all js few count is = let c = count_served all js is in omega arith

@@ -2,3 +2,4 @@ pub mod Meshed
 pub mod Meshes
 pub mod Threaded
 pub mod Threads
+pub mod Sides

@@ -1,5 +1,5 @@
 -- What nodes leave that served side by side.
-use Rattle.std.specs.Prelude.{◌≡◌, ℕ, ◌<◌, ◌⊎◌, nat_le, Bool, List, length, Option, Some, Result, Ok}
+use Rattle.std.specs.Prelude.{◌≡◌, ℕ, ◌<◌, nat_le, Bool, List, length, Option, Some, Result, Ok}
 use Rattle.ct_values.specs.declared.memory.NoMemory.{NoMemory}
 use Rattle.ct_call.specs.Rules.{Rules}
 use Rattle.ct_script.specs.Cues.{IsScripted, most_entries}
@@ -9,8 +9,7 @@ use Rattle.ct_journal.specs.declared.journal.Journal.{Journal}
 use Rattle.ct_law_journal_schedule.specs.Laws.{IsRunOf}
 use Rattle.ct_journal_order.specs.Order.{left_over}
 use Rattle.ct_script.specs.Sound.{script_of}
-use Rattle.ct_outside.specs.Causes.{Rose}
-use Rattle.ct_actor_serving.specs.Serving.{Counts, EndsBy, RoseBy}
+use Rattle.ct_actor_serving.specs.Serving.{Counts, EndsBy}
 use Rattle.ct_actor_serving.specs.declared.fault.Served.{Served}
 use Rattle.ct_actor_serving.specs.declared.fault.Until.{Until}
 
@@ -23,17 +22,9 @@ pub record HasServed (rules : Rules) (p : Plan) (n : ℕ) (j : Journal) : Type 0
 abbrev pub ServedFor : Until → Counts → Counts → Journal → Type 0
 ServedFor until old new j = (served : Served) × EndsBy until served (length j.entries) old new
 
--- Loopback: how many turns a node has
-abbrev pub all_turns : ℕ
-all_turns = 1000000
-
--- Loopback: its link answered that nothing will come any more, or so many looks
-abbrev pub HadTurns : Counts → Counts → Type 0
-HadTurns old new = Rose old.ended new.ended ⊎ RoseBy all_turns old.looked new.looked
-
 -- what a node leaves that served to its end
-abbrev pub served : Journal → Result (Option Journal) NoMemory
-served j = Ok (Some j)
+abbrev pub served : {X : Type 0} → X → Result (Option X) NoMemory
+served x = Ok (Some x)
 
 -- does the journal have all entries that a node takes?
 unfoldable pub has_most_entries : Journal → Bool

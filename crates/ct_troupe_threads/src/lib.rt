@@ -19,9 +19,20 @@
 //! loopback.play(alloc, &table, &plan)?;
 //! let journals = loopback.journals();
 //! ```
+//!
+//! Columns that are played side by side: each in a thread of its own, and in it each of its nodes.
+//!
+//! ```
+//! let mut troupe = ColumnThreads::new(rt, both, columns);
+//! troupe.play_all(alloc, &table, plans.as_slice())?;
+//! let journals = troupe.column(0);
+//! ```
 #![tactic(auto)]
 
 pub mod beside;
+pub mod column;
+pub mod column_gate;
+pub mod column_threads;
 pub mod gate;
 pub mod last_play;
 pub mod loopback;
@@ -29,5 +40,6 @@ pub mod mesh;
 pub mod meshed;
 mod node;
 pub mod settled;
+pub mod side;
 pub mod threaded;
 pub mod threads;

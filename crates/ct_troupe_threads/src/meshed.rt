@@ -1,20 +1,20 @@
 //! All nodes of a plan, over a mesh.
-ghost use Rattle.std.specs.Prelude.{◌≡◌, ◌<◌, ◌^◌, ℕ, true, Some, Err, IfOk, IfSome, length, map, slice_get};
+ghost use Rattle.std.specs.Prelude.{◌≡◌, ◌<◌, ◌^◌, ℕ, true, Some, Err, All, IfOk, IfSome, length, map, slice_get};
 ghost use Rattle.std.specs.List.{list_any};
 ghost use Rattle.ct_call.specs.Shown.{rules_of};
 ghost use Rattle.ct_script.specs.Sound.{IsSound};
-ghost use Rattle.ct_troupe_threads.specs.Meshed.{has_failed, joining_fault};
-ghost use Rattle.ct_troupe_threads.specs.Threaded.{HasServed, served};
+ghost use Rattle.ct_troupe_threads.specs.Meshed.{HadTurns, HasEnded, has_failed, joining_fault};
+ghost use Rattle.ct_troupe_threads.specs.Threaded.{served};
 ghost use Rattle.ct_troupe.specs.Played.{ArePlayed};
 ghost use Rattle.ct_troupe.specs.declared.troupe.PlayFault.TheVariants as fault;
 
 use crate::mesh::{MeshFault, mesh};
-use crate::node::serve_over;
+use crate::node::{NodeEnd, serve_over};
 use ct_call::table::CallTable;
 use ct_frame::plan::Plan;
 use ct_journal::journal::Journal;
 use ct_journal_order::order::in_order;
-use ct_links::link::Peer;
+use ct_links::link::{LinkTally, Peer};
 use ct_links::seats::LockBook;
 use ct_troupe::troupe::PlayFault;
 use ct_values::memory::NoMemory;
@@ -24,6 +24,13 @@ use std::sync::Wait;
 use std::thread;
 use std::thread::Threads;
 
+/// What all nodes leave that had their turns: their journals, and what their links answered, both in the order of the nodes.
+#[derive(Drop)]
+pub struct NodeEnds {
+    pub journals: Vec<Journal>,
+    pub tallies: Vec<LinkTally>,
+}
+
 /// The nodes serve, each in a thread of its own. What each of them leaves, in their order.
 fn serve_all<R: Threads + Wait + Sync>(
     rt: &R,
@@ -31,11 +38,11 @@ fn serve_all<R: Threads + Wait + Sync>(
     table: &CallTable,
     plan: &Plan,
     streams: &[Vec<Peer<TcpStream>>],
-) -> Result<Vec<Result<Option<Journal>, NoMemory>>, NoMemory>
+) -> Result<Vec<Result<Option<NodeEnd>, NoMemory>>, NoMemory>
     requires sound { IsSound plan.now }
     requires streams { length streams.now ≡ plan.now.config.nodes }
     ensures count { IfOk result (λ v. length v.items ≡ plan.now.config.nodes) }
-    ensures each { IfOk result (λ v. (n : ℕ) (r : _) → slice_get v.items n ≡ Some r → IfOk r (λ o. IfSome o (HasServed (rules_of table.now) plan.now n))) }
+    ensures each { IfOk result (λ v. (n : ℕ) (r : _) → slice_get v.items n ≡ Some r → IfOk r (λ o. IfSome o (HasEnded (rules_of table.now) plan.now n))) }
 {
     let book = LockBook::new(rt, alloc);
     let pages = &book;
@@ -43,9 +50,9 @@ fn serve_all<R: Threads + Wait + Sync>(
         rt,
         alloc,
         plan.config.nodes as usize,
-        &|node: usize| -> Result<Option<Journal>, NoMemory>
+        &|node: usize| -> Result<Option<NodeEnd>, NoMemory>
             requires { IsSound plan.now × (node < plan.now.config.nodes) × (node < 2 ^ 32) × (node < length streams.now) }
-            ensures { IfOk result (λ o. IfSome o (HasServed (rules_of table.entry.now) plan.entry.now node)) }
+            ensures { IfOk result (λ o. IfSome o (HasEnded (rules_of table.entry.now) plan.entry.now node)) }
         {
             serve_over(
                 alloc,
@@ -86,35 +93,49 @@ pub fn join_nodes<R: Net<Listener = TcpListener, Stream = TcpStream>>(
 }
 
 /// Could a node not serve to its end?
-fn some_failed(all: &[Result<Option<Journal>, NoMemory>]) -> bool
+fn some_failed(all: &[Result<Option<NodeEnd>, NoMemory>]) -> bool
     ensures { result ≡ list_any has_failed all.now }
 {
     all.iter().any(|left| matches!(left, Ok(None)))
 }
 
-/// The journals of nodes that all served to their end, in their order. `Link` exactly where one could not.
-fn journals_of(
+/// What nodes leave that all served to their end, in their order. `Link` exactly where one could not.
+fn ends_of(
     alloc: Global,
-    all: Vec<Result<Option<Journal>, NoMemory>>,
-) -> Result<Vec<Journal>, PlayFault>
-    ensures journals { IfOk result (λ v. all.items ≡ map served v.items) }
+    all: Vec<Result<Option<NodeEnd>, NoMemory>>,
+) -> Result<Vec<NodeEnd>, PlayFault>
+    ensures ends { IfOk result (λ v. all.items ≡ map served v.items) }
     ensures failed { list_any has_failed all.items ≡ true → result ≡ Err fault.Link }
     ensures link { result ≡ Err fault.Link → list_any has_failed all.items ≡ true }
 {
     if some_failed(all.as_slice()) {
         return Err(PlayFault::Link);
     }
-    let mut journals = Vec::new(alloc);
+    let mut ends = Vec::new(alloc);
     for left in all {
         match left? {
-            Some(journal) => match journals.push(journal) {
+            Some(end) => match ends.push(end) {
                 Ok(()) => {}
                 Err(_) => return Err(PlayFault::NoMemory),
             },
             None => return Err(PlayFault::Link),
         }
     }
-    Ok(journals)
+    Ok(ends)
+}
+
+/// Their journals, and what their links answered.
+fn parted(alloc: Global, ends: Vec<NodeEnd>) -> Result<NodeEnds, NoMemory>
+    ensures journals { IfOk result (λ e. e.journals.items ≡ map (λ x. x.journal) ends.items) }
+    ensures tallies { IfOk result (λ e. e.tallies.items ≡ map (λ x. x.tally) ends.items) }
+{
+    let mut journals = Vec::new(alloc);
+    let mut tallies = Vec::new(alloc);
+    for NodeEnd { journal, tally } in ends {
+        journals.push(journal)?;
+        tallies.push(tally)?;
+    }
+    Ok(NodeEnds { journals, tallies })
 }
 
 /// Plays the plan with one thread a node, each over its streams to the others and with a seat of one lock book. The streams stay
@@ -125,15 +146,17 @@ pub fn play_over_streams<R: Threads + Wait + Sync>(
     table: &CallTable,
     plan: &Plan,
     streams: &[Vec<Peer<TcpStream>>],
-) -> Result<Vec<Journal>, PlayFault>
+) -> Result<NodeEnds, PlayFault>
     requires sound { IsSound plan.now }
     requires streams { length streams.now ≡ plan.now.config.nodes }
-    ensures { IfOk result (λ v. ArePlayed (rules_of table.now) plan.now v.items) }
+    ensures played { IfOk result (λ e. ArePlayed (rules_of table.now) plan.now e.journals.items) }
+    ensures turns { IfOk result (λ e. (length e.tallies.items ≡ plan.now.config.nodes) × All HadTurns e.tallies.items) }
 {
     let all = serve_all(rt, alloc, table, plan, streams)?;
-    let journals = journals_of(alloc, all)?;
-    match in_order(alloc, journals.as_slice())? {
-        Some(_) => Ok(journals),
+    let ends = ends_of(alloc, all)?;
+    let left = parted(alloc, ends)?;
+    match in_order(alloc, left.journals.as_slice())? {
+        Some(_) => Ok(left),
         None => Err(PlayFault::Link),
     }
 }
