@@ -6,6 +6,7 @@ use Rattle.std.specs.Prelude.{Option, Some, slice_get}
 use Rattle.std.specs.Option.{option_map}
 use Rattle.atomic_table.specs.Seated.{TableId}
 use Rattle.ct_bus.specs.Ends.{out_queue, taken_from}
+use Rattle.ct_bus.proofs.Fronts.{same_some}
 use Rattle.ct_bus.specs.Opening.{AreColumns, AreRows, joined, new_shown, nothing, with_end}
 use Rattle.ct_bus.specs.Seats.{AreNew, AreReceiving, AreSending, Queues, Shown, messages_of, receiving, sending}
 use Rattle.ct_bus.specs.declared.seat.ReceiveSeat.{ReceiveSeat}
@@ -37,9 +38,6 @@ joined_many : (ss : List Shown) (es : List TakeEnd) → length es ≡ length ss 
 joined_many [] es l = refl
 joined_many (s ∷ ss) [] l = absurd (omega arith)
 joined_many (s ∷ ss) (e ∷ es) l = ap suc (joined_many ss es (omega arith))
-
-same_some : {A : Type 0} (a b : A) → Some a ≡ Some b → a ≡ b
-same_some a b e = cc
 
 abbrev no_messages : TableId → List Message
 no_messages q = []

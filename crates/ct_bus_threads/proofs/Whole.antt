@@ -7,6 +7,7 @@ use Rattle.std.proofs.lemmas.List.{ext_get_or, get_or-map, length-append, length
 use Rattle.std.proofs.lemmas.List.FromFn.{get_or-map-range_with_len, length-map-range_with_len, length-range_with_len}
 use Rattle.std.proofs.lemmas.Option.{get_or_from_slice_get, slice_get-get_or, slice_get-map, slice_get_within}
 use Rattle.std.specs.Option.{option_map}
+use Rattle.ct_bus.proofs.Fronts.{same_some}
 use Rattle.ct_bus.specs.Ends.{out_queue, taken_from}
 use Rattle.ct_bus.specs.Relay.{IsFront}
 use Rattle.ct_bus.specs.Seats.{AreFronts, AreNew, AreReceiving, AreSeats, AreSending, IsReceiving, IsSending, Queues, Shown, messages_of, posted_by, receiving, sending, taken_by}
@@ -115,9 +116,6 @@ all_handled hs scripts done count each =
     (λ i lt. each i (slice_index_or done i []) (slice_get-get_or done i [] lt) ∙ sym (get_or-map-range_with_len (λ (r : ℕ). exchanged_for hs r scripts) 0 (length scripts) i i [] (omega (arith, count)) (omega arith)))
 
 -- ---- all nodes
-
-same_some : {A : Type 0} (a b : A) → Some a ≡ Some b → a ≡ b
-same_some a b e = cc
 
 some_map : {A B : Type 0} (f : A → B) (xs : List A) (n : ℕ) (y : B) → slice_get (map f xs) n ≡ Some y → (x : A) × (slice_get xs n ≡ Some x) × (y ≡ f x)
 some_map f [] n y e = absurd (cc)

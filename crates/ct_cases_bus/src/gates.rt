@@ -1,4 +1,6 @@
 //! Gates that say which node goes on.
+ghost use Rattle.std.specs.Prelude.{None};
+
 use crate::handling::three_services;
 use crate::messages::{between, messages};
 use ct_bus_threads::exchange::exchange_in_threads;
@@ -30,6 +32,8 @@ struct Meeting<'a> {
 }
 
 impl<'a> Gate for Meeting<'a> {
+    ghost passes = { λ _. None };
+
     fn pass(&mut self, _node: u32, turn: u64) {
         if turn > 0 {
             return;
@@ -76,6 +80,8 @@ struct Held<'a> {
 }
 
 impl<'a> Gate for Held<'a> {
+    ghost passes = { λ _. None };
+
     fn pass(&mut self, node: u32, turn: u64) {
         if node == 0 {
             self.passed.fetch_add(1, Ordering::SeqCst);
