@@ -1,0 +1,9 @@
+pub mod Versions
+pub mod Telling
+pub mod Turning
+pub mod Stepping
+pub mod Running
+pub mod Small
+pub mod Newest
+pub mod Greatest
+pub mod Moments

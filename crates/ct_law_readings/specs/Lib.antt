@@ -1,0 +1,5 @@
+pub mod Readings
+pub mod Small
+pub mod Fresh
+pub mod Greatest
+pub mod Moments
