@@ -1,4 +1,7 @@
 pub mod Back
 pub mod Carrying
+pub mod Exact
+pub mod Keeping
+pub mod Moving
 pub mod Waiting
 pub mod Walking

@@ -17,12 +17,12 @@ use std::alloc::Global;
 /// The best row of a key that came: its RSN and its value, whether an entry's, and from which node; and whether an entry came
 /// at all.
 #[derive(Debug, Drop, PartialEq, Eq)]
-pub(crate) struct Best {
-    pub(crate) rsn: u64,
-    pub(crate) of_entry: bool,
-    pub(crate) node: u32,
-    pub(crate) value: Value,
-    pub(crate) has_entry: bool,
+pub struct Best {
+    pub rsn: u64,
+    pub of_entry: bool,
+    pub node: u32,
+    pub value: Value,
+    pub has_entry: bool,
 }
 
 impl Best {

@@ -1,8 +1,10 @@
 //! A traverse of a whole cluster: what all members of a generation have of a database, asked for while clients go on.
 #![tactic(auto)]
 
-mod best;
+pub mod best;
+pub mod laws;
 pub mod line;
-mod post;
-mod traverse;
+pub mod post;
+pub mod text;
+pub mod traverse;
 pub mod walker;

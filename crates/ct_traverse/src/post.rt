@@ -15,15 +15,15 @@ use std::marker::Model;
 /// A message of a traverse: it asks its receiver for what it has of a database, or, with rows, it answers that. What became of
 /// it is kept with it.
 #[derive(Drop)]
-pub(crate) struct Post {
-    pub(crate) sender: u32,
-    pub(crate) receiver: u32,
-    pub(crate) generation: u64,
-    pub(crate) traverse: u64,
-    pub(crate) db: u32,
-    pub(crate) pass: Pass,
-    pub(crate) rows: Option<Items<TableRow>>,
-    pub(crate) fate: Fate,
+pub struct Post {
+    pub sender: u32,
+    pub receiver: u32,
+    pub generation: u64,
+    pub traverse: u64,
+    pub db: u32,
+    pub pass: Pass,
+    pub rows: Option<Items<TableRow>>,
+    pub fate: Fate,
 }
 
 /// Every message of traverses, in the order of its number from 1. The first one that waits is known without a search.

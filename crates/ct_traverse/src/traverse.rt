@@ -19,15 +19,15 @@ use std::alloc::Global;
 /// A traverse of a database: who asks, the generation and its members, the pass that runs and who has not answered it yet, and
 /// what is kept of each key.
 #[derive(Drop)]
-pub(crate) struct Traverse {
-    pub(crate) number: u64,
-    pub(crate) node: u32,
-    pub(crate) generation: u64,
-    pub(crate) db: u32,
-    pub(crate) members: Items<u32>,
-    pub(crate) pass: Pass,
-    pub(crate) missing: Items<u32>,
-    pub(crate) kept: Store<Best>,
+pub struct Traverse {
+    pub number: u64,
+    pub node: u32,
+    pub generation: u64,
+    pub db: u32,
+    pub members: Items<u32>,
+    pub pass: Pass,
+    pub missing: Items<u32>,
+    pub kept: Store<Best>,
 }
 
 /// Are they one pass?
