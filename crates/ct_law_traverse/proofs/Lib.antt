@@ -1,0 +1,13 @@
+pub mod History
+pub mod Sights
+pub mod Assembly
+pub mod Members
+pub mod Snapshots
+pub mod Still
+pub mod Sound
+pub mod Asking
+pub mod Counting
+pub mod Moving
+pub mod Stepping
+pub mod Running
+pub mod Small
