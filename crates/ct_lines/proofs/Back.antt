@@ -4,6 +4,7 @@ use Rattle.std.specs.Fmt.{decimal}
 use Rattle.std.specs.List.{join_with_byte}
 use Rattle.std.specs.Prelude.{option_map}
 use Rattle.ct_values.specs.Address.{address_text}
+use Rattle.ct_values.specs.Number.{number_of}
 use Rattle.ct_values.specs.Spelling.{spelling}
 use Rattle.ct_rules_cluster.specs.declared.step.Step.{Step}
 use Rattle.ct_rules_cluster.specs.declared.step.Step.TheVariants as step
@@ -11,7 +12,7 @@ use Rattle.ct_values.specs.declared.client.Pair.{Pair}
 use Rattle.ct_values.specs.declared.config.DbKind.{DbKind}
 use Rattle.ct_values.specs.declared.config.DbKind.TheVariants.{Volatile, ReadOnly, Persistent}
 use Rattle.ct_lines.specs.declared.line.ScenarioLine.{ScenarioLine}
-use Rattle.ct_lines.specs.declared.line.ScenarioLine.TheVariants.{Config, Change, ByName, Settle, Ctdb}
+use Rattle.ct_lines.specs.declared.line.ScenarioLine.TheVariants.{Config, Change, ByName, Settle, Traverse, Ctdb}
 use Rattle.ct_lines.specs.declared.line.ConfigLine.{ConfigLine}
 use Rattle.ct_lines.specs.declared.line.ConfigLine.TheVariants as config
 use Rattle.ct_lines.specs.declared.line.NamedOp.{NamedOp}
@@ -20,9 +21,11 @@ use Rattle.ct_lines.specs.declared.line.Command.{Command}
 use Rattle.ct_lines.specs.declared.line.Command.TheVariants as command
 use Rattle.ct_lines.specs.declared.line.ShowCommand.TheVariants as shows
 use Rattle.ct_lines.specs.declared.line.StepCommand.TheVariants as steps
-use Rattle.ct_lines.specs.Words.{number_word, message_word, name_word, key_word, value_word, kind_word, pairs_of}
+use Rattle.ct_lines.specs.declared.line.TraverseLine.{TraverseLine}
+use Rattle.ct_lines.specs.declared.line.TraverseLine.TheVariants as traverse
+use Rattle.ct_lines.specs.Words.{within, number_word, message_word, name_word, key_word, value_word, kind_word, pairs_of}
 use Rattle.ct_lines.specs.Grammar.{db_line, call_line, recover_line, key_op, value_op, apply_op, db_command, key_command, value_command, writes_command, command_of, ctdb_line, form, words_of}
-use Rattle.ct_lines.specs.Spelled.{kind_text, pair_text, members_text, config_words, step_words, op_text, op_words, command_words, spelled_words, spelled_line, IsSmall, IsMessage, IsName, IsConfig, IsChange, IsOp, IsCommand, IsInRange}
+use Rattle.ct_lines.specs.Spelled.{kind_text, pair_text, members_text, config_words, step_words, op_text, op_words, command_words, traverse_words, spelled_words, spelled_line, IsSmall, IsMessage, IsCount, IsName, IsConfig, IsChange, IsOp, IsCommand, IsTraverse, IsInRange}
 use Rattle.ct_lines.proofs.Lists.{pairs_back, pairs_free, members_back, members_free}
 use Rattle.ct_lines.proofs.Said.{count_back, small_back, message_back, address_back, key_word_back, value_word_back, name_word_back, kind_word_back}
 use Rattle.ct_lines.proofs.Texts.{IsFree, AreFree, split_join, written_free, decimal_free, spelling_free, name_free, address_free}
@@ -97,6 +100,19 @@ command_back (command.Steps (steps.DeleteKey db key)) h =
 command_back (command.Steps (steps.PTrans db writes)) h =
     ap (λ o. writes_command o (pairs_of (map pair_text writes))) (name_word_back db h.0) ∙ ap (writes_command (Some db)) (pairs_back writes h.1)
 command_back (command.Steps steps.Recover) h = refl
+command_back (command.CatDb db) h = ap (db_command (codes "catdb")) (name_word_back db h)
+
+count_of_back : (f : ℕ → ScenarioLine) (count : ℕ) → IsCount count → option_map f (within 1 100001 (number_of (decimal count))) ≡ Some (f count)
+count_of_back f count h = let high : count ≤ 100000 = h.1 in ap (option_map f) (count_back 1 100001 count (omega arith) h.0 (omega arith))
+
+message_of_back : (f : ℕ → ScenarioLine) (k : ℕ) → IsMessage k → option_map f (message_word (decimal k)) ≡ Some (f k)
+message_of_back f k h = ap (option_map f) (message_back k h)
+
+traverse_back : (said : TraverseLine) → IsTraverse said → form (traverse_words said) ≡ Some (Traverse said)
+traverse_back (traverse.Walk count) h = count_of_back (λ n. Traverse (traverse.Walk n)) count h
+traverse_back (traverse.Carry k) h = message_of_back (λ n. Traverse (traverse.Carry n)) k h
+traverse_back (traverse.Lose k) h = message_of_back (λ n. Traverse (traverse.Lose n)) k h
+traverse_back (traverse.Again k) h = message_of_back (λ n. Traverse (traverse.Again n)) k h
 
 ctdb_back : (node : ℕ) (asked : Command) (o : Option ℕ) (r : Option Command) → o ≡ Some node → r ≡ Some asked → ctdb_line o r ≡ Some (Ctdb node asked)
 ctdb_back node asked o r e f = ap (λ x. ctdb_line x r) e ∙ ap (ctdb_line (Some node)) f
@@ -105,7 +121,8 @@ pub form_back : (item : ScenarioLine) → IsInRange item → form (spelled_words
 form_back (Config what) h = config_back what h
 form_back (Change change) h = change_back change h
 form_back (ByName node db asked) h = by_name_back node db asked h.0 h.1 h.2
-form_back (Settle count) h = let high : count ≤ 100000 = h.1 in ap (option_map Settle) (count_back 1 100001 count (omega arith) h.0 (omega arith))
+form_back (Settle count) h = count_of_back Settle count h
+form_back (Traverse said) h = traverse_back said h
 form_back (Ctdb node asked) h = ctdb_back node asked _ _ (small_back node h.0) (command_back asked h.1)
 
 -- ---- no word of a line has a space
@@ -152,6 +169,7 @@ command_free (command.Steps (steps.WriteKey db key value)) h =
 command_free (command.Steps (steps.DeleteKey db key)) h = (written_free (codes "deletekey") refl, (name_free 0 db h.0.2, (spelling_free key h.1.2, tt)))
 command_free (command.Steps (steps.PTrans db writes)) h = (written_free (codes "ptrans") refl, (name_free 0 db h.0.2, pairs_free writes h.1))
 command_free (command.Steps steps.Recover) h = (written_free (codes "recover") refl, tt)
+command_free (command.CatDb db) h = (written_free (codes "catdb") refl, (name_free 0 db h.2, tt))
 
 message_split : (v : List ℕ) (k : ℕ) → IsFree 32 v → IsMessage k → words_of (join_with_byte 32 (v ∷ decimal k ∷ [])) ≡ v ∷ decimal k ∷ []
 message_split v k h m = split_join 32 v (decimal k ∷ []) h (decimal_free 32 k (omega arith) m.1, tt)
@@ -174,6 +192,15 @@ change_split (step.Start n) h = node_split (codes "start") n (written_free (code
 change_split (step.Takeover n) h = node_split (codes "takeover") n (written_free (codes "takeover") refl) h
 change_split (step.Able node able) h = absurd h
 
+count_split : (v : List ℕ) (count : ℕ) → IsFree 32 v → IsCount count → words_of (join_with_byte 32 (v ∷ decimal count ∷ [])) ≡ v ∷ decimal count ∷ []
+count_split v count f h = let high : count ≤ 100000 = h.1 in node_split v count f (omega arith)
+
+traverse_split : (said : TraverseLine) → IsTraverse said → words_of (spelled_line (Traverse said)) ≡ traverse_words said
+traverse_split (traverse.Walk count) h = count_split (codes "walk") count (written_free (codes "walk") refl) h
+traverse_split (traverse.Carry k) h = message_split (codes "carry") k (written_free (codes "carry") refl) h
+traverse_split (traverse.Lose k) h = message_split (codes "lose") k (written_free (codes "lose") refl) h
+traverse_split (traverse.Again k) h = message_split (codes "again") k (written_free (codes "again") refl) h
+
 pub words_of_spelled : (item : ScenarioLine) → IsInRange item → words_of (spelled_line item) ≡ spelled_words item
 words_of_spelled (Config (config.Nodes n)) h = let high : n ≤ 16 = h.1 in node_split (codes "nodes") n (written_free (codes "nodes") refl) (omega arith)
 words_of_spelled (Config (config.Db db)) h =
@@ -182,6 +209,7 @@ words_of_spelled (Config (config.Address a)) h = split_join 32 (codes "address")
 words_of_spelled (Change change) h = change_split change h
 words_of_spelled (ByName node db asked) h =
     split_join 32 (op_text asked) (decimal node ∷ db ∷ op_words asked) (op_free asked) (small_word node h.0, (name_free 0 db h.1.2, op_words_free asked h.2))
-words_of_spelled (Settle count) h = let high : count ≤ 100000 = h.1 in node_split (codes "settle") count (written_free (codes "settle") refl) (omega arith)
+words_of_spelled (Settle count) h = count_split (codes "settle") count (written_free (codes "settle") refl) h
+words_of_spelled (Traverse said) h = traverse_split said h
 words_of_spelled (Ctdb node asked) h =
     split_join 32 (codes "ctdb") (decimal node ∷ command_words asked) (written_free (codes "ctdb") refl) (small_word node h.0, command_free asked h.1)

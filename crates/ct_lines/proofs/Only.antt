@@ -9,7 +9,7 @@ use Rattle.ct_rules_cluster.specs.declared.step.Step.TheVariants as step
 use Rattle.ct_values.specs.declared.client.Pair.{Pair}
 use Rattle.ct_values.specs.declared.config.DbKind.{DbKind}
 use Rattle.ct_lines.specs.declared.line.ScenarioLine.{ScenarioLine}
-use Rattle.ct_lines.specs.declared.line.ScenarioLine.TheVariants.{Config, Change, ByName, Settle, Ctdb}
+use Rattle.ct_lines.specs.declared.line.ScenarioLine.TheVariants.{Config, Change, ByName, Settle, Traverse, Ctdb}
 use Rattle.ct_lines.specs.declared.line.ConfigLine.TheVariants as config
 use Rattle.ct_lines.specs.declared.line.NamedOp.{NamedOp}
 use Rattle.ct_lines.specs.declared.line.NamedOp.TheVariants as op
@@ -17,9 +17,10 @@ use Rattle.ct_lines.specs.declared.line.Command.{Command}
 use Rattle.ct_lines.specs.declared.line.Command.TheVariants as command
 use Rattle.ct_lines.specs.declared.line.ShowCommand.TheVariants as shows
 use Rattle.ct_lines.specs.declared.line.StepCommand.TheVariants as steps
+use Rattle.ct_lines.specs.declared.line.TraverseLine.TheVariants as traverse
 use Rattle.ct_lines.specs.Words.{within, number_word, message_word, address_word, key_word, value_word, name_word, kind_word, pairs_of, members_word}
-use Rattle.ct_lines.specs.Grammar.{number_step, one_form, db_line, call_line, recover_line, two_form, key_op, value_op, apply_op, plain_form, commit_form, bare_command, db_command, key_command, value_command, writes_command, ptrans_form, plain_command, command_of, ctdb_line, form}
-use Rattle.ct_lines.specs.Spelled.{kind_text, pair_text, members_text, step_words, op_text, op_words, command_words, spelled_words, IsSmall, IsMessage, IsName, IsKey, IsValue, ArePairs, AreMembers, IsChange, IsOp, IsCommand, IsInRange}
+use Rattle.ct_lines.specs.Grammar.{number_step, traverse_form, one_form, db_line, call_line, recover_line, two_form, key_op, value_op, apply_op, plain_form, commit_form, bare_command, db_command, key_command, value_command, writes_command, ptrans_form, plain_command, command_of, ctdb_line, form}
+use Rattle.ct_lines.specs.Spelled.{kind_text, pair_text, members_text, step_words, op_text, op_words, command_words, spelled_words, IsSmall, IsMessage, IsCount, IsName, IsKey, IsValue, ArePairs, AreMembers, IsChange, IsOp, IsCommand, IsInRange}
 use Rattle.ct_lines.proofs.Lists.{both, pairs_only, members_only}
 use Rattle.ct_lines.proofs.Said.{choice, some_said, mapped, same_word, count_only, small_only, message_only, address_only, key_word_only, value_word_only, name_word_only, kind_word_only}
 
@@ -64,10 +65,23 @@ nodes_said w a item e h =
     mapped (λ n. Config (config.Nodes n)) (Says (w ∷ a ∷ [])) (within 1 17 (number_of a)) item h
     (λ n g. let p = count_only a 1 17 n g in let low : 1 ≤ n = p.0 in let high : n < 17 = p.1 in ((omega arith, omega arith), both e (both p.2 refl)))
 
-settle_said : (w a : List ℕ) (item : ScenarioLine) → w ≡ codes "settle" → option_map Settle (within 1 100001 (number_of a)) ≡ Some item → Says (w ∷ a ∷ []) item
-settle_said w a item e h =
-    mapped Settle (Says (w ∷ a ∷ [])) (within 1 100001 (number_of a)) item h
-    (λ n g. let p = count_only a 1 100001 n g in let low : 1 ≤ n = p.0 in let high : n < 100001 = p.1 in ((omega arith, omega arith), both e (both p.2 refl)))
+-- a line of a word and a count, and one of a word and a message
+counted_said : (f : ℕ → ScenarioLine) (w a v : List ℕ) (item : ScenarioLine) → ((n : ℕ) → IsCount n → IsInRange (f n)) → ((n : ℕ) → spelled_words (f n) ≡ v ∷ decimal n ∷ []) → w ≡ v → option_map f (within 1 100001 (number_of a)) ≡ Some item → Says (w ∷ a ∷ []) item
+counted_said f w a v item range shape e h =
+    mapped f (Says (w ∷ a ∷ [])) (within 1 100001 (number_of a)) item h
+    (λ n g. let p = count_only a 1 100001 n g in let low : 1 ≤ n = p.0 in let high : n < 100001 = p.1 in (range n (omega arith, omega arith), both e (both p.2 refl) ∙ sym (shape n)))
+
+numbered_said : (f : ℕ → ScenarioLine) (w a v : List ℕ) (item : ScenarioLine) → ((k : ℕ) → IsMessage k → IsInRange (f k)) → ((k : ℕ) → spelled_words (f k) ≡ v ∷ decimal k ∷ []) → w ≡ v → option_map f (message_word a) ≡ Some item → Says (w ∷ a ∷ []) item
+numbered_said f w a v item range shape e h =
+    mapped f (Says (w ∷ a ∷ [])) (message_word a) item h (λ k g. let p = message_only a k g in (range k p.0, both e (both p.1 refl) ∙ sym (shape k)))
+
+traverse_only : (w a : List ℕ) (item : ScenarioLine) → traverse_form w a ≡ Some item → Says (w ∷ a ∷ []) item
+traverse_only w a item h =
+    choice (Says (w ∷ a ∷ []) item) w (codes "walk") _ _ item h (counted_said (λ n. Traverse (traverse.Walk n)) w a (codes "walk") item (λ n r. r) (λ n. refl))
+    (λ h1. choice (Says (w ∷ a ∷ []) item) w (codes "carry") _ _ item h1 (numbered_said (λ k. Traverse (traverse.Carry k)) w a (codes "carry") item (λ k r. r) (λ k. refl))
+    (λ h2. choice (Says (w ∷ a ∷ []) item) w (codes "lose") _ _ item h2 (numbered_said (λ k. Traverse (traverse.Lose k)) w a (codes "lose") item (λ k r. r) (λ k. refl))
+    (λ h3. choice (Says (w ∷ a ∷ []) item) w (codes "again") _ _ item h3 (numbered_said (λ k. Traverse (traverse.Again k)) w a (codes "again") item (λ k r. r) (λ k. refl))
+    (λ h4. mapped Change (Says (w ∷ a ∷ [])) (number_step w a) item h4 (step_only w a)))))
 
 address_said : (w a : List ℕ) (item : ScenarioLine) → w ≡ codes "address" → option_map (λ x. Config (config.Address x)) (address_word a) ≡ Some item → Says (w ∷ a ∷ []) item
 address_said w a item e h =
@@ -77,8 +91,8 @@ one_only : (w a : List ℕ) (item : ScenarioLine) → one_form w a ≡ Some item
 one_only w a item h =
     choice (Says (w ∷ a ∷ []) item) w (codes "nodes") _ _ item h (nodes_said w a item)
     (λ h1. choice (Says (w ∷ a ∷ []) item) w (codes "address") _ _ item h1 (address_said w a item)
-    (λ h2. choice (Says (w ∷ a ∷ []) item) w (codes "settle") _ _ item h2 (settle_said w a item)
-    (λ h3. mapped Change (Says (w ∷ a ∷ [])) (number_step w a) item h3 (step_only w a))))
+    (λ h2. choice (Says (w ∷ a ∷ []) item) w (codes "settle") _ _ item h2 (counted_said Settle w a (codes "settle") item (λ n r. r) (λ n. refl))
+    (traverse_only w a item)))
 
 -- ---- a word and two more
 
@@ -217,7 +231,9 @@ db_command_only c d (Some db) asked h one =
     let p = one db refl in
     choice (SaysCommand (c ∷ d ∷ []) asked) c (codes "cattdb") _ _ asked h (λ e g. some_said (SaysCommand (c ∷ d ∷ [])) (command.Shows (shows.CatTdb db)) asked (p.0, both e (both p.1 refl)) g)
     (λ h1. choice (SaysCommand (c ∷ d ∷ []) asked) c (codes "getdbseqnum") _ _ asked h1
-    (λ e g. some_said (SaysCommand (c ∷ d ∷ [])) (command.Shows (shows.GetDbSeqNum db)) asked (p.0, both e (both p.1 refl)) g) (λ h2. cc))
+    (λ e g. some_said (SaysCommand (c ∷ d ∷ [])) (command.Shows (shows.GetDbSeqNum db)) asked (p.0, both e (both p.1 refl)) g)
+    (λ h2. choice (SaysCommand (c ∷ d ∷ []) asked) c (codes "catdb") _ _ asked h2
+    (λ e g. some_said (SaysCommand (c ∷ d ∷ [])) (command.CatDb db) asked (p.0, both e (both p.1 refl)) g) (λ h3. cc)))
 
 key_command_only : (c d k : List ℕ) (o r : Option (List ℕ)) (asked : Command) → key_command c o r ≡ Some asked
     → ((db : List ℕ) → o ≡ Some db → IsName db × (d ≡ db))

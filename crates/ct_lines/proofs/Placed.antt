@@ -134,4 +134,5 @@ stands (line.Config what) a some b e = config_refused what a some b e
 stands (line.Change step) a some b e = begun_already a b
 stands (line.ByName node db asked) a some b e = begun_already a b
 stands (line.Settle count) a some b e = begun_already a b
+stands (line.Traverse said) a some b e = begun_already a b
 stands (line.Ctdb node asked) a some b e = begun_already a b

@@ -8,7 +8,7 @@ use Rattle.ct_rules_cluster.specs.declared.step.Step.TheVariants as step
 use Rattle.ct_values.specs.declared.client.Pair.{Pair}
 use Rattle.ct_values.specs.declared.config.DbKind.{DbKind}
 use Rattle.ct_lines.specs.declared.line.ScenarioLine.{ScenarioLine}
-use Rattle.ct_lines.specs.declared.line.ScenarioLine.TheVariants.{Config, Change, ByName, Settle, Ctdb}
+use Rattle.ct_lines.specs.declared.line.ScenarioLine.TheVariants.{Config, Change, ByName, Settle, Traverse, Ctdb}
 use Rattle.ct_lines.specs.declared.line.ConfigLine.TheVariants as config
 use Rattle.ct_lines.specs.declared.line.NamedOp.{NamedOp}
 use Rattle.ct_lines.specs.declared.line.NamedOp.TheVariants as op
@@ -16,6 +16,7 @@ use Rattle.ct_lines.specs.declared.line.Command.{Command}
 use Rattle.ct_lines.specs.declared.line.Command.TheVariants as command
 use Rattle.ct_lines.specs.declared.line.ShowCommand.TheVariants as shows
 use Rattle.ct_lines.specs.declared.line.StepCommand.TheVariants as steps
+use Rattle.ct_lines.specs.declared.line.TraverseLine.TheVariants as traverse
 use Rattle.ct_lines.specs.Words.{within, number_word, message_word, address_word, key_word, value_word, name_word, kind_word, pairs_of, members_word}
 
 -- the words of a line, cut at each space
@@ -45,7 +46,20 @@ number_step w a =
     then option_map step.Takeover (number_word a)
     else None
 
--- a line of what the cluster is, `settle M`, or a step
+-- a line of traverses, or a step
+abbrev pub traverse_form : List ℕ → List ℕ → Option ScenarioLine
+traverse_form w a =
+    if bytes_eq w (codes "walk")
+    then option_map (λ n. Traverse (traverse.Walk n)) (within 1 100001 (number_of a))
+    else if bytes_eq w (codes "carry")
+    then option_map (λ k. Traverse (traverse.Carry k)) (message_word a)
+    else if bytes_eq w (codes "lose")
+    then option_map (λ k. Traverse (traverse.Lose k)) (message_word a)
+    else if bytes_eq w (codes "again")
+    then option_map (λ k. Traverse (traverse.Again k)) (message_word a)
+    else option_map Change (number_step w a)
+
+-- a line of what the cluster is, `settle M`, a line of traverses, or a step
 abbrev pub one_form : List ℕ → List ℕ → Option ScenarioLine
 one_form w a =
     if bytes_eq w (codes "nodes")
@@ -54,7 +68,7 @@ one_form w a =
     then option_map (λ x. Config (config.Address x)) (address_word a)
     else if bytes_eq w (codes "settle")
     then option_map Settle (within 1 100001 (number_of a))
-    else option_map Change (number_step w a)
+    else traverse_form w a
 
 -- ---- a word and two more
 
@@ -157,6 +171,8 @@ db_command c (Some db) =
     then Some (command.Shows (shows.CatTdb db))
     else if bytes_eq c (codes "getdbseqnum")
     then Some (command.Shows (shows.GetDbSeqNum db))
+    else if bytes_eq c (codes "catdb")
+    then Some (command.CatDb db)
     else None
 
 abbrev pub key_command : List ℕ → Option (List ℕ) → Option (List ℕ) → Option Command

@@ -63,6 +63,7 @@ refusal (line.Config what) a = config_refusal what a
 refusal (line.Change step) a = later_refusal a
 refusal (line.ByName node db asked) a = later_refusal a
 refusal (line.Settle count) a = later_refusal a
+refusal (line.Traverse said) a = later_refusal a
 refusal (line.Ctdb node asked) a = later_refusal a
 
 -- ---- what a line adds
@@ -80,6 +81,7 @@ with_line (line.Config what) a = with_config what a
 with_line (line.Change step) a = with_later a
 with_line (line.ByName node db asked) a = with_later a
 with_line (line.Settle count) a = with_later a
+with_line (line.Traverse said) a = with_later a
 with_line (line.Ctdb node asked) a = with_later a
 
 -- Ok adds the line, exactly where it is not refused; a refusal is the rule's, and changes nothing. Memory is wanting only

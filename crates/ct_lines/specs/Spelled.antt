@@ -12,7 +12,7 @@ use Rattle.ct_values.specs.declared.client.Pair.{Pair}
 use Rattle.ct_values.specs.declared.config.DbKind.{DbKind}
 use Rattle.ct_values.specs.declared.config.DbKind.TheVariants.{Volatile, ReadOnly, Persistent}
 use Rattle.ct_lines.specs.declared.line.ScenarioLine.{ScenarioLine}
-use Rattle.ct_lines.specs.declared.line.ScenarioLine.TheVariants.{Config, Change, ByName, Settle, Ctdb}
+use Rattle.ct_lines.specs.declared.line.ScenarioLine.TheVariants.{Config, Change, ByName, Settle, Traverse, Ctdb}
 use Rattle.ct_lines.specs.declared.line.ConfigLine.{ConfigLine}
 use Rattle.ct_lines.specs.declared.line.ConfigLine.TheVariants as config
 use Rattle.ct_lines.specs.declared.line.NamedOp.{NamedOp}
@@ -23,6 +23,8 @@ use Rattle.ct_lines.specs.declared.line.ShowCommand.{ShowCommand}
 use Rattle.ct_lines.specs.declared.line.ShowCommand.TheVariants as shows
 use Rattle.ct_lines.specs.declared.line.StepCommand.{StepCommand}
 use Rattle.ct_lines.specs.declared.line.StepCommand.TheVariants as steps
+use Rattle.ct_lines.specs.declared.line.TraverseLine.{TraverseLine}
+use Rattle.ct_lines.specs.declared.line.TraverseLine.TheVariants as traverse
 
 -- ---- texts
 
@@ -99,12 +101,20 @@ step_command_words steps.Recover = codes "recover" ∷ []
 abbrev pub command_words : Command → List (List ℕ)
 command_words (command.Shows asked) = show_command_words asked
 command_words (command.Steps asked) = step_command_words asked
+command_words (command.CatDb db) = codes "catdb" ∷ db ∷ []
+
+abbrev pub traverse_words : TraverseLine → List (List ℕ)
+traverse_words (traverse.Walk count) = codes "walk" ∷ decimal count ∷ []
+traverse_words (traverse.Carry k) = codes "carry" ∷ decimal k ∷ []
+traverse_words (traverse.Lose k) = codes "lose" ∷ decimal k ∷ []
+traverse_words (traverse.Again k) = codes "again" ∷ decimal k ∷ []
 
 abbrev pub spelled_words : ScenarioLine → List (List ℕ)
 spelled_words (Config what) = config_words what
 spelled_words (Change change) = step_words change
 spelled_words (ByName node db asked) = op_text asked ∷ decimal node ∷ db ∷ op_words asked
 spelled_words (Settle count) = codes "settle" ∷ decimal count ∷ []
+spelled_words (Traverse said) = traverse_words said
 spelled_words (Ctdb node asked) = codes "ctdb" ∷ decimal node ∷ command_words asked
 
 -- the text of a line, without the line feed: its words with one space between each two
@@ -188,11 +198,23 @@ IsStepCommand steps.Recover = Unit {0}
 abbrev pub IsCommand : Command → Type 0
 IsCommand (command.Shows asked) = IsShowCommand asked
 IsCommand (command.Steps asked) = IsStepCommand asked
+IsCommand (command.CatDb db) = IsName db
+
+-- up to so many deliveries
+abbrev pub IsCount : ℕ → Type 0
+IsCount count = (1 ≤ count) × (count ≤ 100000)
+
+abbrev pub IsTraverse : TraverseLine → Type 0
+IsTraverse (traverse.Walk count) = IsCount count
+IsTraverse (traverse.Carry k) = IsMessage k
+IsTraverse (traverse.Lose k) = IsMessage k
+IsTraverse (traverse.Again k) = IsMessage k
 
 -- each number, name, key, value, address and list of a line in its range
 abbrev pub IsInRange : ScenarioLine → Type 0
 IsInRange (Config what) = IsConfig what
 IsInRange (Change change) = IsChange change
 IsInRange (ByName node db asked) = IsSmall node × IsName db × IsOp asked
-IsInRange (Settle count) = (1 ≤ count) × (count ≤ 100000)
+IsInRange (Settle count) = IsCount count
+IsInRange (Traverse said) = IsTraverse said
 IsInRange (Ctdb node asked) = IsSmall node × IsCommand asked

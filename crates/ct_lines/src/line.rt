@@ -24,8 +24,23 @@ pub enum ScenarioLine {
     ByName { node: u32, db: DbName, op: NamedOp },
     /// Up to so many deliveries, 1 to 100,000.
     Settle(u32),
+    /// What becomes of messages of traverses.
+    Traverse(TraverseLine),
     /// A command of the command line, at a node.
     Ctdb { node: u32, command: Command },
+}
+
+/// What becomes of messages of traverses. They have numbers of their own, 1 to 2^62 - 1.
+#[derive(Debug, Drop, PartialEq)]
+pub enum TraverseLine {
+    /// Up to so many of them come, 1 to 100,000.
+    Walk(u32),
+    /// The message of this number comes.
+    Carry(u64),
+    /// The message of this number is lost.
+    Lose(u64),
+    /// The message of this number, which was delivered, comes again.
+    Again(u64),
 }
 
 /// A line that says what the cluster is.
@@ -56,6 +71,8 @@ pub enum NamedOp {
 pub enum Command {
     Shows(ShowCommand),
     Steps(StepCommand),
+    /// The records of a database in all members. It begins a traverse, or shows a persistent database at once.
+    CatDb(DbName),
 }
 
 /// A command that shows what a node has and knows. It changes nothing.

@@ -1,13 +1,13 @@
 //! Reading one line.
 ghost use Rattle.std.specs.Prelude.{◌≡◌, ◌≢◌, Err, IfOk, map};
-ghost use Rattle.ct_lines.specs.Grammar.{apply_op, bare_command, call_line, command_of, commit_form, ctdb_line, db_command, form, key_command, key_op, line_of, number_step, one_form, plain_command, plain_form, ptrans_form, two_form, value_command, value_op, words_of};
+ghost use Rattle.ct_lines.specs.Grammar.{apply_op, bare_command, call_line, command_of, commit_form, ctdb_line, db_command, form, key_command, key_op, line_of, number_step, one_form, plain_command, plain_form, ptrans_form, traverse_form, two_form, value_command, value_op, words_of};
 ghost use Rattle.ct_lines.specs.Reading.{Reads, ReadsLine};
 ghost use Rattle.ct_lines.specs.Spelled.{IsInRange, spelled_line};
 ghost use Rattle.ct_lines.specs.Words.{key_word, name_word, number_word, value_word};
 
 use crate::line::{
     Command, ConfigLine, LineKind, LineKindFault, NamedOp, ScenarioLine, ShowCommand, StepCommand,
-    WordFault,
+    TraverseLine, WordFault,
 };
 use crate::words::{
     address_word, cut, is_word, key_word, kind_word, members_word, message_word, name_word,
@@ -41,6 +41,23 @@ fn number_step(word: &[u8], arg: &[u8]) -> Result<Step, WordFault>
     }
 }
 
+/// A line of traverses, or any other that is a step of a message or of a node alone.
+fn traverse_line(word: &[u8], arg: &[u8]) -> Result<ScenarioLine, WordFault>
+    ensures { Reads result (traverse_form word.now arg.now) }
+{
+    if is_word(word, b"walk") {
+        Ok(ScenarioLine::Traverse(TraverseLine::Walk(small_within(arg, 1, 100001)?)))
+    } else if is_word(word, b"carry") {
+        Ok(ScenarioLine::Traverse(TraverseLine::Carry(message_word(arg)?)))
+    } else if is_word(word, b"lose") {
+        Ok(ScenarioLine::Traverse(TraverseLine::Lose(message_word(arg)?)))
+    } else if is_word(word, b"again") {
+        Ok(ScenarioLine::Traverse(TraverseLine::Again(message_word(arg)?)))
+    } else {
+        Ok(ScenarioLine::Change(number_step(word, arg)?))
+    }
+}
+
 /// A line of a word and one more.
 fn one_line(word: &[u8], arg: &[u8]) -> Result<ScenarioLine, WordFault>
     ensures { Reads result (one_form word.now arg.now) }
@@ -52,7 +69,7 @@ fn one_line(word: &[u8], arg: &[u8]) -> Result<ScenarioLine, WordFault>
     } else if is_word(word, b"settle") {
         Ok(ScenarioLine::Settle(small_within(arg, 1, 100001)?))
     } else {
-        Ok(ScenarioLine::Change(number_step(word, arg)?))
+        traverse_line(word, arg)
     }
 }
 
@@ -243,6 +260,8 @@ fn db_command(alloc: Global, word: &[u8], db: &[u8]) -> Result<Command, WordFaul
         Ok(Command::Shows(ShowCommand::CatTdb(db)))
     } else if is_word(word, b"getdbseqnum") {
         Ok(Command::Shows(ShowCommand::GetDbSeqNum(db)))
+    } else if is_word(word, b"catdb") {
+        Ok(Command::CatDb(db))
     } else {
         Err(WordFault::NoForm)
     }

@@ -180,6 +180,7 @@ impl Places {
             ScenarioLine::Change(_) => self.begin(),
             ScenarioLine::ByName { .. } => self.begin(),
             ScenarioLine::Settle(_) => self.begin(),
+            ScenarioLine::Traverse(_) => self.begin(),
             ScenarioLine::Ctdb { .. } => self.begin(),
         }
     }

@@ -3,9 +3,11 @@ ghost use Rattle.std.specs.Prelude.{◌≡◌, ◌++◌, ◌∷◌, [], IfOk, On
 ghost use Rattle.std.specs.Fmt.{decimal};
 ghost use Rattle.std.specs.List.{join_with_byte};
 ghost use Rattle.ct_values.specs.Spelling.{spelling};
-ghost use Rattle.ct_lines.specs.Spelled.{command_words, config_words, kind_text, members_text, op_text, op_words, pair_text, show_command_words, spelled_line, step_command_words, step_words};
+ghost use Rattle.ct_lines.specs.Spelled.{command_words, config_words, kind_text, members_text, op_text, op_words, pair_text, show_command_words, spelled_line, step_command_words, step_words, traverse_words};
 
-use crate::line::{Command, ConfigLine, NamedOp, ScenarioLine, ShowCommand, StepCommand};
+use crate::line::{
+    Command, ConfigLine, NamedOp, ScenarioLine, ShowCommand, StepCommand, TraverseLine,
+};
 use ct_rules_cluster::step::Step;
 use ct_values::address::push_address;
 use ct_values::client::Pair;
@@ -218,12 +220,28 @@ fn push_step_command(text: &mut Vec<u8>, command: &StepCommand) -> Result<(), No
     }
 }
 
+#[tactic(auto, using(crate::proofs::Joined::two_more))]
 fn push_command(text: &mut Vec<u8>, command: &Command) -> Result<(), NoMemory>
     ensures { OnOk result (text.new.items ≡ text.old.items ++ join_with_byte 32 ([] ∷ command_words command.now)) }
 {
     match command {
         Command::Shows(command) => push_show(text, command),
         Command::Steps(command) => push_step_command(text, command),
+        Command::CatDb(db) => {
+            push_word(text, b"catdb")?;
+            push_word(text, db.bytes())
+        }
+    }
+}
+
+fn push_traverse(text: &mut Vec<u8>, line: &TraverseLine) -> Result<(), NoMemory>
+    ensures { OnOk result (text.new.items ≡ text.old.items ++ join_with_byte 32 (traverse_words line.now)) }
+{
+    match line {
+        TraverseLine::Walk(count) => { push_numbered(text, b"walk", u64::from(*count)) }
+        TraverseLine::Carry(k) => { push_numbered(text, b"carry", *k) }
+        TraverseLine::Lose(k) => { push_numbered(text, b"lose", *k) }
+        TraverseLine::Again(k) => { push_numbered(text, b"again", *k) }
     }
 }
 
@@ -254,6 +272,7 @@ fn push_line(text: &mut Vec<u8>, line: &ScenarioLine) -> Result<(), NoMemory>
         ScenarioLine::Change(step) => push_step(text, step),
         ScenarioLine::ByName { node, db, op } => push_by_name(text, *node, db.bytes(), op),
         ScenarioLine::Settle(count) => { push_numbered(text, b"settle", u64::from(*count)) }
+        ScenarioLine::Traverse(line) => push_traverse(text, line),
         ScenarioLine::Ctdb { node, command } => push_ctdb(text, *node, command),
     }
 }

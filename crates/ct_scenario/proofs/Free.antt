@@ -18,16 +18,18 @@ use Rattle.ct_values.proofs.Spellings.{spelling_word_bytes}
 use Rattle.ct_values.proofs.Addresses.{bytes_small, groups_small, below}
 use Rattle.ct_rules_cluster.specs.declared.step.Step.{Step}
 use Rattle.ct_rules_cluster.specs.declared.step.Step.TheVariants as step
-use Rattle.ct_lines.specs.Spelled.{IsChange, IsCommand, IsInRange, IsMessage, IsOp, IsPair, IsSmall, ArePairs, AreMembers, command_words, kind_text, members_text, op_text, op_words, pair_text, spelled_line, spelled_words, step_words}
+use Rattle.ct_lines.specs.Spelled.{IsChange, IsCommand, IsCount, IsInRange, IsMessage, IsOp, IsTraverse, IsPair, IsSmall, ArePairs, AreMembers, command_words, kind_text, members_text, op_text, op_words, pair_text, spelled_line, spelled_words, step_words, traverse_words}
 use Rattle.ct_lines.specs.declared.line.Command.{Command}
 use Rattle.ct_lines.specs.declared.line.Command.TheVariants as command
 use Rattle.ct_lines.specs.declared.line.ConfigLine.TheVariants as config
 use Rattle.ct_lines.specs.declared.line.NamedOp.{NamedOp}
 use Rattle.ct_lines.specs.declared.line.NamedOp.TheVariants as op
 use Rattle.ct_lines.specs.declared.line.ScenarioLine.{ScenarioLine}
-use Rattle.ct_lines.specs.declared.line.ScenarioLine.TheVariants.{Config, Change, ByName, Settle, Ctdb}
+use Rattle.ct_lines.specs.declared.line.ScenarioLine.TheVariants.{Config, Change, ByName, Settle, Traverse, Ctdb}
 use Rattle.ct_lines.specs.declared.line.ShowCommand.TheVariants as shows
 use Rattle.ct_lines.specs.declared.line.StepCommand.TheVariants as steps
+use Rattle.ct_lines.specs.declared.line.TraverseLine.{TraverseLine}
+use Rattle.ct_lines.specs.declared.line.TraverseLine.TheVariants as traverse
 use Rattle.ct_lines.proofs.Texts.{IsFree, AreFree, join_free, map_free, decimal_free}
 
 -- ---- words
@@ -134,6 +136,7 @@ command_free (command.Steps (steps.WriteKey db key value)) h =
 command_free (command.Steps (steps.DeleteKey db key)) h = (written (codes "deletekey") refl, (named 0 db h.0.2, (spelled key h.1.2, tt)))
 command_free (command.Steps (steps.PTrans db writes)) h = (written (codes "ptrans") refl, (named 0 db h.0.2, pairs writes h.1))
 command_free (command.Steps steps.Recover) h = (written (codes "recover") refl, tt)
+command_free (command.CatDb db) h = (written (codes "catdb") refl, (named 0 db h.2, tt))
 
 message : (k : ℕ) → IsMessage k → IsFree 10 (decimal k)
 message k h = decimal_free 10 k (omega arith) h.1
@@ -152,13 +155,23 @@ change_free (step.Start n) h = (written (codes "start") refl, (number n h, tt))
 change_free (step.Takeover n) h = (written (codes "takeover") refl, (number n h, tt))
 change_free (step.Able node able) h = absurd h
 
+counted : (count : ℕ) → IsCount count → IsFree 10 (decimal count)
+counted count h = let high : count ≤ 100000 = h.1 in number count (omega arith)
+
+traverse_free : (said : TraverseLine) → IsTraverse said → AreFree 10 (traverse_words said)
+traverse_free (traverse.Walk count) h = (written (codes "walk") refl, (counted count h, tt))
+traverse_free (traverse.Carry k) h = (written (codes "carry") refl, (message k h, tt))
+traverse_free (traverse.Lose k) h = (written (codes "lose") refl, (message k h, tt))
+traverse_free (traverse.Again k) h = (written (codes "again") refl, (message k h, tt))
+
 words_free : (line : ScenarioLine) → IsInRange line → AreFree 10 (spelled_words line)
 words_free (Config (config.Nodes n)) h = let high : n ≤ 16 = h.1 in (written (codes "nodes") refl, (number n (omega arith), tt))
 words_free (Config (config.Db db)) h = (written (codes "db") refl, (named 0 db.name h.2, (kind db.kind, tt)))
 words_free (Config (config.Address a)) h = (written (codes "address") refl, (address a, tt))
 words_free (Change change) h = change_free change h
 words_free (ByName node db asked) h = (op_word asked, (number node h.0, (named 0 db h.1.2, op_rest asked h.2)))
-words_free (Settle count) h = let high : count ≤ 100000 = h.1 in (written (codes "settle") refl, (number count (omega arith), tt))
+words_free (Settle count) h = (written (codes "settle") refl, (counted count h, tt))
+words_free (Traverse said) h = traverse_free said h
 words_free (Ctdb node asked) h = (written (codes "ctdb") refl, (number node h.0, command_free asked h.1))
 
 pub line_free : (line : ScenarioLine) → IsInRange line → IsFree 10 (spelled_line line)

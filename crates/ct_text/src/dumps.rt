@@ -54,7 +54,7 @@ fn push_pair(text: &mut Vec<u8>, pair: &Pair) -> Result<(), NoMemory>
 
 /// Pairs, and how many they are.
 #[tactic(auto, unfolding(crate::specs::Dumps::pairs_text))]
-pub(crate) fn push_pairs(text: &mut Vec<u8>, pairs: &[Pair]) -> Result<(), NoMemory>
+pub fn push_pairs(text: &mut Vec<u8>, pairs: &[Pair]) -> Result<(), NoMemory>
     ensures { OnOk result (text.new.items ≡ text.old.items ++ pairs_text pairs.now) }
 {
     for pair in pairs {

@@ -8,7 +8,7 @@
 pub mod answer;
 pub mod command;
 pub mod databases;
-mod dumps;
+pub mod dumps;
 pub mod line;
 mod lines;
 pub mod message;
