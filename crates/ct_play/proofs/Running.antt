@@ -1,105 +1,203 @@
--- Steps that are taken one after the other are a run of the cluster.
-use Rattle.std.proofs.Common.{◌≡◌, ℕ, zero, suc, true, cond, List, [], ◌∷◌, ◌++◌, Option, None, Some, Result, Ok, Err, refl, sym, ap, subst, ◌∙◌, append_assoc}
+-- Deeds that are done one after the other are moves of the cluster and its traverses.
+use Rattle.std.proofs.Common.{◌≡◌, ℕ, zero, suc, true, cond, List, [], ◌∷◌, ◌++◌, Option, None, Some, Result, Ok, Err, refl, sym, ap, subst, ◌∙◌}
 use Rattle.std.proofs.lemmas.Grind.{flat_map-append}
 use Rattle.std.proofs.lemmas.List.{map-append}
 use Rattle.ct_call.specs.Rules.{Rules}
 use Rattle.ct_rules_cluster.specs.Cluster.{Cluster}
 use Rattle.ct_rules_cluster.specs.Faults.{is_allowed}
 use Rattle.ct_rules_cluster.specs.Steps.{Stepped, applied}
-use Rattle.ct_rules_cluster.specs.Traces.{OpenCall, Ran, after, idle, ran, ran_one, taken}
+use Rattle.ct_rules_cluster.specs.Traces.{OpenCall, Ran, after as ran_after, idle, ran_one, taken}
+use Rattle.ct_rules_cluster.specs.declared.step.Line.{Line}
 use Rattle.ct_rules_cluster.specs.declared.step.Step.{Step}
 use Rattle.ct_rules_cluster.specs.declared.step.Step.TheVariants as step
 use Rattle.ct_rules_cluster.specs.declared.step.StepFault.{StepFault}
 use Rattle.ct_mail.specs.Mail.{next_waiting}
+use Rattle.ct_traverse.specs.Moves.{Move, Stepped as Took, Begin, Carry, Lose, Again, Moved, and_more, going_on, moves_ran, stepped_by, walked_by, walked_or}
+use Rattle.ct_traverse.specs.Posts.{next_waiting as next_post}
+use Rattle.ct_traverse.specs.Walk.{Walk, Walked, begun, carried, lost, repeated}
+use Rattle.ct_traverse.specs.declared.line.TFault.{TFault}
+use Rattle.ct_traverse.specs.declared.line.TLine.{TLine}
+use Rattle.ct_traverse.proofs.Moving.{moves_append}
 use Rattle.ct_values.specs.declared.config.Config.{Config}
-use Rattle.ct_play.specs.Course.{Course, Deed, after_deeds, and_then, delivered_first, deed_of, one_step, printed, settled, steps_of, still}
+use Rattle.ct_world.specs.World.{World}
+use Rattle.ct_play.specs.Course.{Deed, Effect, after, and_then, moves_of, next_first, printed, still, told, up_to}
+use Rattle.ct_play.specs.Effect.{carriage, delivery, message_carried, message_lost, message_repeated, move_effect, settled, step_effect, stepped, taken as effect_taken, traverse_begun, traverse_texts, walked}
+use Rattle.ct_play.specs.declared.what.What.{What}
+use Rattle.ct_play.proofs.Coming.{Next}
 
-after_after : (q r t : Ran) → after q (after r t) ≡ after (after q r) t
-unfolding after
-after_after q r t = (λ i. record { cluster = t.cluster; lines = sym (append_assoc q.lines r.lines t.lines) i; trace = sym (append_assoc q.trace r.trace t.trace) i; log = t.log })
+-- the moves of these deeds, whatever calls are open
+abbrev pub run_of : Config → Rules → Cluster → List OpenCall → Walk → List Deed → Moved
+run_of c rules w log k deeds = moves_ran c rules w log k (moves_of deeds)
 
--- a run of some steps and others is the run of the ones and then of the others
-pub ran_append : (c : Config) (rules : Rules) (w : Cluster) (log : List OpenCall) (xs ys : List Step)
-    → ran c rules w log (xs ++ ys) ≡ after (ran c rules w log xs) (ran c rules (ran c rules w log xs).cluster (ran c rules w log xs).log ys)
-unfolding ran after idle
-ran_append c rules w log [] ys = refl
-ran_append c rules w log (s ∷ xs) ys =
-    let q = ran_one c rules w log s in
-    ap (λ r. after q r) (ran_append c rules q.cluster q.log xs ys) ∙ after_after q (ran c rules q.cluster q.log xs) (ran c rules (ran c rules q.cluster q.log xs).cluster (ran c rules q.cluster q.log xs).log ys)
+-- the moves of an effect lead to its cluster and its traverses, and print and tell what its deeds did, whatever calls are open
+pub record Leads (c : Config) (rules : Rules) (w : Cluster) (log : List OpenCall) (k : Walk) (e : Effect) : Type 0 where
+  pub config : e.world.config ≡ c
+  pub cluster : (run_of c rules w log k e.deeds).ran.cluster ≡ e.world.cluster
+  pub walk : (run_of c rules w log k e.deeds).walk ≡ e.walk
+  pub lines : (run_of c rules w log k e.deeds).ran.lines ≡ printed e.deeds
+  pub told : (run_of c rules w log k e.deeds).told ≡ told e.deeds
 
--- the steps of a course lead to its cluster, and print what its deeds did, whatever calls are open
-pub record Leads (c : Config) (rules : Rules) (w : Cluster) (log : List OpenCall) (x : Course) : Type 0 where
-  pub cluster : (ran c rules w log (steps_of x.deeds)).cluster ≡ x.cluster
-  pub lines : (ran c rules w log (steps_of x.deeds)).lines ≡ printed x.deeds
+-- nothing was done
+pub idle_leads : (rules : Rules) (w : World) (log : List OpenCall) (k : Walk) (texts : List (List ℕ)) → Leads w.config rules w.cluster log k (record { world = w; walk = k; texts = texts; deeds = [] })
+unfolding moves_ran idle
+idle_leads rules w log k texts = record { config = refl; cluster = refl; walk = refl; lines = refl; told = refl }
 
-still_leads : (c : Config) (rules : Rules) (w : Cluster) (log : List OpenCall) → Leads c rules w log (still w)
-unfolding ran idle
-still_leads c rules w log = record { cluster = refl; lines = refl }
+-- ---- one step that is as it is asked to be
 
--- one step that is as it is asked to be
 one_ran : (c : Config) (rules : Rules) (w : Cluster) (log : List OpenCall) (s : Step) (y : Stepped) → is_allowed s ≡ true → applied c rules w s ≡ Ok y → ran_one c rules w log s ≡ taken w log s (Ok y)
 unfolding ran_one
 one_ran c rules w log s y h e = ap (λ b. cond b (taken w log s (applied c rules w s)) (idle w log)) h ∙ ap (λ r. taken w log s r) e
 
-deed_leads : (c : Config) (rules : Rules) (w : Cluster) (log : List OpenCall) (s : Step) (y : Stepped) → is_allowed s ≡ true → applied c rules w s ≡ Ok y → Leads c rules w log (record { cluster = y.cluster; deeds = record { step = s; lines = y.lines } ∷ [] })
-unfolding ran after idle taken
-deed_leads c rules w log s y h e =
-    let o = one_ran c rules w log s y h e in
-    record { cluster = ap (λ (q : Ran). q.cluster) o; lines = ap (λ (q : Ran). q.lines ++ []) o }
+-- what a step is that leads so, and the traverses behind it
+abbrev stepped_so : Config → Walk → Ran → Moved
+stepped_so c k r = let x = going_on (record { config = c; cluster = r.cluster }) k in and_more (record { ran = r; walk = x.walk; told = x.lines }) (record { ran = idle r.cluster r.log; walk = x.walk; told = [] })
 
-step_leads_by : (c : Config) (rules : Rules) (w : Cluster) (log : List OpenCall) (s : Step) (r : Result Stepped StepFault) (x : Course) → is_allowed s ≡ true → applied c rules w s ≡ r → deed_of s r ≡ Ok x → Leads c rules w log x
-step_leads_by c rules w log s (Ok y) x h e d =
-    let made : Course = record { cluster = y.cluster; deeds = record { step = s; lines = y.lines } ∷ [] } in
-    let same : made ≡ x = cc in
-    subst (λ z. Leads c rules w log z) same (deed_leads c rules w log s y h e)
-step_leads_by c rules w log s (Err f) x h e d = absurd (cc)
+took_one : (c : Config) (rules : Rules) (w : Cluster) (log : List OpenCall) (k : Walk) (s : Step) → moves_ran c rules w log k (Took s ∷ []) ≡ stepped_so c k (ran_one c rules w log s)
+unfolding moves_ran stepped_by walked_by
+took_one c rules w log k s = refl
 
-pub step_leads : (c : Config) (rules : Rules) (w : Cluster) (log : List OpenCall) (s : Step) (x : Course) → is_allowed s ≡ true → one_step c rules w s ≡ Ok x → Leads c rules w log x
-step_leads c rules w log s x h e = step_leads_by c rules w log s (applied c rules w s) x h refl e
-
--- a course and then another
-pub then_leads : (c : Config) (rules : Rules) (w : Cluster) (log : List OpenCall) (x y : Course) → Leads c rules w log x → ((calls : List OpenCall) → Leads c rules x.cluster calls y) → Leads c rules w log (record { cluster = y.cluster; deeds = x.deeds ++ y.deeds })
-unfolding after
-then_leads c rules w log x y h k =
-    let q : Ran = ran c rules w log (steps_of x.deeds) in
-    let e : ran c rules w log (steps_of (x.deeds ++ y.deeds)) ≡ after q (ran c rules q.cluster q.log (steps_of y.deeds)) = ap (ran c rules w log) (map-append (λ (d : Deed). d.step) x.deeds y.deeds) ∙ ran_append c rules w log (steps_of x.deeds) (steps_of y.deeds) in
-    let l : Leads c rules q.cluster q.log y = subst (λ v. Leads c rules v q.log y) (sym h.cluster) (k q.log) in
+took_leads : (c : Config) (rules : Rules) (w : Cluster) (log : List OpenCall) (k : Walk) (s : Step) (y : Stepped) → is_allowed s ≡ true → applied c rules w s ≡ Ok y → Leads c rules w log k (effect_taken s (record { config = c; cluster = y.cluster }) y.lines k)
+unfolding ran_after idle taken
+took_leads c rules w log k s y h e =
+    let o = took_one c rules w log k s ∙ ap (stepped_so c k) (one_ran c rules w log s y h e) in
     record {
-      cluster = ap (λ (r : Ran). r.cluster) e ∙ l.cluster;
-      lines = ap (λ (r : Ran). r.lines) e ∙ ap (λ a. a ++ (ran c rules q.cluster q.log (steps_of y.deeds)).lines) h.lines ∙ ap (λ b. printed x.deeds ++ b) l.lines ∙ sym (flat_map-append (λ (d : Deed). d.lines) x.deeds y.deeds);
+      config = refl;
+      cluster = ap (λ (q : Moved). q.ran.cluster) o;
+      walk = ap (λ (q : Moved). q.walk) o;
+      lines = ap (λ (q : Moved). q.ran.lines) o;
+      told = ap (λ (q : Moved). q.told) o;
     }
 
--- deliveries of the least message that waits
+step_leads_by : (c : Config) (rules : Rules) (w : Cluster) (log : List OpenCall) (k : Walk) (s : Step) (r : Result Stepped StepFault) (e : Effect) → is_allowed s ≡ true → applied c rules w s ≡ r → step_effect s c k r ≡ Ok e → Leads c rules w log k e
+step_leads_by c rules w log k s (Ok y) e h a d =
+    let made : Effect = effect_taken s (record { config = c; cluster = y.cluster }) y.lines k in
+    let same : made ≡ e = cc in
+    subst (λ z. Leads c rules w log k z) same (took_leads c rules w log k s y h a)
+step_leads_by c rules w log k s (Err f) e h a d = absurd (cc)
 
-after_leads : (c : Config) (rules : Rules) (w : Cluster) (log : List OpenCall) (x z : Course) (r : Result Course StepFault) → Leads c rules w log x → ((calls : List OpenCall) (y : Course) → r ≡ Ok y → Leads c rules x.cluster calls y) → after_deeds x.deeds r ≡ Ok z → Leads c rules w log z
-after_leads c rules w log x z (Ok y) h k e =
-    let made : Course = record { cluster = y.cluster; deeds = x.deeds ++ y.deeds } in
+pub step_leads : (rules : Rules) (w : World) (log : List OpenCall) (k : Walk) (s : Step) (e : Effect) → is_allowed s ≡ true → stepped rules w k s ≡ Ok e → Leads w.config rules w.cluster log k e
+step_leads rules w log k s e h d = step_leads_by w.config rules w.cluster log k s (applied w.config rules w.cluster s) e h refl d
+
+-- ---- one move of traverses
+
+-- what a move is that takes no step, and that traverses answer so
+abbrev walked_so : Cluster → List OpenCall → Walked → Moved
+walked_so w log x = and_more (record { ran = idle w log; walk = x.walk; told = x.lines }) (record { ran = idle w log; walk = x.walk; told = [] })
+
+walked_leads_by : (rules : Rules) (w : World) (log : List OpenCall) (k : Walk) (m : Move) (r : Result Walked TFault) (e : Effect)
+    → moves_ran w.config rules w.cluster log k (m ∷ []) ≡ walked_so w.cluster log (walked_or k r)
+    → move_effect m w r ≡ Ok e
+    → Leads w.config rules w.cluster log k e
+unfolding ran_after idle
+walked_leads_by rules w log k m (Ok x) e o d =
+    let made : Effect = record { world = w; walk = x.walk; texts = traverse_texts x.lines; deeds = record { move = m; lines = []; told = x.lines } ∷ [] } in
+    let same : made ≡ e = cc in
+    subst (λ z. Leads w.config rules w.cluster log k z) same (record {
+      config = refl;
+      cluster = ap (λ (q : Moved). q.ran.cluster) o;
+      walk = ap (λ (q : Moved). q.walk) o;
+      lines = ap (λ (q : Moved). q.ran.lines) o;
+      told = ap (λ (q : Moved). q.told) o;
+    })
+walked_leads_by rules w log k m (Err f) e o d = absurd (cc)
+
+pub begun_leads : (rules : Rules) (w : World) (log : List OpenCall) (k : Walk) (n db : ℕ) (e : Effect) → traverse_begun w k n db ≡ Ok e → Leads w.config rules w.cluster log k e
+unfolding moves_ran stepped_by walked_by idle
+begun_leads rules w log k n db e d = walked_leads_by rules w log k (Begin n db) (begun n db w k) e refl d
+
+pub carried_leads : (rules : Rules) (w : World) (log : List OpenCall) (k : Walk) (number : ℕ) (e : Effect) → message_carried w k number ≡ Ok e → Leads w.config rules w.cluster log k e
+unfolding moves_ran stepped_by walked_by idle
+carried_leads rules w log k number e d = walked_leads_by rules w log k (Carry number) (carried number w k) e refl d
+
+pub lost_leads : (rules : Rules) (w : World) (log : List OpenCall) (k : Walk) (number : ℕ) (e : Effect) → message_lost w k number ≡ Ok e → Leads w.config rules w.cluster log k e
+unfolding moves_ran stepped_by walked_by idle
+lost_leads rules w log k number e d = walked_leads_by rules w log k (Lose number) (lost number k) e refl d
+
+pub repeated_leads : (rules : Rules) (w : World) (log : List OpenCall) (k : Walk) (number : ℕ) (e : Effect) → message_repeated w k number ≡ Ok e → Leads w.config rules w.cluster log k e
+unfolding moves_ran stepped_by walked_by idle
+repeated_leads rules w log k number e d = walked_leads_by rules w log k (Again number) (repeated number w k) e refl d
+
+-- ---- an effect and then another
+
+abbrev move_in : Deed → Move
+move_in d = d.move
+
+abbrev lines_in : Deed → List Line
+lines_in d = d.lines
+
+abbrev told_in : Deed → List TLine
+told_in d = d.told
+
+pub then_leads : (c : Config) (rules : Rules) (w : Cluster) (log : List OpenCall) (k : Walk) (x y : Effect) → Leads c rules w log k x → ((calls : List OpenCall) → Leads c rules x.world.cluster calls x.walk y)
+    → Leads c rules w log k (record { world = y.world; walk = y.walk; texts = x.texts ++ y.texts; deeds = x.deeds ++ y.deeds })
+unfolding ran_after
+then_leads c rules w log k x y h f =
+    let q : Moved = run_of c rules w log k x.deeds in
+    let z : Moved = run_of c rules q.ran.cluster q.ran.log q.walk y.deeds in
+    let e : run_of c rules w log k (x.deeds ++ y.deeds) ≡ and_more q z = ap (moves_ran c rules w log k) (map-append move_in x.deeds y.deeds) ∙ moves_append c rules w log k (moves_of x.deeds) (moves_of y.deeds) in
+    let l : Leads c rules q.ran.cluster q.ran.log q.walk y = subst (λ v. Leads c rules v q.ran.log q.walk y) (sym h.cluster) (subst (λ v. Leads c rules x.world.cluster q.ran.log v y) (sym h.walk) (f q.ran.log)) in
+    record {
+      config = l.config;
+      cluster = ap (λ (r : Moved). r.ran.cluster) e ∙ l.cluster;
+      walk = ap (λ (r : Moved). r.walk) e ∙ l.walk;
+      lines = ap (λ (r : Moved). r.ran.lines) e ∙ ap (λ a. a ++ z.ran.lines) h.lines ∙ ap (λ b. printed x.deeds ++ b) l.lines ∙ sym (flat_map-append lines_in x.deeds y.deeds);
+      told = ap (λ (r : Moved). r.told) e ∙ ap (λ a. a ++ z.told) h.told ∙ ap (λ b. told x.deeds ++ b) l.told ∙ sym (flat_map-append told_in x.deeds y.deeds);
+    }
+
+-- ---- what comes next, so many times one after the other
+
+after_leads : (c : Config) (rules : Rules) (w : Cluster) (log : List OpenCall) (k : Walk) (x z : Effect) (r : Result Effect What) → Leads c rules w log k x → ((calls : List OpenCall) (y : Effect) → r ≡ Ok y → Leads c rules x.world.cluster calls x.walk y) → after x.texts x.deeds r ≡ Ok z → Leads c rules w log k z
+after_leads c rules w log k x z (Ok y) h f e =
+    let made : Effect = record { world = y.world; walk = y.walk; texts = x.texts ++ y.texts; deeds = x.deeds ++ y.deeds } in
     let same : made ≡ z = cc in
-    subst (λ v. Leads c rules w log v) same (then_leads c rules w log x y h (λ calls. k calls y refl))
-after_leads c rules w log x z (Err f) h k e = absurd (cc)
+    subst (λ v. Leads c rules w log k v) same (then_leads c rules w log k x y h (λ calls. f calls y refl))
+after_leads c rules w log k x z (Err fault) h f e = absurd (cc)
 
-and_then_leads : (c : Config) (rules : Rules) (w : Cluster) (log : List OpenCall) (r : Result Course StepFault) (later : Cluster → Result Course StepFault) (z : Course)
-    → ((x : Course) → r ≡ Ok x → Leads c rules w log x)
-    → ((v : Cluster) (calls : List OpenCall) (y : Course) → later v ≡ Ok y → Leads c rules v calls y)
-    → and_then r later ≡ Ok z
-    → Leads c rules w log z
-and_then_leads c rules w log (Ok x) later z h k e = after_leads c rules w log x z (later x.cluster) (h x refl) (λ calls y m. k x.cluster calls y m) e
-and_then_leads c rules w log (Err f) later z h k e = absurd (cc)
+-- an effect leads from where a cluster of this configuration and its traverses stand
+abbrev pub LeadsFrom : Config → Rules → World → Walk → Result Effect What → Type 0
+LeadsFrom c rules w k r = (log : List OpenCall) (e : Effect) → r ≡ Ok e → Leads c rules w.cluster log k e
+
+and_then_leads : (c : Config) (rules : Rules) (w : World) (k : Walk) (r : Result Effect What) (later : World → Walk → Result Effect What) → LeadsFrom c rules w k r → ((v : World) (l : Walk) → v.config ≡ c → LeadsFrom c rules v l (later v l)) → LeadsFrom c rules w k (and_then r later)
+and_then_leads c rules w k (Ok x) later h f = λ log z e.
+    (let l : Leads c rules w.cluster log k x = h log x refl in
+    after_leads c rules w.cluster log k x z (later x.world x.walk) l (λ calls y m. f x.world x.walk l.config calls y m) e)
+and_then_leads c rules w k (Err fault) later h f = λ log z e. absurd (cc)
+
+pub still_leads : (c : Config) (rules : Rules) (w : World) (k : Walk) → w.config ≡ c → LeadsFrom c rules w k (Ok (still w k))
+still_leads c rules w k same = λ log e d.
+    (let it : still w k ≡ e = cc in
+    subst (λ (z : Effect). Leads c rules w.cluster log k z) it (subst (λ (x : Config). Leads x rules w.cluster log k (still w k)) same (idle_leads rules w log k [])))
+
+abbrev NextLeads : Config → Rules → World → Walk → Option (Result Effect What) → Type 0
+NextLeads c rules w k None = Unit {0}
+NextLeads c rules w k (Some r) = LeadsFrom c rules w k r
+
+first_leads : (c : Config) (rules : Rules) (w : World) (k : Walk) (o : Option (Result Effect What)) (later : World → Walk → Result Effect What) → w.config ≡ c → NextLeads c rules w k o → ((v : World) (l : Walk) → v.config ≡ c → LeadsFrom c rules v l (later v l)) → LeadsFrom c rules w k (next_first o w k later)
+first_leads c rules w k None later same h g = still_leads c rules w k same
+first_leads c rules w k (Some r) later same h g = and_then_leads c rules w k r later h g
+
+up_to_leads : (c : Config) (rules : Rules) (next : Next) → ((w : World) (k : Walk) → w.config ≡ c → NextLeads c rules w k (next w k)) → (m : ℕ) (w : World) (k : Walk) → w.config ≡ c → LeadsFrom c rules w k (up_to m next w k)
+unfolding up_to
+up_to_leads c rules next each zero w k same = still_leads c rules w k same
+up_to_leads c rules next each (suc m) w k same = first_leads c rules w k (next w k) (λ v l. up_to m next v l) same (each w k same) (λ v l e. up_to_leads c rules next each m v l e)
 
 pub deliver_allowed : (k : ℕ) → is_allowed (step.Deliver k) ≡ true
 unfolding is_allowed
 deliver_allowed k = refl
 
-comes_leads : (c : Config) (rules : Rules) (w : Cluster) (log : List OpenCall) (next : Option ℕ) (later : Cluster → Result Course StepFault) (z : Course)
-    → ((v : Cluster) (calls : List OpenCall) (y : Course) → later v ≡ Ok y → Leads c rules v calls y)
-    → delivered_first c rules w next later ≡ Ok z
-    → Leads c rules w log z
-comes_leads c rules w log None later z k e =
-    let same : still w ≡ z = cc in subst (λ v. Leads c rules w log v) same (still_leads c rules w log)
-comes_leads c rules w log (Some n) later z k e = and_then_leads c rules w log (one_step c rules w (step.Deliver n)) later z (λ x m. step_leads c rules w log (step.Deliver n) x (deliver_allowed n) m) k e
+at_config : (c : Config) (rules : Rules) (w : World) (log : List OpenCall) (k : Walk) (e : Effect) → w.config ≡ c → Leads w.config rules w.cluster log k e → Leads c rules w.cluster log k e
+at_config c rules w log k e same h = subst (λ (x : Config). Leads x rules w.cluster log k e) same h
 
-pub settled_leads : (c : Config) (rules : Rules) (m : ℕ) (w : Cluster) (log : List OpenCall) (x : Course) → settled c rules m w ≡ Ok x → Leads c rules w log x
-unfolding settled
-settled_leads c rules zero w log x e =
-    let same : still w ≡ x = cc in subst (λ v. Leads c rules w log v) same (still_leads c rules w log)
-settled_leads c rules (suc m) w log x e = comes_leads c rules w log (next_waiting w.sent) (λ v. settled c rules m v) x (λ v calls y f. settled_leads c rules m v calls y f) e
+delivery_leads : (c : Config) (rules : Rules) (w : World) (k : Walk) (o : Option ℕ) → w.config ≡ c → NextLeads c rules w k (delivery rules w k o)
+delivery_leads c rules w k None same = tt
+delivery_leads c rules w k (Some number) same = λ log e d. at_config c rules w log k e same (step_leads rules w log k (step.Deliver number) e (deliver_allowed number) d)
+
+carriage_leads : (c : Config) (rules : Rules) (w : World) (k : Walk) (o : Option ℕ) → w.config ≡ c → NextLeads c rules w k (carriage w k o)
+carriage_leads c rules w k None same = tt
+carriage_leads c rules w k (Some number) same = λ log e d. at_config c rules w log k e same (carried_leads rules w log k number e d)
+
+pub settled_leads : (rules : Rules) (m : ℕ) (w : World) (k : Walk) → LeadsFrom w.config rules w k (settled rules m w k)
+settled_leads rules m w k = up_to_leads w.config rules (λ v l. delivery rules v l (next_waiting v.cluster.sent)) (λ v l same. delivery_leads w.config rules v l (next_waiting v.cluster.sent) same) m w k refl
+
+pub walked_leads : (rules : Rules) (m : ℕ) (w : World) (k : Walk) → LeadsFrom w.config rules w k (walked m w k)
+walked_leads rules m w k = up_to_leads w.config rules (λ v l. carriage v l (next_post l.posts)) (λ v l same. carriage_leads w.config rules v l (next_post l.posts) same) m w k refl

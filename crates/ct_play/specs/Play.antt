@@ -7,7 +7,9 @@ use Rattle.ct_rules_cluster.specs.Traces.{ran}
 use Rattle.ct_lines.specs.declared.line.LineKind.TheVariants.{Long}
 use Rattle.ct_rules_config.specs.Configured.{IsConfig}
 use Rattle.ct_world.specs.World.{World}
-use Rattle.ct_play.specs.Course.{Deed, printed, steps_of}
+use Rattle.ct_traverse.specs.Moves.{moves_ran}
+use Rattle.ct_traverse.specs.Walk.{Walk, no_walk}
+use Rattle.ct_play.specs.Course.{Deed, moves_of, printed, steps_of, told}
 use Rattle.ct_play.specs.Session.{Played, line_played, longest, pending_texts, start}
 use Rattle.ct_play.specs.declared.session.Session.{Session}
 use Rattle.ct_play.specs.declared.what.What.{What}
@@ -73,9 +75,9 @@ rest bytes = rest_after [] bytes
 abbrev pub played : Rules → List ℕ → Run
 played rules bytes = run_from rules start [] bytes
 
--- the text of the calls that wait after a run
+-- the text of the calls and the traverses that wait after a run
 abbrev pub pending_text_of : Run → List ℕ
-pending_text_of r = all_text (pending_texts r.session.world)
+pending_text_of r = all_text (pending_texts r.session)
 
 -- ---- what a run of a scenario is
 
@@ -89,3 +91,14 @@ IsRunOf rules (Some w) deeds =
 -- so it is after every list of bytes
 abbrev pub RunsAreRuns : Type 0
 RunsAreRuns = (rules : Rules) (bytes : List ℕ) → IsRunOf rules (played rules bytes).session.world (played rules bytes).deeds
+
+-- Before a cluster was opened nothing was done. Else the moves that were made, one after the other from the opening of its
+-- configuration, lead to it and to its traverses, and what they print and tell is what was printed and told.
+abbrev pub AreMovesOf : Rules → Option World → Walk → List Deed → Type 0
+AreMovesOf rules None k deeds = (deeds ≡ []) × (k ≡ no_walk)
+AreMovesOf rules (Some w) k deeds = let run = moves_ran w.config rules (opening w.config) [] no_walk (moves_of deeds) in
+    IsConfig w.config × (run.ran.cluster ≡ w.cluster) × (run.walk ≡ k) × (run.ran.lines ≡ printed deeds) × (run.told ≡ told deeds)
+
+-- so it is after every list of bytes
+abbrev pub RunsAreMoves : Type 0
+RunsAreMoves = (rules : Rules) (bytes : List ℕ) → let run = played rules bytes in AreMovesOf rules run.session.world run.session.walker run.deeds

@@ -25,6 +25,7 @@ what_text what.WrongKind = codes "wrong-kind"
 what_text (what.NotServing n) = codes "not-serving " ++ decimal n
 what_text (what.NotLeader n) = codes "not-leader " ++ decimal n
 what_text (what.NoSuchFrame k) = codes "no-such-frame " ++ decimal k
+what_text (what.NoSuchTframe k) = codes "no-such-tframe " ++ decimal k
 what_text (what.NotMember n) = codes "not-member " ++ decimal n
 what_text (what.LockHeld n) = codes "lock-held " ++ decimal n
 what_text what.NotHolder = codes "not-holder"

@@ -6,5 +6,7 @@ pub mod laws;
 pub mod named;
 pub mod session;
 mod shown;
+mod stepping;
 pub mod text;
+mod walking;
 pub mod what;

@@ -1,12 +1,13 @@
 //! A scenario as it is played line by line.
-ghost use Rattle.std.specs.Prelude.{◌≡◌, IfOk, IsSome, map};
+ghost use Rattle.std.specs.Prelude.{◌≡◌, ◌++◌, IfOk, IsSome, OnOk, map};
 ghost use Rattle.ct_call.specs.Shown.{rules_of};
 ghost use Rattle.ct_lines.specs.Places.{refusal};
 ghost use Rattle.ct_lines.specs.Spelled.{IsInRange};
 ghost use Rattle.ct_text.specs.Line.{pending_text};
+ghost use Rattle.ct_traverse.specs.Text.{pending_traverse_text};
 ghost use Rattle.ct_play.specs.Effect.{line_effect};
 ghost use Rattle.ct_play.specs.Opening.{world_at};
-ghost use Rattle.ct_play.specs.Session.{Plays, in_its_place, is_config_line, line_played, pending_texts, placed, put, start};
+ghost use Rattle.ct_play.specs.Session.{Plays, in_its_place, is_config_line, line_played, pending_texts, placed, put, start, waiting_texts};
 
 use crate::effect::line_effect;
 use crate::what::{PlayFault, What};
@@ -16,17 +17,21 @@ use ct_lines::parse::parse_line;
 use ct_lines::places::Places;
 use ct_rules_cluster::step::PendingCall;
 use ct_text::line::pending_text;
+use ct_traverse::line::TPending;
+use ct_traverse::text::pending_traverse_text;
+use ct_traverse::walker::Walker;
 use ct_values::config::Config;
 use ct_values::items::Items;
 use ct_values::memory::NoMemory;
 use ct_world::world::World;
 use std::alloc::Global;
 
-/// What the lines so far said, and the cluster, once a line opened it.
+/// What the lines so far said, the cluster, once a line opened it, and its traverses.
 #[derive(Drop)]
 pub struct Session {
     pub places: Places,
     pub world: Option<World>,
+    pub walker: Walker,
 }
 
 /// Does the line say what the cluster is?
@@ -38,6 +43,7 @@ fn is_config_line(line: &ScenarioLine) -> bool
         ScenarioLine::Change(_)
         | ScenarioLine::ByName { .. }
         | ScenarioLine::Settle(_)
+        | ScenarioLine::Traverse(_)
         | ScenarioLine::Ctdb { .. } => false,
     }
 }
@@ -67,6 +73,32 @@ fn texts(alloc: Global, calls: &[PendingCall], config: &Config) -> Result<Vec<It
     Ok(texts)
 }
 
+/// The text of each of these traverses, after these texts.
+fn add_texts(
+    alloc: Global,
+    traverses: &[TPending],
+    config: &Config,
+    texts: &mut Vec<Items<u8>>,
+) -> Result<(), NoMemory>
+    ensures { OnOk result (texts.new.items ≡ texts.old.items ++ map (pending_traverse_text config.now) traverses.now) }
+{
+    for traverse in traverses {
+        texts.push(Items::new(pending_traverse_text(alloc, traverse, config)?))?;
+    }
+    Ok(())
+}
+
+/// The text of each client call that waits, and then of each traverse.
+fn waiting(alloc: Global, world: &World, walker: &Walker) -> Result<Vec<Items<u8>>, NoMemory>
+    ensures { IfOk result (λ v. v.items ≡ waiting_texts world.now walker.now) }
+{
+    let calls = world.pending()?;
+    let mut texts = texts(alloc, calls.as_slice(), world.config())?;
+    let traverses = walker.pending()?;
+    add_texts(alloc, traverses.as_slice(), world.config(), &mut texts)?;
+    Ok(texts)
+}
+
 impl Session {
     /// Before the first line. It takes no memory.
     pub fn new(alloc: Global) -> Session
@@ -75,6 +107,7 @@ impl Session {
         Session {
             places: Places::new(alloc),
             world: None,
+            walker: Walker::new(alloc),
         }
     }
 
@@ -87,14 +120,14 @@ impl Session {
     ) -> Result<Vec<Items<u8>>, PlayFault>
         requires range { IsInRange line }
         requires nodes { IsSome self.old.places.nodes }
-        ensures { Plays result (put self.old.places (line_effect (rules_of table.now) (world_at self.old.places self.old.world) line)) self.new }
+        ensures { Plays result (put self.old.places (line_effect (rules_of table.now) (world_at self.old.places self.old.world) self.old.walker line)) self.new }
     {
         let before = self.world.take();
         let mut world = match world_at(alloc, &self.places, before) {
             Ok(world) => world,
             Err(NoMemory) => return Err(PlayFault::NoMemory),
         };
-        match line_effect(alloc, &mut world, table, line) {
+        match line_effect(alloc, &mut world, &mut self.walker, table, line) {
             Ok(texts) => {
                 self.world = Some(world);
                 Ok(texts)
@@ -112,7 +145,7 @@ impl Session {
     ) -> Result<Vec<Items<u8>>, PlayFault>
         requires range { IsInRange line }
         requires nodes { IsSome self.old.places.nodes }
-        ensures { Plays result (in_its_place (rules_of table.now) line self.old.world self.old.places) self.new }
+        ensures { Plays result (in_its_place (rules_of table.now) line self.old.world self.old.walker self.old.places) self.new }
     {
         if is_config_line(&line) {
             return Ok(Vec::new(alloc));
@@ -155,15 +188,12 @@ impl Session {
         }
     }
 
-    /// The text of each client call that waits.
+    /// The text of each client call that waits, and then of each traverse.
     pub fn pending(&self, alloc: Global) -> Result<Vec<Items<u8>>, NoMemory>
-        ensures { IfOk result (λ v. v.items ≡ pending_texts self.now.world) }
+        ensures { IfOk result (λ v. v.items ≡ pending_texts self.now) }
     {
         match &self.world {
-            Some(world) => {
-                let calls = world.pending()?;
-                texts(alloc, calls.as_slice(), world.config())
-            }
+            Some(world) => waiting(alloc, world, &self.walker),
             None => Ok(Vec::new(alloc)),
         }
     }

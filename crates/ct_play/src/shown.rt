@@ -1,8 +1,6 @@
 //! What a command shows, and why one is refused.
 ghost use Rattle.std.specs.Prelude.{◌≡◌, [], IfOk};
-ghost use Rattle.ct_rules_cluster.specs.Faults.{fault_of};
-ghost use Rattle.ct_rules_cluster.specs.declared.step.Step.TheVariants as step;
-ghost use Rattle.ct_play.specs.Effect.{Works, cut_after, refused_by, shown};
+ghost use Rattle.ct_play.specs.Effect.{ShowsLines, cut_after, refused_by, shown};
 
 use crate::what::{PlayFault, What};
 use ct_lines::line::ShowCommand;
@@ -36,7 +34,7 @@ pub fn refused_by(fault: StepFault) -> PlayFault
 }
 
 /// A text cut after each line feed.
-fn cut(alloc: Global, text: &[u8]) -> Result<Vec<Items<u8>>, NoMemory>
+pub fn cut(alloc: Global, text: &[u8]) -> Result<Vec<Items<u8>>, NoMemory>
     ensures { IfOk result (λ v. v.items ≡ cut_after [] text.now) }
 {
     let mut lines = Vec::new(alloc);
@@ -61,7 +59,7 @@ pub fn shown(
     node: u32,
     command: &ShowCommand,
 ) -> Result<Vec<Items<u8>>, PlayFault>
-    ensures { Works result (shown world.now node command.now (fault_of world.now.config world.now.cluster (step.Retry node))) world.now }
+    ensures { ShowsLines result (shown world.now node command.now) }
 {
     let step = Step::Retry(node);
     if let Some(fault) = world.fault(&step) {

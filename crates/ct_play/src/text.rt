@@ -34,6 +34,7 @@ pub fn push_what(text: &mut Vec<u8>, what: What) -> Result<(), NoMemory>
         What::NotServing(node) => push_number(text, b"not-serving ", u64::from(node)),
         What::NotLeader(node) => push_number(text, b"not-leader ", u64::from(node)),
         What::NoSuchFrame(number) => push_number(text, b"no-such-frame ", number),
+        What::NoSuchTframe(number) => push_number(text, b"no-such-tframe ", number),
         What::NotMember(node) => push_number(text, b"not-member ", u64::from(node)),
         What::LockHeld(node) => push_number(text, b"lock-held ", u64::from(node)),
         What::NotHolder => push(text, b"not-holder"),

@@ -27,6 +27,8 @@ pub enum What {
     NotLeader(u32),
     /// No message of this number waits or, where it is to come again, was delivered.
     NoSuchFrame(u64),
+    /// The same of a message of traverses.
+    NoSuchTframe(u64),
     /// Its node is no member of the round that it is to lead.
     NotMember(u32),
     /// This other node holds the recovery lock.

@@ -12,7 +12,7 @@ use Rattle.ct_rules_cluster.specs.declared.step.Step.{Step}
 use Rattle.ct_rules_cluster.specs.declared.step.Step.TheVariants as step
 use Rattle.ct_rules_cluster.specs.declared.step.StepFault.{StepFault}
 use Rattle.ct_lines.specs.declared.line.Command.{Command}
-use Rattle.ct_lines.specs.declared.line.Command.TheVariants.{Shows, Steps}
+use Rattle.ct_lines.specs.declared.line.Command.TheVariants.{Shows, Steps, CatDb}
 use Rattle.ct_lines.specs.declared.line.ScenarioLine.{ScenarioLine}
 use Rattle.ct_lines.specs.declared.line.ScenarioLine.TheVariants as item
 use Rattle.ct_mail.specs.Mail.{next_waiting}
@@ -61,17 +61,19 @@ unfoldable pub settled : Rules → ℕ → Soaked → Soaked
 settled rules zero s = s
 settled rules (suc m) s = comes_or_skips rules s (next_waiting s.cluster.sent) (λ t. settled rules m t)
 
--- a command that is a step; one that shows something does nothing
+-- a command that is a step; any other does nothing, since a soak has no traverses
 abbrev pub commanded : Rules → Soaked → ℕ → Command → Soaked
 commanded rules s n (Shows command) = s
 commanded rules s n (Steps command) = took rules s (command_step soak_config s.cluster n command)
+commanded rules s n (CatDb db) = s
 
--- what a line does; one of the configuration does nothing
+-- what a line does; one of the configuration does nothing, and none of traverses
 abbrev pub line_took : Rules → Soaked → ScenarioLine → Soaked
 line_took rules s (item.Config said) = s
 line_took rules s (item.Change x) = took rules s x
 line_took rules s (item.ByName n db asked) = took rules s (named_step n (number_in_step soak_config db) asked)
 line_took rules s (item.Settle m) = settled rules m s
+line_took rules s (item.Traverse said) = s
 line_took rules s (item.Ctdb n command) = commanded rules s n command
 
 -- what a word's line takes from the cluster

@@ -162,7 +162,7 @@ impl Soaking {
         Ok(())
     }
 
-    /// A command that is a step; one that shows something does nothing.
+    /// A command that is a step; any other does nothing.
     #[tactic(auto, using(ct_play::proofs::Allowed::command_allowed))]
     fn command(
         &mut self,
@@ -183,6 +183,7 @@ impl Soaking {
                 self.take(table, &step)?;
                 Ok(())
             }
+            Command::CatDb(_) => Ok(()),
         }
     }
 
@@ -207,6 +208,7 @@ impl Soaking {
                 Ok(())
             }
             ScenarioLine::Settle(count) => self.settle(table, count),
+            ScenarioLine::Traverse(_) => Ok(()),
             ScenarioLine::Ctdb { node, command } => self.command(alloc, table, node, &command),
         }
     }
