@@ -75,7 +75,7 @@ read_ends rules e p left a c h z f = by_end e (nothing_comes rules p h) f
     by_end end.TooLong r f = absurd f
 
 -- the calls that wait were told in part
-pub told_in_part : (s : Stop) (p : Player) (texts : List (List ℕ)) (a c : Option (List ℕ)) → p.line ≡ [] → texts ≡ pending_texts p.session.world → Prints (Err s) texts a c → Finishes (end_of s p.count) p a c
+pub told_in_part : (s : Stop) (p : Player) (texts : List (List ℕ)) (a c : Option (List ℕ)) → p.line ≡ [] → texts ≡ pending_texts p.session → Prints (Err s) texts a c → Finishes (end_of s p.count) p a c
 told_in_part (Refused what) p texts a c e t h = absurd h
 told_in_part WriteFault p texts a c e t h = (e, subst (λ x. AppendsPart a c (all_text x)) t h)
 told_in_part NoMemory p texts a c e t h = (e, subst (λ x. AppendsPart a c (all_text x)) t h)

@@ -7,10 +7,11 @@ use Rattle.ct_lcp2_lines.specs.declared.placer.End.TheVariants as placing
 use Rattle.ct_soak.specs.Soaking.{soak_text}
 use Rattle.ct_main.specs.Claims.{HasEndCause, Plays, SoakEnds}
 use Rattle.ct_main.specs.declared.player.End.TheVariants as end
+use Rattle.ct_play.proofs.Runs.{runs_are_moves}
 use Rattle.ct_main.proofs.Promised.{promised}
 
 pub nothing_played : (rules : Rules) (left now : Option (List ℕ)) → Plays rules end.NoMemory left left now now
-nothing_played rules left now = record { bytes = []; taken = Consumes-nil left; ends = ([], _, refl, Appends-nil now); most = omega arith; promised = promised rules [] }
+nothing_played rules left now = record { bytes = []; taken = Consumes-nil left; ends = ([], _, refl, Appends-nil now); most = omega arith; promised = promised rules []; moved = runs_are_moves rules [] }
 
 pub nothing_placed : (left now : Option (List ℕ)) → Places placing.NoMemory left left now now
 nothing_placed left now = record { bytes = []; taken = Consumes-nil left; ends = inl refl }

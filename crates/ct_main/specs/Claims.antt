@@ -14,8 +14,10 @@ use Rattle.ct_promise.specs.Marked.{MarksRun, no_marks}
 use Rattle.ct_promise.specs.Promises.{Keeps}
 use Rattle.ct_register.specs.Lines as lines
 use Rattle.ct_world.specs.World.{World}
-use Rattle.ct_play.specs.Course.{Deed, printed, steps_of}
-use Rattle.ct_play.specs.Play.{Run, pending_text_of, played, rest}
+use Rattle.ct_traverse.specs.Walk.{no_walk}
+use Rattle.ct_law_traverse.specs.Told.{TraversesRun}
+use Rattle.ct_play.specs.Course.{Deed, moves_of, printed, steps_of}
+use Rattle.ct_play.specs.Play.{AreMovesOf, Run, pending_text_of, played, rest}
 use Rattle.ct_play.specs.Text.{what_text}
 use Rattle.ct_play.specs.declared.what.What.{What}
 use Rattle.ct_play.specs.declared.what.What.TheVariants.{Line}
@@ -79,20 +81,23 @@ Ends rules end.NoMemory bytes left before now = AppendsPart before now (text_at 
 
 -- Some databases and addresses make the configuration, so each phrase of the law holds of this run. The steps that it took from
 -- the opening of its cluster lead to where the cluster stands, and print what was printed. The registers accept all that these
--- steps told, and the cluster stands for them; step by step marks hold and go on. Before a cluster was opened no step was taken.
+-- steps told, and the cluster stands for them; step by step marks hold and go on. Through its moves, those of traverses too, each
+-- traverse that is answered shows what was read since it began. Before a cluster was opened no step was taken.
 abbrev pub KeepsPromise : Rules → Option World → List Deed → Type 0
 KeepsPromise rules None deeds = deeds ≡ []
 KeepsPromise rules (Some w) deeds = let run = ran w.config rules (opening w.config) [] (steps_of deeds) in
-    IsConfig w.config × (run.cluster ≡ w.cluster) × (run.lines ≡ printed deeds) × Keeps w.config rules run × MarksRun w.config rules (opening w.config) [] (lines.opening w.config) (λ g. no_marks) (steps_of deeds)
+    IsConfig w.config × (run.cluster ≡ w.cluster) × (run.lines ≡ printed deeds) × Keeps w.config rules run × MarksRun w.config rules (opening w.config) [] (lines.opening w.config) (λ g. no_marks) (steps_of deeds) ×
+    TraversesRun w.config rules (opening w.config) [] no_walk (lines.opening w.config) (λ g. no_marks) (λ k. []) (moves_of deeds)
 
 -- The bytes that were taken are a front of what the source had left. Out holds what the end says of them, and whatever the end
--- is, their run keeps the promise.
+-- is, their run keeps the promise, and its moves, those of traverses too, print and tell what was printed and told.
 pub record Plays (rules : Rules) (e : End) (left_before left before now : Option (List ℕ)) : Type 0 where
   pub bytes : List ℕ
   pub taken : Consumes left_before left bytes
   pub ends : Ends rules e bytes left before now
   pub most : length bytes ≤ most_bytes
   pub promised : KeepsPromise rules (played rules bytes).session.world (played rules bytes).deeds
+  pub moved : AreMovesOf rules (played rules bytes).session.world (played rules bytes).session.walker (played rules bytes).deeds
 
 -- a fault comes only where its count rose
 pub record HasEndCause (e : End) (in_before in_now out_before out_now : ℕ) : Type 0 where

@@ -79,9 +79,9 @@ end_of (Refused what) count = end.Refused (count + 1) what
 end_of WriteFault count = end.WriteFault
 end_of NoMemory count = end.NoMemory
 
--- the text of the calls that wait where a player stands
+-- the text of the calls and the traverses that wait where a player stands
 abbrev pub waiting_text : Player → List ℕ
-waiting_text p = all_text (pending_texts p.session.world)
+waiting_text p = all_text (pending_texts p.session)
 
 -- How a play ends where the input has no more: inside a line, or after the calls that wait were told
 abbrev pub Finishes : End → Player → Option (List ℕ) → Option (List ℕ) → Type 0

@@ -9,20 +9,19 @@ ghost use Rattle.ct_call.specs.Rules.{Arg, Cut, Join, Old};
 ghost use Rattle.ct_call.specs.Seen.{seen};
 ghost use Rattle.ct_call.specs.Shown.{rules_of};
 
-mod edge;
 #[cfg(test)]
 mod tests;
 
-use crate::edge::answer;
 use ct_bus_exchange::handlers::Handlers;
 use ct_bus_threads::threads::BusThreads;
 use ct_call::rule::Rule;
 use ct_call::table::CallTable;
-use ct_chain_threads::column::open_columns;
-use ct_chain_threads::threads::ColumnThreads;
+use ct_main::edge::answer;
 use ct_outside::adapters::{StdSink, StdSource};
 use ct_outside::gate::OpenGate;
 use ct_troupe::both::Both;
+use ct_troupe_threads::column::open_columns;
+use ct_troupe_threads::column_threads::ColumnThreads;
 use ct_troupe_threads::loopback::Loopback;
 use ct_troupe_threads::threads::Threads;
 use std::alloc::Global;

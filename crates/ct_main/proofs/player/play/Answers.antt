@@ -6,6 +6,7 @@ use Rattle.ct_main.specs.declared.player.Player.{Player}
 use Rattle.ct_play.specs.declared.session.Session.{Session}
 use Rattle.ct_main.proofs.Ending.{ends_after, first, limit_ends}
 use Rattle.ct_main.proofs.Feeding.{feeds_then, unfed}
+use Rattle.ct_play.proofs.Runs.{runs_are_moves}
 use Rattle.ct_main.proofs.Promised.{promised}
 use Rattle.ct_main.proofs.player.play.Goals as goal
 
@@ -55,6 +56,7 @@ returns-in-Err-clause-plays g c =
       ends = ends_after (rules_of c.args.table.now) c.in-Err.end c.loop-taken.player old.0 new.bytes (left c.turn.new.input) (held c.args.out.now) (held c.loop-taken.out) (held c.turn.new.out) old.3 new.ends new.took (omega (arith, old.1));
       most = omega (arith, length-append old.0 new.bytes, old.1, new.fits, c.min-room.ensures, length-take c.min-room.result c.loop-taken.buffer);
       promised = promised (rules_of c.args.table.now) (old.0 ++ new.bytes);
+      moved = runs_are_moves (rules_of c.args.table.now) (old.0 ++ new.bytes);
     }
 
 pub returns-clause-plays : goal.returns-clause-plays
@@ -66,4 +68,5 @@ returns-clause-plays g c =
       ends = limit_ends (rules_of c.args.table.now) c.loop-taken.player old.0 (g.S.Source.left c.loop-taken.input) (g.K.Sink.held c.args.out.now) (g.K.Sink.held c.loop-taken.out) old.3 c.loop-taken.invariant.line (omega (arith, old.1));
       most = omega (arith, old.1);
       promised = promised (rules_of c.args.table.now) old.0;
+      moved = runs_are_moves (rules_of c.args.table.now) old.0;
     }

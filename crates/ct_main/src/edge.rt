@@ -17,13 +17,13 @@ ghost use Rattle.ct_words.specs.declared.words.Word.TheVariants as word;
 ghost use Rattle.ct_main.specs.Claims.{HasEndCause, Plays, Refuses, Reports, SoakEnds, asked, asks_bus, asks_troupe, bus_end, bus_wanted_by, cluster_message, cluster_status, cut_wanted_by, message, placed_end, status, wanted_by};
 ghost use Rattle.ct_main.specs.declared.player.End.{End as Ended};
 
+use crate::run::run;
 use ct_bus_exchange::handlers::Handlers;
 use ct_bus_exchange::troupe::BusTroupe;
 use ct_call::table::CallTable;
-use ct_chain_troupe::columns::Columns;
-use ct_main::run::run;
 use ct_outside::sink::Sink;
 use ct_outside::source::Source;
+use ct_troupe::columns::Columns;
 use ct_troupe::troupe::Troupe;
 use std::alloc::Global;
 use std::process::ExitCode;
