@@ -1,6 +1,8 @@
 -- Lists, one item after the other.
-use Rattle.std.proofs.Common.{◌≡◌, ℕ, suc, ◌+◌, ◌-◌, ◌<◌, List, [], ◌∷◌, ◌++◌, Result, Ok, Err, IfOk, OnOk, refl, sym, ap, subst, ◌∙◌, append_assoc, arith}
+use Rattle.std.proofs.Common.{◌≡◌, ◌≢◌, ℕ, suc, ◌+◌, ◌-◌, ◌<◌, List, [], ◌∷◌, ◌++◌, Result, Ok, Err, IfOk, OnOk, refl, sym, ap, subst, ◌∙◌, append_assoc, arith}
+use Rattle.std.specs.Prelude.{codes}
 use Rattle.std.specs.List.{flat_map, range_with_len}
+use Rattle.ct_picture.specs.Drawing.{behind_comma}
 
 -- numbers from one on are that one and those after it
 numbers_left : (n m : ℕ) → n < m → range_with_len n (m - n) ≡ n ∷ range_with_len (n + 1) (m - (n + 1))
@@ -19,6 +21,11 @@ of_ok (Err f) x P e h = absurd cc
 pub if_ok_by : {T E : Type 0} (r : Result T E) (x : T) (P : T → Type 0) → IfOk r (λ y. y ≡ x) → P x → IfOk r P
 if_ok_by (Ok y) x P e h = subst P (sym e) h
 if_ok_by (Err f) x P e h = e
+
+-- counts that are there stand behind a comma
+pub comma_before : (counts : List ℕ) → counts ≢ [] → behind_comma counts ≡ codes ", " ++ counts
+comma_before [] ne = absurd (ne refl)
+comma_before (b ∷ bs) ne = refl
 
 -- two pieces more
 pub two_behind : (t0 t u xs l n : List ℕ) → t ≡ t0 ++ xs → u ≡ t ++ (l ++ n) → u ≡ t0 ++ ((xs ++ l) ++ n)

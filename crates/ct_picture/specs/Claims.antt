@@ -12,8 +12,8 @@ At width height x y = (x ≤ width) × (y ≤ height)
 
 -- no point of a shape is outside
 unfoldable pub IsInside : ℕ → ℕ → Shape → Type 0
-IsInside width height (shape.Arrow x1 y1 x2 y2 l) = At width height x1 y1 × At width height x2 y2
-IsInside width height (shape.Turn x y1 far y2 l) = At width height x y1 × At width height far y2
+IsInside width height (shape.Arrow x1 y1 x2 y2 l t) = At width height x1 y1 × At width height x2 y2
+IsInside width height (shape.Turn x y1 far y2 l t) = At width height x y1 × At width height far y2
 IsInside width height (shape.Dot x y) = At width height x y
 IsInside width height (shape.Life x y1 y2 runs) = At width height x y1 × At width height x y2
 IsInside width height (shape.Band x y w h hue) = At width height (x + w) (y + h)

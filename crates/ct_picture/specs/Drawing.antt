@@ -1,5 +1,5 @@
 -- Where everything of a picture stands.
-use Rattle.std.specs.Prelude.{◌≡◌, ◌≤◌, ℕ, ◌+◌, ◌-◌, ◌*◌, ◌%◌, ◌==◌, max, nat_le, nat_lt, Bool, true, false, if◌then◌else◌, List, [], ◌∷◌, ◌++◌, length, take, map, codes, Option, None, Some}
+use Rattle.std.specs.Prelude.{◌≡◌, ◌≤◌, ℕ, ◌+◌, ◌-◌, ◌*◌, ◌%◌, ◌==◌, max, nat_le, nat_lt, Bool, true, false, if◌then◌else◌, List, [], ◌∷◌, ◌++◌, length, take, map, slice_get, codes, Option, None, Some}
 use Rattle.std.specs.Fmt.{decimal}
 use Rattle.std.specs.List.{flat_map, range_with_len, All}
 use Rattle.ct_picture.specs.declared.row.Look.{Look}
@@ -12,6 +12,7 @@ use Rattle.ct_picture.specs.declared.shape.Group.{Group}
 use Rattle.ct_picture.specs.declared.shape.Picture.{Picture}
 use Rattle.ct_picture.specs.declared.shape.Shape.{Shape}
 use Rattle.ct_picture.specs.declared.shape.Shape.TheVariants as shape
+use Rattle.ct_picture.specs.declared.shape.Tip.TheVariants as tip
 
 -- where the lifeline of a node stands
 abbrev pub x_of : ℕ → ℕ
@@ -21,9 +22,9 @@ x_of node = 230 + 220 * node
 abbrev pub y_of : ℕ → ℕ
 y_of i = 72 + 24 * i
 
--- the middle between two lifelines
-abbrev pub middle_of : ℕ → ℕ → ℕ
-middle_of sender receiver = 230 + 110 * (sender + receiver)
+-- half a column from the sender's lifeline on the receiver's side, where no lifeline stands
+abbrev pub label_x : ℕ → ℕ → ℕ
+label_x sender receiver = if nat_lt sender receiver then x_of sender + 110 else x_of sender - 110
 
 abbrev pub width_of : ℕ → ℕ
 width_of nodes = 230 + 220 * nodes
@@ -35,12 +36,12 @@ height_of rows = 96 + 24 * rows
 abbrev pub short : List ℕ → List ℕ
 short label = if nat_le (length label) 26 then label else take 24 label ++ codes ".."
 
--- an arrow from the sender's lifeline to the receiver's, one row below, and the label in its middle; to a node itself it goes by the right
+-- an arrow from the sender's lifeline to the receiver's, one row below, and the label beside the sender; to a node itself it goes by the right
 abbrev pub message : ℕ → ℕ → ℕ → Look → List ℕ → List Shape
 message i sender receiver l label =
     if sender == receiver
-    then shape.Turn (x_of sender) (y_of i) (x_of sender + 30) (y_of (i + 1)) l ∷ shape.Words (x_of sender + 30) (y_of i + 16) hand.Start label ∷ []
-    else shape.Arrow (x_of sender) (y_of i) (x_of receiver) (y_of (i + 1)) l ∷ shape.Words (middle_of sender receiver) (y_of i + 7) hand.Middle label ∷ []
+    then shape.Turn (x_of sender) (y_of i) (x_of sender + 30) (y_of (i + 1)) l tip.Head ∷ shape.Words (x_of sender + 30) (y_of i + 16) hand.Start label ∷ []
+    else shape.Arrow (x_of sender) (y_of i) (x_of receiver) (y_of (i + 1)) l tip.Head ∷ shape.Words (label_x sender receiver) (y_of i + 7) hand.Middle label ∷ []
 
 -- a dot on a node's lifeline, and the label beside it
 abbrev pub note : ℕ → ℕ → List ℕ → List Shape
@@ -52,7 +53,7 @@ aside i label = shape.Words 10 (y_of i + 16) hand.Start label ∷ []
 
 -- the shapes of row i, from 0
 abbrev pub shapes_of : ℕ → RowKind → List ℕ → List Shape
-shapes_of i (kind.Sent sender receiver l) label = message i sender receiver l (short label)
+shapes_of i (kind.Sent number sender receiver l) label = message i sender receiver l (short label)
 shapes_of i (kind.At node) label = note i node (short label)
 shapes_of i (kind.Installed node generation) label = note i node (short label)
 shapes_of i (kind.Stopped node) label = note i node (short label)
@@ -72,7 +73,7 @@ groups_from i (row ∷ rows) = group_of i row ∷ groups_from (i + 1) rows
 
 -- how many nodes there are at least, where a row tells of these
 abbrev pub nodes_in : RowKind → ℕ
-nodes_in (kind.Sent sender receiver l) = max (sender + 1) (receiver + 1)
+nodes_in (kind.Sent number sender receiver l) = max (sender + 1) (receiver + 1)
 nodes_in (kind.At node) = node + 1
 nodes_in (kind.Installed node generation) = node + 1
 nodes_in (kind.Stopped node) = node + 1
@@ -98,7 +99,7 @@ begun node i (kind.Installed n generation) = of_node node n (record { begun = i;
 begun node i (kind.Stopped n) = of_node node n (record { begun = i; runs = false; generation = 0 })
 begun node i (kind.Started n) = of_node node n (record { begun = i; runs = true; generation = 0 })
 begun node i kind.Column = Some (fresh i)
-begun node i (kind.Sent sender receiver l) = None
+begun node i (kind.Sent number sender receiver l) = None
 begun node i (kind.At n) = None
 begun node i kind.Beside = None
 begun node i kind.Across = None
@@ -131,12 +132,28 @@ strips node i lane (row ∷ rows) = closed node lane i (begun node i row.kind) +
 unfoldable pub lifeline : List Row → ℕ → List Shape
 lifeline rows node = shape.Words (x_of node) 56 hand.Middle (codes "node " ++ decimal node) ∷ strips node 0 (fresh 0) rows
 
-abbrev pub heading : ℕ → ℕ → List ℕ
-heading nodes rows = codes "nodes: " ++ decimal nodes ++ codes ", lines: " ++ decimal rows
+abbrev pub count_line : RowKind → List ℕ → List ℕ
+count_line kind.Across line = line
+count_line k line = []
+
+abbrev pub summary_in : Option Row → List ℕ
+summary_in None = []
+summary_in (Some row) = count_line row.kind row.line
+
+-- the line that counts what a run did, where it ends with one
+abbrev pub summary : List Row → List ℕ
+summary rows = summary_in (slice_get rows (length rows - 1))
+
+abbrev pub behind_comma : List ℕ → List ℕ
+behind_comma [] = []
+behind_comma (b ∷ bs) = codes ", " ++ b ∷ bs
+
+abbrev pub heading : ℕ → ℕ → List ℕ → List ℕ
+heading nodes rows counts = codes "nodes: " ++ decimal nodes ++ codes ", lines: " ++ decimal rows ++ behind_comma counts
 
 -- what stands behind the rows
 abbrev pub back_of : ℕ → List Row → List Shape
-back_of nodes rows = shape.Words 10 24 hand.Start (heading nodes (length rows)) ∷ flat_map (lifeline rows) (range_with_len 0 nodes)
+back_of nodes rows = shape.Words 10 24 hand.Start (heading nodes (length rows) (summary rows)) ∷ flat_map (lifeline rows) (range_with_len 0 nodes)
 
 -- the picture of so many nodes
 abbrev pub picture_with : ℕ → List Row → Picture

@@ -63,6 +63,14 @@ is_of_commit w = bytes_eq w (codes "pupdate") || bytes_eq w (codes "pack")
 unfoldable pub is_of_addresses : List ℕ → Bool
 is_of_addresses w = bytes_eq w (codes "release") || bytes_eq w (codes "releaseack") || bytes_eq w (codes "take")
 
+-- messages of a walk through a database
+unfoldable pub is_of_traverse : List ℕ → Bool
+is_of_traverse w = bytes_eq w (codes "ask") || bytes_eq w (codes "rows")
+
+-- words that a line of a message begins with
+unfoldable pub is_message : List ℕ → Bool
+is_message w = bytes_eq w (codes "frame") || bytes_eq w (codes "tframe")
+
 -- how a message of this name looks, if there is one
 abbrev pub look_of : List ℕ → Option Look
 look_of w =
@@ -76,6 +84,8 @@ look_of w =
     then Some look.Commit
     else if is_of_addresses w
     then Some look.Addresses
+    else if is_of_traverse w
+    then Some look.Traverse
     else None
 
 -- words that tell of the node that the next word names
@@ -86,11 +96,13 @@ is_at_first w =
 
 -- words that tell of the node that the word after the next names
 unfoldable pub is_at_second : List ℕ → Bool
-is_at_second w = bytes_eq w (codes "ticket") || bytes_eq w (codes "pending")
+is_at_second w = bytes_eq w (codes "ticket") || bytes_eq w (codes "pending") || bytes_eq w (codes "pending-traverse")
 
 -- words that tell of no node, and have a number behind them
 unfoldable pub is_beside : List ℕ → Bool
-is_beside w = bytes_eq w (codes "answer") || bytes_eq w (codes "lost") || bytes_eq w (codes "round")
+is_beside w =
+    bytes_eq w (codes "answer") || bytes_eq w (codes "lost") || bytes_eq w (codes "round") || bytes_eq w (codes "tlost")
+    || bytes_eq w (codes "traverse")
 
 -- words that a line of counts begins with
 unfoldable pub is_count : List ℕ → Bool
@@ -106,12 +118,13 @@ is_shown w =
     bytes_eq w (codes "node") || bytes_eq w (codes "Public") || bytes_eq w (codes "Dumped") || bytes_eq w (codes "Number")
     || bytes_eq w (codes "Recovery") || bytes_eq w (codes "Sequence") || has_sign w
 
-abbrev pub sent : Option ℕ → Option ℕ → Option ℕ → Option Look → Option RowKind
-sent (Some sender) (Some receiver) (Some generation) (Some l) = Some (kind.Sent sender receiver l)
-sent (Some sender) (Some receiver) (Some generation) None = None
-sent (Some sender) (Some receiver) None l = None
-sent (Some sender) None generation l = None
-sent None receiver generation l = None
+abbrev pub sent : Option ℕ → Option ℕ → Option ℕ → Option ℕ → Option Look → Option RowKind
+sent (Some number) (Some sender) (Some receiver) (Some generation) (Some l) = Some (kind.Sent number sender receiver l)
+sent (Some number) (Some sender) (Some receiver) (Some generation) None = None
+sent (Some number) (Some sender) (Some receiver) None l = None
+sent (Some number) (Some sender) None generation l = None
+sent (Some number) None receiver generation l = None
+sent None sender receiver generation l = None
 
 abbrev pub at_node : Option ℕ → Option RowKind
 at_node None = None
@@ -139,8 +152,8 @@ where_number (Some n) k = Some k
 unfoldable pub kind_of : List (List ℕ) → Option RowKind
 kind_of ws =
     let w = word_at ws 0 in
-    if bytes_eq w (codes "frame")
-    then sent (node_at ws 2) (node_at ws 3) (number_at ws 4) (look_of (word_at ws 5))
+    if is_message w
+    then sent (number_at ws 1) (node_at ws 2) (node_at ws 3) (number_at ws 4) (look_of (word_at ws 5))
     else if is_at_first w
     then at_node (node_at ws 1)
     else if is_at_second w
@@ -167,7 +180,7 @@ sent_label ws = word_at ws 1 ++ codes " " ++ word_at ws 5 ++ codes " " ++ word_a
 
 -- a message is told by some of its words, all else by the whole line
 abbrev pub label_of : RowKind → List ℕ → List ℕ
-label_of (kind.Sent sender receiver l) line = sent_label (words_of line)
+label_of (kind.Sent number sender receiver l) line = sent_label (words_of line)
 label_of (kind.At n) line = line
 label_of (kind.Installed n generation) line = line
 label_of (kind.Stopped n) line = line

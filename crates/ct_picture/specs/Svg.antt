@@ -10,6 +10,8 @@ use Rattle.ct_picture.specs.declared.shape.Group.{Group}
 use Rattle.ct_picture.specs.declared.shape.Picture.{Picture}
 use Rattle.ct_picture.specs.declared.shape.Shape.{Shape}
 use Rattle.ct_picture.specs.declared.shape.Shape.TheVariants as shape
+use Rattle.ct_picture.specs.declared.shape.Tip.{Tip}
+use Rattle.ct_picture.specs.declared.shape.Tip.TheVariants as tip
 
 -- a byte of a text: the four that mean something else are written by name
 abbrev pub escaped_byte : ℕ → List ℕ
@@ -34,11 +36,23 @@ class_of look.Copies = codes "copies"
 class_of look.Round = codes "round"
 class_of look.Commit = codes "commit"
 class_of look.Addresses = codes "addresses"
+class_of look.Traverse = codes "traverse"
+
+-- the class of how an arrow ends, behind that of its message
+abbrev pub tip_of : Tip → List ℕ
+tip_of tip.Head = codes ""
+tip_of tip.Again = codes " again"
+tip_of tip.Cross = codes " cross"
+tip_of tip.Open = codes " open"
+
+abbrev pub look_text : Look → Tip → List ℕ
+look_text l t = codes "\" class=\"" ++ class_of l ++ tip_of t ++ codes "\"/>\n"
 
 -- the class of words
 abbrev pub hand_of : Hand → List ℕ
 hand_of hand.Start = codes "start"
 hand_of hand.Middle = codes "middle"
+hand_of hand.Said = codes "said"
 
 abbrev pub life_of : Bool → List ℕ
 life_of true = codes "life"
@@ -46,12 +60,11 @@ life_of false = codes "down"
 
 -- one element
 unfoldable pub shape_text : Shape → List ℕ
-shape_text (shape.Arrow x1 y1 x2 y2 l) =
-    codes "<path d=\"M" ++ decimal x1 ++ codes " " ++ decimal y1 ++ codes "L" ++ decimal x2 ++ codes " " ++ decimal y2 ++ codes "\" class=\"" ++ class_of l
-    ++ codes "\"/>\n"
-shape_text (shape.Turn x y1 far y2 l) =
+shape_text (shape.Arrow x1 y1 x2 y2 l t) =
+    codes "<path d=\"M" ++ decimal x1 ++ codes " " ++ decimal y1 ++ codes "L" ++ decimal x2 ++ codes " " ++ decimal y2 ++ look_text l t
+shape_text (shape.Turn x y1 far y2 l t) =
     codes "<path d=\"M" ++ decimal x ++ codes " " ++ decimal y1 ++ codes "C" ++ decimal far ++ codes " " ++ decimal y1 ++ codes " " ++ decimal far
-    ++ codes " " ++ decimal y2 ++ codes " " ++ decimal x ++ codes " " ++ decimal y2 ++ codes "\" class=\"" ++ class_of l ++ codes "\"/>\n"
+    ++ codes " " ++ decimal y2 ++ codes " " ++ decimal x ++ codes " " ++ decimal y2 ++ look_text l t
 shape_text (shape.Dot x y) = codes "<circle" ++ codes " cx=\"" ++ decimal x ++ codes "\" cy=\"" ++ decimal y ++ codes "\" r='4'/>\n"
 shape_text (shape.Life x y1 y2 runs) =
     codes "<path d=\"M" ++ decimal x ++ codes " " ++ decimal y1 ++ codes "V" ++ decimal y2 ++ codes "\" class=\"" ++ life_of runs ++ codes "\"/>\n"
@@ -68,7 +81,7 @@ group_text g = codes "<g><title>" ++ escaped g.title ++ codes "</title>\n" ++ fl
 -- the look of all: colours that differ in lightness too, and others where the viewer wants it dark
 unfoldable pub text_style : List ℕ
 text_style =
-    codes "<style>text{font:11px monospace;fill:#111;paint-order:stroke;stroke:#fff;stroke-width:4px}.middle{text-anchor:middle}\n"
+    codes "<style>text{font:11px monospace;fill:#111;paint-order:stroke;stroke:#fff;stroke-width:4px}.middle{text-anchor:middle}.said{font-weight:bold}\n"
 
 unfoldable pub path_style : List ℕ
 path_style =
@@ -77,6 +90,10 @@ path_style =
 unfoldable pub message_style : List ℕ
 message_style =
     codes ".record{stroke:#0072b2}.copies{stroke:#b35c00}.round{stroke:#8c2d6f}.commit{stroke:#00734f}.addresses{stroke:#111}\n"
+
+unfoldable pub tip_style : List ℕ
+tip_style =
+    codes ".traverse{stroke:#555;stroke-dasharray:1 3}.again{stroke-dasharray:8 4}.cross{marker-end:url(#cross)}.open{marker-end:url(#open)}\n"
 
 unfoldable pub ground_style : List ℕ
 ground_style =
@@ -95,9 +112,9 @@ dark_ground_style =
     codes ".g1{fill:#444}.g2{fill:#1d4a66}.g3{fill:#5c4a10}.g4{fill:#1c5442}.g5{fill:#5e2f4c}}</style>\n"
 
 abbrev pub style : List ℕ
-style = text_style ++ path_style ++ message_style ++ ground_style ++ dark_style ++ dark_message_style ++ dark_ground_style
+style = text_style ++ path_style ++ message_style ++ tip_style ++ ground_style ++ dark_style ++ dark_message_style ++ dark_ground_style
 
--- the head of an arrow, and what is behind all
+-- how arrows end: with a head, with a cross, and with an open ring
 unfoldable pub marker : List ℕ
 marker =
     codes "<defs><marker id='head' viewBox='0 0 8 8' refX='8' refY='4' markerWidth='9' markerHeight='9' markerUnits='userSpaceOnUse' orient='auto'>\n"
@@ -106,12 +123,26 @@ unfoldable pub marker_path : List ℕ
 marker_path =
     codes "<path d='M0 0L8 4L0 8z' style='marker-end:none;stroke:none' class='head'/></marker></defs>\n"
 
+unfoldable pub cross_marker : List ℕ
+cross_marker =
+    codes "<defs><marker id='cross' viewBox='0 0 8 8' refX='4' refY='4' markerWidth='9' markerHeight='9' markerUnits='userSpaceOnUse'>\n"
+
+unfoldable pub cross_path : List ℕ
+cross_path = codes "<path d='M0 0L8 8M0 8L8 0' class='life'/></marker></defs>\n"
+
+unfoldable pub open_marker : List ℕ
+open_marker =
+    codes "<defs><marker id='open' viewBox='0 0 8 8' refX='0' refY='4' markerWidth='9' markerHeight='9' markerUnits='userSpaceOnUse'>\n"
+
+unfoldable pub open_path : List ℕ
+open_path = codes "<circle cx='4' cy='4' r='3' style='fill:none' class='life'/></marker></defs>\n"
+
 unfoldable pub ground : List ℕ
 ground =
     codes "<rect width='100%' height='100%' class='back'/>\n"
 
 abbrev pub preface : List ℕ
-preface = marker ++ marker_path ++ ground
+preface = marker ++ marker_path ++ cross_marker ++ cross_path ++ open_marker ++ open_path ++ ground
 
 -- how it begins, with its width and height
 unfoldable pub opening : List ℕ

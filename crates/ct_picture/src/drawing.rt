@@ -4,31 +4,40 @@ ghost use Rattle.std.specs.Fmt.{decimal};
 ghost use Rattle.std.specs.List.{flat_map, range_with_len};
 ghost use Rattle.ct_picture.specs.declared.shape.Shape.TheVariants as shape;
 ghost use Rattle.ct_picture.specs.Claims.{AllInside};
-ghost use Rattle.ct_picture.specs.Drawing.{aside, back_of, begun, closed, fresh, group_of, groups_from, heading, hue_of, lifeline, message, nodes_from, nodes_in, note, of_node, or_lane, picture_of, shapes_of, short, strip, strips, x_of, y_of};
+ghost use Rattle.ct_picture.specs.Drawing.{aside, back_of, begun, behind_comma, closed, fresh, group_of, groups_from, heading, hue_of, label_x, lifeline, message, nodes_from, nodes_in, note, of_node, or_lane, picture_of, shapes_of, short, strip, strips, summary, x_of, y_of};
 
 use crate::row::{Look, Row, RowKind, copy_of, push};
-use crate::shape::{Group, Hand, Lane, Picture, Shape};
+use crate::shape::{Group, Hand, Lane, Picture, Shape, Tip};
 use ct_values::items::Items;
 use ct_values::memory::NoMemory;
 use ct_values::number::push_decimal;
 use std::alloc::Global;
 
 /// Where the lifeline of a node stands.
-fn x_of(node: u32) -> u64
+pub fn x_of(node: u32) -> u64
     ensures { result ≡ x_of node }
 {
     230 + 220 * u64::from(node)
 }
 
-/// Where a row begins, and the one before it ends.
-fn y_of(i: u64) -> u64
+/// Half a column from the sender's lifeline on the receiver's side, where no lifeline stands.
+pub fn label_x(sender: u32, receiver: u32) -> u64
+    ensures { result ≡ label_x sender receiver }
+{
+    let x = x_of(sender);
+    if sender < receiver { x + 110 } else { x - 110 }
+}
+
+/// Where a row begins, and the one before it ends. Rows count from 0.
+pub fn y_of(i: u64) -> u64
     requires { i ≤ 2199023255552 }
     ensures { result ≡ y_of i }
 {
     72 + 24 * i
 }
 
-fn add(shapes: &mut Vec<Shape>, shape: Shape) -> Result<(), NoMemory>
+/// One shape more.
+pub fn add(shapes: &mut Vec<Shape>, shape: Shape) -> Result<(), NoMemory>
     ensures { OnOk result (shapes.new.items ≡ shapes.old.items ++ shape ∷ []) }
 {
     shapes.push(shape)?;
@@ -44,7 +53,7 @@ fn front(label: &[u8], count: usize) -> &[u8]
 }
 
 /// At most 26 signs of a label.
-fn short(alloc: Global, label: &[u8]) -> Result<Items<u8>, NoMemory>
+pub fn short(alloc: Global, label: &[u8]) -> Result<Items<u8>, NoMemory>
     ensures { IfOk result (λ x. x ≡ short label.now) }
 {
     let mut text = Vec::new(alloc);
@@ -82,6 +91,7 @@ fn message(
                 far,
                 y2,
                 look,
+                tip: Tip::Head,
             },
         )?;
         words(shapes, far, y1 + 16, Hand::Start, label)
@@ -94,14 +104,21 @@ fn message(
                 x2,
                 y2,
                 look,
+                tip: Tip::Head,
             },
         )?;
-        let middle = 230 + 110 * (u64::from(sender) + u64::from(receiver));
-        words(shapes, middle, y1 + 7, Hand::Middle, label)
+        words(
+            shapes,
+            label_x(u32::from(sender), u32::from(receiver)),
+            y1 + 7,
+            Hand::Middle,
+            label,
+        )
     }
 }
 
-fn words(
+/// Words that begin at this place, or have their middle there.
+pub fn words(
     shapes: &mut Vec<Shape>,
     x: u64,
     y: u64,
@@ -113,6 +130,7 @@ fn words(
     add(shapes, Shape::Words { x, y, hand, words })
 }
 
+/// A dot on a node's lifeline in row i, and the label beside it.
 fn note(shapes: &mut Vec<Shape>, i: u64, node: u8, label: Items<u8>) -> Result<(), NoMemory>
     requires { i < 2199023255552 }
     ensures { OnOk result (shapes.new.items ≡ shapes.old.items ++ note i node label) }
@@ -131,7 +149,7 @@ fn aside(shapes: &mut Vec<Shape>, i: u64, label: Items<u8>) -> Result<(), NoMemo
 }
 
 /// The shapes of row i, from 0.
-fn shapes_of(alloc: Global, i: u64, kind: RowKind, label: &[u8]) -> Result<Vec<Shape>, NoMemory>
+pub fn shapes_of(alloc: Global, i: u64, kind: RowKind, label: &[u8]) -> Result<Vec<Shape>, NoMemory>
     requires { i < 2199023255552 }
     ensures { IfOk result (λ v. v.items ≡ shapes_of i kind label.now) }
 {
@@ -141,6 +159,7 @@ fn shapes_of(alloc: Global, i: u64, kind: RowKind, label: &[u8]) -> Result<Vec<S
             sender,
             receiver,
             look,
+            ..
         } => message(&mut shapes, i, sender, receiver, look, short(alloc, label)?)?,
         RowKind::At { node } => note(&mut shapes, i, node, short(alloc, label)?)?,
         RowKind::Installed { node, .. } => note(&mut shapes, i, node, short(alloc, label)?)?,
@@ -167,7 +186,8 @@ fn group_of(alloc: Global, i: u64, row: &Row) -> Result<Group, NoMemory>
     })
 }
 
-fn add_group(groups: &mut Vec<Group>, group: Group) -> Result<(), NoMemory>
+/// One element more.
+pub fn add_group(groups: &mut Vec<Group>, group: Group) -> Result<(), NoMemory>
     ensures { OnOk result (groups.new.items ≡ groups.old.items ++ group ∷ []) }
 {
     groups.push(group)?;
@@ -188,8 +208,9 @@ fn groups_of(alloc: Global, rows: &[Row]) -> Result<Vec<Group>, NoMemory>
 }
 
 /// How many nodes there are at least, where a row tells of these.
-fn nodes_in(kind: RowKind) -> u32
-    ensures { result ≡ nodes_in kind }
+pub fn nodes_in(kind: RowKind) -> u32
+    ensures nodes { result ≡ nodes_in kind }
+    ensures few { result ≤ 256 }
 {
     match kind {
         RowKind::Sent {
@@ -218,7 +239,7 @@ fn nodes_of(rows: &[Row]) -> u32
 }
 
 /// A lifeline in its first generation.
-fn fresh(i: u64) -> Lane
+pub fn fresh(i: u64) -> Lane
     ensures { result ≡ fresh i }
 {
     Lane {
@@ -239,7 +260,7 @@ fn of_node(node: u32, n: u8, lane: Lane) -> Option<Lane>
 }
 
 /// How a node's lifeline goes on from row i, where that changes it.
-fn begun(node: u32, i: u64, kind: RowKind) -> Option<Lane>
+pub fn begun(node: u32, i: u64, kind: RowKind) -> Option<Lane>
     ensures lane { result ≡ begun node i kind }
     ensures here { IfSome result (λ l. l.begun ≡ i) }
 {
@@ -293,7 +314,7 @@ fn hue_of(generation: u64) -> u64
 }
 
 /// A lifeline as far as row i.
-fn strip(shapes: &mut Vec<Shape>, node: u32, lane: Lane, i: u64) -> Result<(), NoMemory>
+pub fn strip(shapes: &mut Vec<Shape>, node: u32, lane: Lane, i: u64) -> Result<(), NoMemory>
     requires order { lane.begun ≤ i }
     requires few { i ≤ 2199023255552 }
     ensures { OnOk result (shapes.new.items ≡ shapes.old.items ++ strip node lane i) }
@@ -342,7 +363,8 @@ fn strips(shapes: &mut Vec<Shape>, node: u32, rows: &[Row]) -> Result<(), NoMemo
     strip(shapes, node, lane, i)
 }
 
-fn name_of(alloc: Global, node: u32) -> Result<Items<u8>, NoMemory>
+/// What stands above a lifeline.
+pub fn name_of(alloc: Global, node: u32) -> Result<Items<u8>, NoMemory>
     ensures { IfOk result (λ x. x ≡ codes "node " ++ decimal node) }
 {
     let mut text = Vec::new(alloc);
@@ -377,14 +399,46 @@ fn lifelines(
     Ok(())
 }
 
-fn heading(alloc: Global, nodes: u32, rows: u64) -> Result<Items<u8>, NoMemory>
-    ensures { IfOk result (λ x. x ≡ heading nodes rows) }
+/// The line that counts what a run did, where it ends with one.
+fn summary(rows: &[Row]) -> &[u8]
+    ensures { result.now ≡ summary rows.now }
+{
+    match rows.last() {
+        Some(row) => match row.kind {
+            RowKind::Across => row.line.as_slice(),
+            RowKind::Sent { .. } => &[],
+            RowKind::At { .. } => &[],
+            RowKind::Installed { .. } => &[],
+            RowKind::Stopped { .. } => &[],
+            RowKind::Started { .. } => &[],
+            RowKind::Beside => &[],
+            RowKind::Column => &[],
+        },
+        None => &[],
+    }
+}
+
+/// The line of counts behind a comma, where there is one.
+#[tactic(auto, using(crate::proofs::Lists::comma_before))]
+fn push_counts(text: &mut Vec<u8>, counts: &[u8]) -> Result<(), NoMemory>
+    ensures { OnOk result (text.new.items ≡ text.old.items ++ behind_comma counts.now) }
+{
+    if counts.is_empty() {
+        return Ok(());
+    }
+    push(text, b", ")?;
+    push(text, counts)
+}
+
+fn heading(alloc: Global, nodes: u32, rows: u64, summary: &[u8]) -> Result<Items<u8>, NoMemory>
+    ensures { IfOk result (λ x. x ≡ heading nodes rows summary.now) }
 {
     let mut text = Vec::new(alloc);
     push(&mut text, b"nodes: ")?;
     push_decimal(&mut text, u64::from(nodes))?;
     push(&mut text, b", lines: ")?;
     push_decimal(&mut text, rows)?;
+    push_counts(&mut text, summary)?;
     Ok(Items::new(text))
 }
 
@@ -394,7 +448,7 @@ fn back_of(alloc: Global, nodes: u32, rows: &[Row]) -> Result<Vec<Shape>, NoMemo
     ensures { IfOk result (λ v. v.items ≡ back_of nodes rows.now) }
 {
     let mut shapes = Vec::new(alloc);
-    let heading = heading(alloc, nodes, rows.len() as u64)?;
+    let heading = heading(alloc, nodes, rows.len() as u64, summary(rows))?;
     words(&mut shapes, 10, 24, Hand::Start, heading)?;
     lifelines(alloc, &mut shapes, nodes, rows)?;
     Ok(shapes)

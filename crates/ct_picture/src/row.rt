@@ -2,7 +2,7 @@
 ghost use Rattle.std.specs.Prelude.{◌≡◌, ◌<◌, ◌++◌, ◌==◌, map, IfOk, IfSome, OnOk};
 ghost use Rattle.std.specs.List.{list_all, list_any, slice_split};
 ghost use Rattle.std.specs.Str.{bytes_eq};
-ghost use Rattle.ct_picture.specs.Rows.{at_node, if_node, installed, is_at_first, is_at_second, is_beside, has_sign, is_count, is_of_addresses, is_of_commit, is_of_copies, is_of_record, is_of_round, is_printed, is_shown, kind_of, label_of, look_of, node_at, number_at, or_empty, row_of, sent, sent_label, started, stopped, where_number, word_at, words_of};
+ghost use Rattle.ct_picture.specs.Rows.{at_node, if_node, installed, is_at_first, is_at_second, is_beside, has_sign, is_count, is_of_addresses, is_of_commit, is_of_copies, is_of_record, is_of_round, is_of_traverse, is_message, is_printed, is_shown, kind_of, label_of, look_of, node_at, number_at, or_empty, row_of, sent, sent_label, started, stopped, where_number, word_at, words_of};
 
 use ct_values::items::Items;
 use ct_values::memory::NoMemory;
@@ -18,6 +18,8 @@ pub enum Look {
     Round,
     Commit,
     Addresses,
+    /// The walk through a database. These messages have numbers of their own.
+    Traverse,
 }
 
 /// What a line of a run is.
@@ -25,6 +27,7 @@ pub enum Look {
 pub enum RowKind {
     /// A message from a node to a node.
     Sent {
+        number: u64,
         sender: u8,
         receiver: u8,
         look: Look,
@@ -122,6 +125,20 @@ fn is_of_addresses(w: &[u8]) -> bool
     is_word(w, b"release") || is_word(w, b"releaseack") || is_word(w, b"take")
 }
 
+#[tactic(auto, unfolding(crate::specs::Rows::is_of_traverse))]
+fn is_of_traverse(w: &[u8]) -> bool
+    ensures { result ≡ is_of_traverse w.now }
+{
+    is_word(w, b"ask") || is_word(w, b"rows")
+}
+
+#[tactic(auto, unfolding(crate::specs::Rows::is_message))]
+fn is_message(w: &[u8]) -> bool
+    ensures { result ≡ is_message w.now }
+{
+    is_word(w, b"frame") || is_word(w, b"tframe")
+}
+
 fn look_of(w: &[u8]) -> Option<Look>
     ensures { result ≡ look_of w.now }
 {
@@ -135,6 +152,8 @@ fn look_of(w: &[u8]) -> Option<Look>
         Some(Look::Commit)
     } else if is_of_addresses(w) {
         Some(Look::Addresses)
+    } else if is_of_traverse(w) {
+        Some(Look::Traverse)
     } else {
         None
     }
@@ -156,14 +175,18 @@ fn is_at_first(w: &[u8]) -> bool
 fn is_at_second(w: &[u8]) -> bool
     ensures { result ≡ is_at_second w.now }
 {
-    is_word(w, b"ticket") || is_word(w, b"pending")
+    is_word(w, b"ticket") || is_word(w, b"pending") || is_word(w, b"pending-traverse")
 }
 
 #[tactic(auto, unfolding(crate::specs::Rows::is_beside))]
 fn is_beside(w: &[u8]) -> bool
     ensures { result ≡ is_beside w.now }
 {
-    is_word(w, b"answer") || is_word(w, b"lost") || is_word(w, b"round")
+    is_word(w, b"answer")
+        || is_word(w, b"lost")
+        || is_word(w, b"round")
+        || is_word(w, b"tlost")
+        || is_word(w, b"traverse")
 }
 
 #[tactic(auto, unfolding(crate::specs::Rows::is_count))]
@@ -193,14 +216,14 @@ fn is_shown(w: &[u8]) -> bool
 }
 
 /// The parts of a text, cut at each byte of this kind.
-pub(crate) fn cut<'a>(alloc: Global, text: &'a [u8], at: u8) -> Result<Vec<&'a [u8]>, NoMemory>
+pub fn cut<'a>(alloc: Global, text: &'a [u8], at: u8) -> Result<Vec<&'a [u8]>, NoMemory>
     ensures { IfOk result (λ v. map (λ w. w.now) v.items ≡ slice_split (λ b. b == at) text.now) }
 {
     Ok(text.split(|b| *b == at).collect(alloc)?)
 }
 
 /// The word at a place, empty where there is none.
-pub(crate) fn word_at<'a>(words: &[&'a [u8]], i: usize) -> &'a [u8]
+pub fn word_at<'a>(words: &[&'a [u8]], i: usize) -> &'a [u8]
     ensures { result.now ≡ word_at (map (λ w. w.now) words.now) i }
 {
     match words.get(i) {
@@ -225,13 +248,15 @@ fn node_at(words: &[&[u8]], i: usize) -> Option<u8>
 }
 
 fn sent(words: &[&[u8]]) -> Option<RowKind>
-    ensures { result ≡ (let ws = map (λ w. w.now) words.now in sent (node_at ws 2) (node_at ws 3) (number_at ws 4) (look_of (word_at ws 5))) }
+    ensures { result ≡ (let ws = map (λ w. w.now) words.now in sent (number_at ws 1) (node_at ws 2) (node_at ws 3) (number_at ws 4) (look_of (word_at ws 5))) }
 {
+    let number = number_at(words, 1)?;
     let sender = node_at(words, 2)?;
     let receiver = node_at(words, 3)?;
     let _generation = number_at(words, 4)?;
     let look = look_of(word_at(words, 5))?;
     Some(RowKind::Sent {
+        number,
         sender,
         receiver,
         look,
@@ -280,7 +305,7 @@ fn kind_of(words: &[&[u8]]) -> Option<RowKind>
     ensures { result ≡ kind_of (map (λ w. w.now) words.now) }
 {
     let w = word_at(words, 0);
-    if is_word(w, b"frame") {
+    if is_message(w) {
         sent(words)
     } else if is_at_first(w) {
         at_node(node_at(words, 1))
@@ -306,7 +331,7 @@ fn kind_of(words: &[&[u8]]) -> Option<RowKind>
 }
 
 /// A piece of text at the end of a text.
-pub(crate) fn push(text: &mut Vec<u8>, more: &[u8]) -> Result<(), NoMemory>
+pub fn push(text: &mut Vec<u8>, more: &[u8]) -> Result<(), NoMemory>
     ensures { OnOk result (text.new.items ≡ text.old.items ++ more.now) }
 {
     text.extend_from_slice(more)?;
@@ -314,7 +339,7 @@ pub(crate) fn push(text: &mut Vec<u8>, more: &[u8]) -> Result<(), NoMemory>
 }
 
 /// A text of its own.
-pub(crate) fn copy_of(alloc: Global, line: &[u8]) -> Result<Items<u8>, NoMemory>
+pub fn copy_of(alloc: Global, line: &[u8]) -> Result<Items<u8>, NoMemory>
     ensures { IfOk result (λ x. x ≡ line.now) }
 {
     let mut text = Vec::new(alloc);

@@ -53,7 +53,7 @@ fn read_piece<S: Source>(
 }
 
 /// Reads the input to its end.
-fn read_all<S: Source>(alloc: Global, input: &mut S) -> Result<Vec<u8>, End>
+pub fn read_all<S: Source>(alloc: Global, input: &mut S) -> Result<Vec<u8>, End>
     ensures reads { ReadsAll result (S.left input.old) (S.left input.new) }
     ensures cause { ReadCause result (S.faults input.old) (S.faults input.new) }
 {
@@ -84,7 +84,8 @@ pub fn picture_text(alloc: Global, bytes: &[u8]) -> Result<Vec<u8>, RunFault>
     Ok(svg_of(alloc, &picture)?)
 }
 
-fn end_of(fault: RunFault) -> End
+/// How it ends where there is no picture.
+pub fn end_of(fault: RunFault) -> End
     ensures { result ≡ end_of fault }
 {
     match fault {
@@ -155,7 +156,7 @@ fn status(end: End) -> u8
 }
 
 /// Writes a line to err, and answers the status.
-fn say<E: Sink>(line: &[u8], wanted: u8, err: &mut E) -> u8
+pub fn say<E: Sink>(line: &[u8], wanted: u8, err: &mut E) -> u8
     ensures { Reports line.now wanted result (E.held err.old) (E.held err.new) (E.faults err.old) (E.faults err.new) }
 {
     match write_all(err, line) {
@@ -166,7 +167,7 @@ fn say<E: Sink>(line: &[u8], wanted: u8, err: &mut E) -> u8
 }
 
 /// Says on err how it ended, and answers the status.
-fn report<E: Sink>(alloc: Global, end: End, err: &mut E) -> u8
+pub fn report<E: Sink>(alloc: Global, end: End, err: &mut E) -> u8
     ensures { Reports (message end) (status end) result (E.held err.old) (E.held err.new) (E.faults err.old) (E.faults err.new) }
 {
     match message(alloc, end) {

@@ -10,6 +10,18 @@ pub enum Hand {
     Start,
     /// It is their middle.
     Middle,
+    /// They begin there, and are bold: a line of a scenario.
+    Said,
+}
+
+/// How an arrow ends.
+#[derive(Clone, Copy)]
+pub enum Tip {
+    Head,
+    /// It is dashed, and has a head.
+    Again,
+    Cross,
+    Open,
 }
 
 #[derive(Drop)]
@@ -20,6 +32,7 @@ pub enum Shape {
         x2: u64,
         y2: u64,
         look: Look,
+        tip: Tip,
     },
     /// An arrow that comes back to its lifeline.
     Turn {
@@ -28,6 +41,7 @@ pub enum Shape {
         far: u64,
         y2: u64,
         look: Look,
+        tip: Tip,
     },
     Dot {
         x: u64,

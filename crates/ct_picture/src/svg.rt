@@ -3,10 +3,10 @@ ghost use Rattle.std.specs.Prelude.{◌≡◌, ◌++◌, codes, OnOk, IfOk};
 ghost use Rattle.std.specs.Fmt.{decimal};
 ghost use Rattle.std.specs.List.{flat_map};
 ghost use Rattle.ct_picture.specs.declared.shape.Shape.TheVariants as shape;
-ghost use Rattle.ct_picture.specs.Svg.{class_of, dark_ground_style, dark_message_style, dark_style, escaped, escaped_byte, ground, ground_style, group_text, hand_of, head_of, life_of, marker, marker_path, message_style, opening, path_style, shape_text, svg_of, text_style};
+ghost use Rattle.ct_picture.specs.Svg.{class_of, cross_marker, cross_path, look_text, open_marker, open_path, tip_of, tip_style, dark_ground_style, dark_message_style, dark_style, escaped, escaped_byte, ground, ground_style, group_text, hand_of, head_of, life_of, marker, marker_path, message_style, opening, path_style, shape_text, svg_of, text_style};
 
 use crate::row::{Look, push};
-use crate::shape::{Group, Hand, Picture, Shape};
+use crate::shape::{Group, Hand, Picture, Shape, Tip};
 use ct_values::memory::NoMemory;
 use ct_values::number::push_decimal;
 use std::alloc::Global;
@@ -53,6 +53,18 @@ fn class_of(look: Look) -> &'static [u8]
         Look::Round => b"round",
         Look::Commit => b"commit",
         Look::Addresses => b"addresses",
+        Look::Traverse => b"traverse",
+    }
+}
+
+fn tip_of(tip: Tip) -> &'static [u8]
+    ensures { result.now ≡ tip_of tip }
+{
+    match tip {
+        Tip::Head => b"",
+        Tip::Again => b" again",
+        Tip::Cross => b" cross",
+        Tip::Open => b" open",
     }
 }
 
@@ -62,6 +74,7 @@ fn hand_of(hand: Hand) -> &'static [u8]
     match hand {
         Hand::Start => b"start",
         Hand::Middle => b"middle",
+        Hand::Said => b"said",
     }
 }
 
@@ -79,6 +92,15 @@ fn push_class(text: &mut Vec<u8>, class: &[u8]) -> Result<(), NoMemory>
     push(text, b"\"/>\n")
 }
 
+fn push_look(text: &mut Vec<u8>, look: Look, tip: Tip) -> Result<(), NoMemory>
+    ensures { OnOk result (text.new.items ≡ text.old.items ++ look_text look tip) }
+{
+    push(text, b"\" class=\"")?;
+    push(text, class_of(look))?;
+    push(text, tip_of(tip))?;
+    push(text, b"\"/>\n")
+}
+
 #[tactic(auto, unfolding(crate::specs::Svg::shape_text))]
 fn push_arrow(
     text: &mut Vec<u8>,
@@ -87,14 +109,15 @@ fn push_arrow(
     x2: u64,
     y2: u64,
     look: Look,
+    tip: Tip,
 ) -> Result<(), NoMemory>
-    ensures { OnOk result (text.new.items ≡ text.old.items ++ shape_text (shape.Arrow x1 y1 x2 y2 look)) }
+    ensures { OnOk result (text.new.items ≡ text.old.items ++ shape_text (shape.Arrow x1 y1 x2 y2 look tip)) }
 {
     push_number(text, b"<path d=\"M", x1)?;
     push_number(text, b" ", y1)?;
     push_number(text, b"L", x2)?;
     push_number(text, b" ", y2)?;
-    push_class(text, class_of(look))
+    push_look(text, look, tip)
 }
 
 #[tactic(auto, unfolding(crate::specs::Svg::shape_text))]
@@ -105,8 +128,9 @@ fn push_turn(
     far: u64,
     y2: u64,
     look: Look,
+    tip: Tip,
 ) -> Result<(), NoMemory>
-    ensures { OnOk result (text.new.items ≡ text.old.items ++ shape_text (shape.Turn x y1 far y2 look)) }
+    ensures { OnOk result (text.new.items ≡ text.old.items ++ shape_text (shape.Turn x y1 far y2 look tip)) }
 {
     push_number(text, b"<path d=\"M", x)?;
     push_number(text, b" ", y1)?;
@@ -116,7 +140,7 @@ fn push_turn(
     push_number(text, b" ", y2)?;
     push_number(text, b" ", x)?;
     push_number(text, b" ", y2)?;
-    push_class(text, class_of(look))
+    push_look(text, look, tip)
 }
 
 #[tactic(auto, unfolding(crate::specs::Svg::shape_text))]
@@ -181,14 +205,16 @@ fn push_shape(text: &mut Vec<u8>, shape: &Shape) -> Result<(), NoMemory>
             x2,
             y2,
             look,
-        } => push_arrow(text, *x1, *y1, *x2, *y2, *look),
+            tip,
+        } => push_arrow(text, *x1, *y1, *x2, *y2, *look, *tip),
         Shape::Turn {
             x,
             y1,
             far,
             y2,
             look,
-        } => push_turn(text, *x, *y1, *far, *y2, *look),
+            tip,
+        } => push_turn(text, *x, *y1, *far, *y2, *look, *tip),
         Shape::Dot { x, y } => push_dot(text, *x, *y),
         Shape::Life { x, y1, y2, runs } => push_life(text, *x, *y1, *y2, *runs),
         Shape::Band {
@@ -237,7 +263,7 @@ fn push_text_style(text: &mut Vec<u8>) -> Result<(), NoMemory>
 {
     push(
         text,
-        b"<style>text{font:11px monospace;fill:#111;paint-order:stroke;stroke:#fff;stroke-width:4px}.middle{text-anchor:middle}\n",
+        b"<style>text{font:11px monospace;fill:#111;paint-order:stroke;stroke:#fff;stroke-width:4px}.middle{text-anchor:middle}.said{font-weight:bold}\n",
     )
 }
 
@@ -258,6 +284,16 @@ fn push_message_style(text: &mut Vec<u8>) -> Result<(), NoMemory>
     push(
         text,
         b".record{stroke:#0072b2}.copies{stroke:#b35c00}.round{stroke:#8c2d6f}.commit{stroke:#00734f}.addresses{stroke:#111}\n",
+    )
+}
+
+#[tactic(auto, unfolding(crate::specs::Svg::tip_style))]
+fn push_tip_style(text: &mut Vec<u8>) -> Result<(), NoMemory>
+    ensures { OnOk result (text.new.items ≡ text.old.items ++ tip_style) }
+{
+    push(
+        text,
+        b".traverse{stroke:#555;stroke-dasharray:1 3}.again{stroke-dasharray:8 4}.cross{marker-end:url(#cross)}.open{marker-end:url(#open)}\n",
     )
 }
 
@@ -302,11 +338,12 @@ fn push_dark_ground_style(text: &mut Vec<u8>) -> Result<(), NoMemory>
 }
 
 fn push_style(text: &mut Vec<u8>) -> Result<(), NoMemory>
-    ensures { OnOk result (text.new.items ≡ text.old.items ++ (text_style ++ path_style ++ message_style ++ ground_style ++ dark_style ++ dark_message_style ++ dark_ground_style)) }
+    ensures { OnOk result (text.new.items ≡ text.old.items ++ (text_style ++ path_style ++ message_style ++ tip_style ++ ground_style ++ dark_style ++ dark_message_style ++ dark_ground_style)) }
 {
     push_text_style(text)?;
     push_path_style(text)?;
     push_message_style(text)?;
+    push_tip_style(text)?;
     push_ground_style(text)?;
     push_dark_style(text)?;
     push_dark_message_style(text)?;
@@ -333,6 +370,46 @@ fn push_marker_path(text: &mut Vec<u8>) -> Result<(), NoMemory>
     )
 }
 
+#[tactic(auto, unfolding(crate::specs::Svg::cross_marker))]
+fn push_cross_marker(text: &mut Vec<u8>) -> Result<(), NoMemory>
+    ensures { OnOk result (text.new.items ≡ text.old.items ++ cross_marker) }
+{
+    push(
+        text,
+        b"<defs><marker id='cross' viewBox='0 0 8 8' refX='4' refY='4' markerWidth='9' markerHeight='9' markerUnits='userSpaceOnUse'>\n",
+    )
+}
+
+#[tactic(auto, unfolding(crate::specs::Svg::cross_path))]
+fn push_cross_path(text: &mut Vec<u8>) -> Result<(), NoMemory>
+    ensures { OnOk result (text.new.items ≡ text.old.items ++ cross_path) }
+{
+    push(
+        text,
+        b"<path d='M0 0L8 8M0 8L8 0' class='life'/></marker></defs>\n",
+    )
+}
+
+#[tactic(auto, unfolding(crate::specs::Svg::open_marker))]
+fn push_open_marker(text: &mut Vec<u8>) -> Result<(), NoMemory>
+    ensures { OnOk result (text.new.items ≡ text.old.items ++ open_marker) }
+{
+    push(
+        text,
+        b"<defs><marker id='open' viewBox='0 0 8 8' refX='0' refY='4' markerWidth='9' markerHeight='9' markerUnits='userSpaceOnUse'>\n",
+    )
+}
+
+#[tactic(auto, unfolding(crate::specs::Svg::open_path))]
+fn push_open_path(text: &mut Vec<u8>) -> Result<(), NoMemory>
+    ensures { OnOk result (text.new.items ≡ text.old.items ++ open_path) }
+{
+    push(
+        text,
+        b"<circle cx='4' cy='4' r='3' style='fill:none' class='life'/></marker></defs>\n",
+    )
+}
+
 #[tactic(auto, unfolding(crate::specs::Svg::ground))]
 fn push_ground(text: &mut Vec<u8>) -> Result<(), NoMemory>
     ensures { OnOk result (text.new.items ≡ text.old.items ++ ground) }
@@ -341,10 +418,14 @@ fn push_ground(text: &mut Vec<u8>) -> Result<(), NoMemory>
 }
 
 fn push_preface(text: &mut Vec<u8>) -> Result<(), NoMemory>
-    ensures { OnOk result (text.new.items ≡ text.old.items ++ (marker ++ marker_path ++ ground)) }
+    ensures { OnOk result (text.new.items ≡ text.old.items ++ (marker ++ marker_path ++ cross_marker ++ cross_path ++ open_marker ++ open_path ++ ground)) }
 {
     push_marker(text)?;
     push_marker_path(text)?;
+    push_cross_marker(text)?;
+    push_cross_path(text)?;
+    push_open_marker(text)?;
+    push_open_path(text)?;
     push_ground(text)
 }
 

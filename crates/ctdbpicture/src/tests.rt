@@ -16,8 +16,18 @@ const NONE: [&[u64]; 3] = [&[], &[], &[]];
 
 const MOVES: &str = "frame 1 1 0 1 call t b 1 lock\nanswer 1 locked -\n";
 
-const CASES: [Case; 14] = [
+const WALKS: &str =
+    "tframe 1 0 1 1 ask 1 copies\ntframe 2 1 0 1 rows 1 copies 2\ntlost 2\ntraverse 1 ended\npending-traverse 2 0 t\nkey=a data=x\nDumped 1 records\n";
+
+const CASES: [Case; 16] = [
     (0, MOVES, NONE, (0, true, "")),
+    (0, WALKS, NONE, (0, true, "")),
+    (
+        0,
+        "tframe 1 0 1 1 walk 1 1\n",
+        NONE,
+        (2, false, "ctdbpicture: line 1\n"),
+    ),
     (0, "", NONE, (0, true, "")),
     (1, MOVES, NONE, (1, false, "ctdbpicture: usage\n")),
     (0, "lock 1 t b\n", NONE, (2, false, "ctdbpicture: line 1\n")),
