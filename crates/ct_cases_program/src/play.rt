@@ -10,7 +10,7 @@ use std::test::Fail;
 // Lines, what they and the calls that wait at the end print, and why the last one is refused; nothing where it is not.
 type Case = (&'static [&'static str], &'static str, &'static str);
 
-const SCENARIOS: [Case; 10] = [
+const SCENARIOS: [Case; 13] = [
     (
         &["nodes 2", "db t volatile", "lock 1 t b", "settle 9"],
         "frame 1 1 0 1 call t b 1 lock\nframe 2 0 0 1 recall t b 0 1 1 lock\nframe 3 0 0 1 give t b 0 -\nframe 4 0 1 1 pass t b 1 0 -\nanswer 1 locked -\n",
@@ -40,6 +40,34 @@ const SCENARIOS: [Case; 10] = [
         &["nodes 2", "ctdb 0 pnn", "db t volatile"],
         "PNN:0\n",
         "order",
+    ),
+    (
+        &[
+            "nodes 1",
+            "db t volatile",
+            "ctdb 0 writekey t b x",
+            "ctdb 0 catdb t",
+            "walk 9",
+        ],
+        "answer 1 written\ntframe 1 0 0 1 ask 1 copies\ntframe 2 0 0 1 rows 1 copies 1\ntframe 3 0 0 1 ask 1 entries\ntframe 4 0 0 1 rows 1 entries 1\nkey=b data=x\nDumped 1 records\n",
+        "",
+    ),
+    (
+        &[
+            "nodes 2",
+            "db t volatile",
+            "ctdb 1 catdb t",
+            "lose 2",
+            "stop 1",
+            "ctdb 0 catdb t",
+        ],
+        "tframe 1 1 0 1 ask 1 copies\ntframe 2 1 1 1 ask 1 copies\nstopped 1\ntraverse 1 ended\ntframe 3 0 0 1 ask 2 copies\ntframe 4 0 1 1 ask 2 copies\npending-traverse 2 0 t\n",
+        "",
+    ),
+    (
+        &["nodes 1", "db t volatile", "again 1"],
+        "",
+        "no-such-tframe 1",
     ),
     (&["nodes 1", "db g_lock volatile"], "", "repeat"),
     (&["nodes 2", "ctdb 2 pnn"], "", "no-such-node 2"),

@@ -1,7 +1,8 @@
 //! Lines in their places.
-use ct_lines::line::{LineKind, LineKindFault};
+use ct_lines::line::{LineKind, LineKindFault, ScenarioLine, TraverseLine};
 use ct_lines::parse::parse_line;
 use ct_lines::places::Places;
+use ct_lines::print::print_line;
 use ct_values::address::Address;
 use ct_values::config::Config;
 use std::alloc::Global;
@@ -68,6 +69,58 @@ fn lines_in_their_places(rt: HostRuntime) -> Result<(), Fail> {
         (["nodes 2", "db u persistent", "read 0 t k"], None),
     ] {
         assert!(rt; refused(alloc, &mut Places::new(alloc), &lines)? == why);
+    }
+    Ok(())
+}
+
+#[test]
+fn lines_of_traverses(rt: HostRuntime) -> Result<(), Fail> {
+    let alloc = rt.alloc();
+    for (line, wanted) in [
+        ("walk 1", ScenarioLine::Traverse(TraverseLine::Walk(1))),
+        (
+            "walk 100000",
+            ScenarioLine::Traverse(TraverseLine::Walk(100000)),
+        ),
+        ("carry 1", ScenarioLine::Traverse(TraverseLine::Carry(1))),
+        (
+            "lose 4611686018427387903",
+            ScenarioLine::Traverse(TraverseLine::Lose(4611686018427387903)),
+        ),
+        ("again 7", ScenarioLine::Traverse(TraverseLine::Again(7))),
+    ] {
+        assert!(rt; parse_line(alloc, line.as_bytes())? == wanted);
+        assert!(rt; print_line(alloc, &wanted)?.as_slice() == line.as_bytes());
+    }
+    Ok(())
+}
+
+/// Is the line refused as `words`?
+fn is_no_line(alloc: Global, line: &str) -> bool {
+    match parse_line(alloc, line.as_bytes()) {
+        Ok(item) => {
+            drop(item);
+            false
+        }
+        Err(fault) => fault == LineKindFault::Kind(LineKind::Words),
+    }
+}
+
+#[test]
+fn words_that_are_no_line_of_traverses(rt: HostRuntime) -> Result<(), Fail> {
+    let alloc = rt.alloc();
+    for line in [
+        "walk 0",
+        "walk 100001",
+        "walk",
+        "walk 1 1",
+        "carry 0",
+        "lose 4611686018427387904",
+        "again x",
+        "ctdb 0 catdb",
+        "ctdb 0 catdb t u",
+    ] {
+        assert!(rt; is_no_line(alloc, line));
     }
     Ok(())
 }

@@ -13,6 +13,7 @@ use ct_actor_serving::serve::serve;
 use ct_call::table::CallTable;
 use ct_frame::plan::PlanItem;
 use ct_outside::gate::OpenGate;
+use ct_outside::listing::{ListingGate, ListingLink};
 use ct_outside::memory_link::MemLink;
 use ct_outside::memory_lock::MemLock;
 use ct_values::client::ClientOp;
@@ -179,5 +180,60 @@ fn each_call_of_a_link_fails(rt: HostRuntime) -> Result<(), Fail> {
             "call {fails}"
         );
     }
+    Ok(())
+}
+
+/// Are the looks of a node that serves for so many turns listed with these permissions, and its passes with these numbers?
+fn serve_listed(
+    alloc: Global,
+    node: &mut Node,
+    script: &[PlanItem],
+    turns: u64,
+    permissions: &[bool],
+    passes: &[(u32, u64)],
+) -> bool
+    requires run { (rules : Rules) → IsRunBy rules node.old }
+    requires told { list_all (may_be_told node.old.core.config node.old.core.pnn) script.now ≡ true }
+{
+    let table = CallTable::new(alloc);
+    let quiet = MemLink::new(alloc, Vec::new(alloc), Vec::new(alloc));
+    let mut link = ListingLink::new(alloc, quiet);
+    let mut lock = MemLock::new();
+    let mut gate = ListingGate::new(alloc);
+    let served = serve(
+        alloc, node, &table, script, &mut link, &mut lock, &mut gate, turns,
+    );
+    match (link.permissions(), gate.passes()) {
+        (Some(looks), Some(passed)) => served.is_ok() && looks == permissions && passed == passes,
+        _ => false,
+    }
+}
+
+/// Is this listed of the node of this cluster, alone?
+fn lists_so(
+    alloc: Global,
+    config: &Config,
+    script: &[PlanItem],
+    turns: u64,
+    permissions: &[bool],
+    passes: &[(u32, u64)],
+) -> Result<bool, Fail>
+    requires limits { HasLimits config.now }
+    requires one { config.now.nodes ≡ 1 }
+    requires told { MayBeToldAlone script.now }
+{
+    let mut node = node(alloc, config)?;
+    Ok(serve_listed(alloc, &mut node, script, turns, permissions, passes))
+}
+
+// The node takes its two calls, and then it waits.
+#[test]
+fn looks_and_passes_are_listed(rt: HostRuntime) -> Result<(), Fail> {
+    let alloc = rt.alloc();
+    let config = config(alloc)?;
+    let script = script(alloc)?;
+    let waits = [false, false, true];
+    let passes = [(0, 0), (0, 1), (0, 2)];
+    assert!(rt; lists_so(alloc, &config, script.as_slice(), 4, &waits, &passes)?);
     Ok(())
 }

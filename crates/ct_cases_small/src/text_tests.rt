@@ -3,6 +3,8 @@ use ct_frame::event::Note;
 use ct_frame::frame::{Assigned, CallKind, Frame, Msg, PTable, TableRow};
 use ct_rules_cluster::step::{Line, PendingCall};
 use ct_text::line::{line_text, pending_text};
+use ct_traverse::line::{Pass, TLine, TPending};
+use ct_traverse::text::{pending_traverse_text, push_traverse};
 use ct_values::address::Address;
 use ct_values::client::{Answer, ClientOp, Pair, Why};
 use ct_values::config::{Config, DbDecl, DbKind};
@@ -377,6 +379,70 @@ fn calls_that_wait(rt: HostRuntime) -> Result<(), Fail> {
     assert_eq!(rt;
         pending_text(alloc, &commit, &config)?.as_slice(),
         b"pending 6 2 commit b 5\n".as_slice()
+    );
+    Ok(())
+}
+
+/// The text of a line of traverses.
+fn traverse(alloc: Global, line: TLine) -> Result<Vec<u8>, Fail> {
+    let mut text = Vec::new(alloc);
+    push_traverse(&mut text, &line)?;
+    Ok(text)
+}
+
+#[test]
+fn lines_of_traverses(rt: HostRuntime) -> Result<(), Fail> {
+    let alloc = rt.alloc();
+    let asked = TLine::Asked {
+        number: 1,
+        sender: 0,
+        receiver: 2,
+        generation: 3,
+        traverse: 4,
+        pass: Pass::Copies,
+    };
+    let rows = TLine::Rows {
+        number: 2,
+        sender: 2,
+        receiver: 0,
+        generation: 3,
+        traverse: 4,
+        pass: Pass::Entries,
+        count: 5,
+    };
+    assert!(rt; traverse(alloc, asked)?.as_slice() == b"tframe 1 0 2 3 ask 4 copies\n".as_slice());
+    assert!(rt;
+        traverse(alloc, rows)?.as_slice() == b"tframe 2 2 0 3 rows 4 entries 5\n".as_slice()
+    );
+    assert!(rt; traverse(alloc, TLine::TLost(2))?.as_slice() == b"tlost 2\n".as_slice());
+    assert!(rt; traverse(alloc, TLine::Ended(4))?.as_slice() == b"traverse 4 ended\n".as_slice());
+    Ok(())
+}
+
+#[test]
+fn answers_of_traverses(rt: HostRuntime) -> Result<(), Fail> {
+    let alloc = rt.alloc();
+    let none = TLine::Shown(Items::empty(alloc));
+    let one = TLine::Shown(Items::new(Vec::from_array(alloc, [pair(alloc)?])?));
+    assert!(rt; traverse(alloc, none)?.as_slice() == b"Dumped 0 records\n".as_slice());
+    assert!(rt;
+        traverse(alloc, one)?.as_slice() == b"key=a%3d data=v\nDumped 1 records\n".as_slice()
+    );
+    Ok(())
+}
+
+#[test]
+fn traverses_that_wait(rt: HostRuntime) -> Result<(), Fail> {
+    let alloc = rt.alloc();
+    let config = config(alloc)?;
+    let waiting = TPending {
+        traverse: 4,
+        node: 2,
+        db: 1,
+    };
+    assert!(rt;
+        pending_traverse_text(alloc, &waiting, &config)?.as_slice()
+            == b"pending-traverse 4 2 t\n".as_slice()
     );
     Ok(())
 }

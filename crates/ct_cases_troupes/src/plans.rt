@@ -1,12 +1,14 @@
-//! Plans of clients that write the same record, and what their journals say.
-ghost use Rattle.std.specs.Prelude.{◌≡◌, IfOk};
+//! Plans of clients that write the same record, and what their journals say; and plans that are cut into columns.
+ghost use Rattle.std.specs.Prelude.{◌≡◌, ◌≤◌, All, IfOk, length};
 ghost use Rattle.std.specs.List.{list_all};
 ghost use Rattle.ct_script.specs.Sound.{IsSound};
 ghost use Rattle.ct_cases_troupes.specs.Plain.{asks_only, is_asked};
 
+use ct_chain::cut::cut;
 use ct_frame::event::Out;
 use ct_frame::plan::{Plan, PlanItem};
 use ct_journal::journal::Journal;
+use ct_script::scripts::cluster_plan;
 use ct_values::client::{Answer, ClientOp};
 use ct_values::config::{Config, DbDecl, DbKind};
 use ct_values::items::Items;
@@ -124,4 +126,36 @@ pub fn count_answers(journal: &Journal, wanted: &Answer) -> usize {
         }
     }
     count
+}
+
+// The plan of so many nodes with 40 words each, cut into two columns.
+pub fn two_columns(alloc: Global, nodes: u32) -> Result<Vec<Plan>, Fail>
+    ensures few { IfOk result (λ v. length v.items ≤ 8) }
+    ensures sound { IfOk result (λ v. All IsSound v.items) }
+{
+    if nodes == 0 || nodes > 8 {
+        return Err(Fail::new("so many nodes have no plan"));
+    }
+    let whole = cluster_plan(alloc, nodes, 40, 3)?;
+    let plans = cut(alloc, &whole, 2)?;
+    if plans.len() > 8 {
+        return Err(Fail::new("too many columns"));
+    }
+    Ok(plans)
+}
+
+// The same, of which the first column alone is to be played.
+pub fn one_column(alloc: Global, nodes: u32) -> Result<Vec<Plan>, Fail>
+    ensures few { IfOk result (λ v. length v.items ≤ 8) }
+    ensures sound { IfOk result (λ v. All IsSound v.items) }
+{
+    if nodes == 0 || nodes > 8 {
+        return Err(Fail::new("so many nodes have no plan"));
+    }
+    let whole = cluster_plan(alloc, nodes, 40, 3)?;
+    let plans = cut(alloc, &whole, 1)?;
+    if plans.len() > 8 {
+        return Err(Fail::new("too many columns"));
+    }
+    Ok(plans)
 }

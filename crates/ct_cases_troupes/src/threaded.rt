@@ -1,4 +1,6 @@
 //! Plans that are played in threads, with ample memory.
+ghost use Rattle.std.specs.Prelude.{None};
+
 use crate::plans::count_calls;
 use ct_call::table::CallTable;
 use ct_frame::event::{Event, Out};
@@ -22,6 +24,8 @@ struct Meeting<'a> {
 }
 
 impl<'a> Gate for Meeting<'a> {
+    ghost passes = { λ _. None };
+
     fn pass(&mut self, _node: u32, turn: u64) {
         if turn > 0 {
             return;

@@ -1,4 +1,6 @@
 //! Plans are played, and played again, with ample memory; and gates say which of two nodes comes first.
+ghost use Rattle.std.specs.Prelude.{None};
+
 use crate::plans::{count_answers, count_calls, two_writers};
 use ct_call::table::CallTable;
 use ct_frame::event::Event;
@@ -51,6 +53,8 @@ struct Turnstile {
 }
 
 impl Gate for Turnstile {
+    ghost passes = { λ _. None };
+
     fn pass(&mut self, node: u32, turn: u64) {
         if node != self.held {
             if turn == 1 {

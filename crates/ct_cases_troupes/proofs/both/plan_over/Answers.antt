@@ -1,4 +1,4 @@
-use Rattle.ct_cases_troupes.proofs.Soundness.{sound_over}
+use Rattle.ct_troupe_run.proofs.Played.{sound_over}
 use Rattle.ct_cases_troupes.proofs.both.plan_over.Goals as goal
 
 pub returns : goal.returns

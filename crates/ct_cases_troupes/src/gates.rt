@@ -1,17 +1,19 @@
 //! Gates of columns.
+ghost use Rattle.std.specs.Prelude.{None};
+
 use crate::plans::two_columns;
 use ct_call::table::CallTable;
-use ct_chain_threads::column::Column;
-use ct_chain_threads::gate::ColumnGate;
-use ct_chain_threads::side::play_side_by_side;
-use ct_chain_threads::threads::ColumnThreads;
-use ct_chain_troupe::columns::Columns;
 use ct_frame::plan::Plan;
 use ct_journal::journal::Journal;
 use ct_outside::gate::Gate;
 use ct_troupe::both::Both;
+use ct_troupe::columns::Columns;
+use ct_troupe_threads::column::Column;
+use ct_troupe_threads::column_gate::ColumnGate;
+use ct_troupe_threads::column_threads::ColumnThreads;
 use ct_troupe_threads::gate::ThreadGate;
 use ct_troupe_threads::loopback::Loopback;
+use ct_troupe_threads::side::play_side_by_side;
 use ct_troupe_threads::threaded::play_in_threads;
 use ct_troupe_threads::threads::Threads;
 use ct_values::memory::NoMemory;
@@ -38,6 +40,8 @@ struct Watch {
 }
 
 impl Gate for Watch {
+    ghost passes = { λ _. None };
+
     fn pass(&mut self, node: u32, turn: u64) {
         if node == self.node {
             self.own.fetch_add(1, Ordering::SeqCst);

@@ -3,8 +3,8 @@ ghost use Rattle.ct_troupe_run.specs.Chains.{HasCutRange};
 ghost use Rattle.ct_troupe_run.specs.Running.{HasPlanRange};
 
 use ct_call::table::CallTable;
-use ct_chain_troupe::turns::ColumnTurns;
 use ct_outside::memory::MemSink;
+use ct_troupe::column_turns::ColumnTurns;
 use ct_troupe::turns::Turns;
 use ct_troupe_run::chains::{CutWanted, chains};
 use ct_troupe_run::running::{End, Wanted, cluster};
