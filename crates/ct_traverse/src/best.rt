@@ -4,9 +4,10 @@ ghost use Rattle.ct_traverse.specs.declared.line.TLine.TheVariants as line;
 ghost use Rattle.ct_store.specs.Map.{Ascends, look, write};
 ghost use Rattle.ct_traverse.specs.Best.{beats, counts_entry, gathered, is_shown, merged, put_back, row_from, shown, taken_back};
 
+use crate::kept::Kept;
 use crate::line::{Pass, TLine};
-use ct_frame::frame::TableRow;
-use ct_store::hashed::Store;
+use crate::part::Part;
+use crate::rows::Row;
 use ct_values::client::Pair;
 use ct_values::items::Items;
 use ct_values::key::Key;
@@ -16,12 +17,12 @@ use std::alloc::Global;
 
 /// The best row of a key that came: its RSN and its value, whether an entry's, and from which node; and whether an entry came
 /// at all.
-#[derive(Debug, Drop, PartialEq, Eq)]
+#[derive(Drop)]
 pub struct Best {
     pub rsn: u64,
     pub of_entry: bool,
     pub node: u32,
-    pub value: Value,
+    pub value: Part,
     pub has_entry: bool,
 }
 
@@ -75,26 +76,26 @@ fn counts_entry(pass: Pass) -> bool
 }
 
 /// A row that came in a pass from a node, where an entry came before or did not.
-fn row_from(pass: Pass, node: u32, row: &TableRow, has_entry: bool) -> Result<Best, NoMemory>
+fn row_from(pass: Pass, node: u32, row: &Row, has_entry: bool) -> Result<Best, NoMemory>
     ensures { IfOk result (λ x. x ≡ row_from pass node row.now has_entry) }
 {
     Ok(Best {
-        rsn: row.rsn,
+        rsn: row.rsn(),
         of_entry: counts_entry(pass),
         node,
-        value: row.value.copy()?,
+        value: row.value().copy()?,
         has_entry: counts_entry(pass) || has_entry,
     })
 }
 
 /// What is kept of a key once this row came.
-fn merged(pass: Pass, node: u32, row: &TableRow, best: Option<&Best>) -> Result<Best, NoMemory>
+fn merged(pass: Pass, node: u32, row: &Row, best: Option<&Best>) -> Result<Best, NoMemory>
     ensures { IfOk result (λ x. x ≡ merged pass node row.now (option_copied best.entry)) }
 {
     let Some(best) = best else {
         return row_from(pass, node, row, false);
     };
-    if best.is_beaten(row.rsn, counts_entry(pass), node) {
+    if best.is_beaten(row.rsn(), counts_entry(pass), node) {
         return row_from(pass, node, row, best.has_entry);
     }
     let mut kept = best.copy()?;
@@ -103,14 +104,14 @@ fn merged(pass: Pass, node: u32, row: &TableRow, best: Option<&Best>) -> Result<
 }
 
 /// The keys of what is kept ascend.
-fn ascends(kept: &Store<Best>)
+fn ascends(kept: &Kept<Best>)
     ensures { Ascends kept.now }
 {
     kept.len();
 }
 
 /// The item comes in the place of the one at its key.
-fn write_over(kept: &mut Store<Best>, key: Key, best: Best)
+fn write_over(kept: &mut Kept<Best>, key: Part, best: Best)
     requires { is_some (look key kept.old) ≡ true }
     ensures { kept.new ≡ write key best kept.old }
 {
@@ -121,7 +122,7 @@ fn write_over(kept: &mut Store<Best>, key: Key, best: Best)
 }
 
 /// What stood at a key stands there again. It takes no memory.
-fn put_back(kept: &mut Store<Best>, key: Key, before: Option<Best>)
+fn put_back(kept: &mut Kept<Best>, key: Part, before: Option<Best>)
     ensures { kept.new ≡ put_back key before kept.old }
 {
     match before {
@@ -134,7 +135,7 @@ fn put_back(kept: &mut Store<Best>, key: Key, before: Option<Best>)
 
 /// The changes are taken back, the last one first. It takes no memory.
 #[tactic(auto, using(crate::proofs::Back::back_last))]
-fn take_back(kept: &mut Store<Best>, changes: Vec<(Key, Option<Best>)>)
+fn take_back(kept: &mut Kept<Best>, changes: Vec<(Part, Option<Best>)>)
     ensures { kept.new ≡ taken_back changes.items kept.old }
 {
     let mut left = changes;
@@ -147,18 +148,18 @@ fn take_back(kept: &mut Store<Best>, changes: Vec<(Key, Option<Best>)>)
 /// that is not among the changes.
 #[tactic(auto, using(crate::proofs::Back::back_last, crate::proofs::Back::back_itself))]
 fn keep_row(
-    kept: &mut Store<Best>,
-    changes: &mut Vec<(Key, Option<Best>)>,
+    kept: &mut Kept<Best>,
+    changes: &mut Vec<(Part, Option<Best>)>,
     pass: Pass,
     node: u32,
-    row: &TableRow,
+    row: &Row,
 ) -> Result<(), NoMemory>
     ensures ok { OnOk result (kept.new ≡ write row.now.key (merged pass node row.now (look row.now.key kept.old)) kept.old) }
     ensures back { taken_back changes.new.items kept.new ≡ taken_back changes.old.items kept.old }
 {
-    let best = merged(pass, node, row, kept.get(&row.key))?;
-    let key = row.key.copy()?;
-    let again = row.key.copy()?;
+    let best = merged(pass, node, row, kept.get(row.key()))?;
+    let key = row.key().copy()?;
+    let again = row.key().copy()?;
     ascends(kept);
     let before = kept.put(key, best)?;
     if let Err(failed) = changes.push((again, before)) {
@@ -172,11 +173,11 @@ fn keep_row(
 /// What is kept of each key once these rows came.
 #[tactic(auto, unfolding(crate::specs::Best::gathered))]
 fn keep_rows(
-    kept: &mut Store<Best>,
-    changes: &mut Vec<(Key, Option<Best>)>,
+    kept: &mut Kept<Best>,
+    changes: &mut Vec<(Part, Option<Best>)>,
     pass: Pass,
     node: u32,
-    rows: &[TableRow],
+    rows: &[Row],
 ) -> Result<(), NoMemory>
     ensures ok { OnOk result (kept.new ≡ gathered pass node rows.now kept.old) }
     ensures back { taken_back changes.new.items kept.new ≡ taken_back changes.old.items kept.old }
@@ -192,10 +193,10 @@ fn keep_rows(
 #[tactic(auto, unfolding(crate::specs::Best::taken_back))]
 pub(crate) fn gather(
     alloc: Global,
-    kept: &mut Store<Best>,
+    kept: &mut Kept<Best>,
     pass: Pass,
     node: u32,
-    rows: &[TableRow],
+    rows: &[Row],
 ) -> Result<(), NoMemory>
     ensures ok { OnOk result (kept.new ≡ gathered pass node rows.now kept.old) }
     ensures err { OnErr result (kept.new ≡ kept.old) }
@@ -208,17 +209,37 @@ pub(crate) fn gather(
     answer
 }
 
+/// The key of these bytes, which are those of one.
+fn key_of(alloc: Global, part: &Part) -> Result<Key, NoMemory>
+    ensures { IfOk result (λ key. key ≡ part.now) }
+{
+    match Key::new(alloc, part.bytes()) {
+        Ok(key) => Ok(key),
+        Err(_) => Err(NoMemory),
+    }
+}
+
+/// The value of these bytes, which are those of one.
+fn value_of(alloc: Global, part: &Part) -> Result<Value, NoMemory>
+    ensures { IfOk result (λ value. value ≡ part.now) }
+{
+    match Value::new(alloc, part.bytes()) {
+        Ok(value) => Ok(value),
+        Err(_) => Err(NoMemory),
+    }
+}
+
 /// The keys that are shown, with their values, by key.
 #[tactic(auto, unfolding(crate::specs::Best::shown))]
-pub(crate) fn shown(alloc: Global, kept: &Store<Best>) -> Result<Items<Pair>, NoMemory>
+pub(crate) fn shown(alloc: Global, kept: &Kept<Best>) -> Result<Items<Pair>, NoMemory>
     ensures { IfOk result (λ pairs. pairs ≡ shown kept.now) }
 {
     let mut pairs = Items::empty(alloc);
     for (key, best) in kept.sorted()? {
         if best.is_shown() {
             pairs.push(Pair {
-                key: key.copy()?,
-                value: best.value.copy()?,
+                key: key_of(alloc, key)?,
+                value: value_of(alloc, &best.value)?,
             })?;
         }
     }
@@ -226,7 +247,7 @@ pub(crate) fn shown(alloc: Global, kept: &Store<Best>) -> Result<Items<Pair>, No
 }
 
 /// The line of an answer.
-fn shown_line(alloc: Global, kept: &Store<Best>) -> Result<Vec<TLine>, NoMemory>
+fn shown_line(alloc: Global, kept: &Kept<Best>) -> Result<Vec<TLine>, NoMemory>
     ensures { IfOk result (λ lines. lines.items ≡ line.Shown (shown kept.now) ∷ []) }
 {
     let pairs = shown(alloc, kept)?;
@@ -239,10 +260,10 @@ fn shown_line(alloc: Global, kept: &Store<Best>) -> Result<Vec<TLine>, NoMemory>
 #[tactic(auto, unfolding(crate::specs::Best::taken_back))]
 pub(crate) fn answer(
     alloc: Global,
-    kept: &mut Store<Best>,
+    kept: &mut Kept<Best>,
     pass: Pass,
     node: u32,
-    rows: &[TableRow],
+    rows: &[Row],
 ) -> Result<Vec<TLine>, NoMemory>
     ensures ok { IfOk result (λ lines. lines.items ≡ line.Shown (shown (gathered pass node rows.now kept.old)) ∷ []) }
     ensures err { OnErr result (kept.new ≡ kept.old) }

@@ -2,9 +2,12 @@
 #![tactic(auto)]
 
 pub mod best;
+pub mod kept;
 pub mod laws;
 pub mod line;
+pub mod part;
 pub mod post;
+pub mod rows;
 pub mod text;
 pub mod traverse;
 pub mod walker;

@@ -4,7 +4,7 @@ ghost use Rattle.ct_traverse.specs.declared.post.Post as post;
 ghost use Rattle.ct_traverse.specs.Posts.{before_waiting, is_delivered, is_waiting, next_waiting, numbered, waits, was_delivered};
 
 use crate::line::Pass;
-use ct_frame::frame::TableRow;
+use crate::rows::Rows;
 use ct_mail::sent::Fate;
 use ct_values::copies::Duplicate;
 use ct_values::items::Items;
@@ -22,7 +22,7 @@ pub struct Post {
     pub traverse: u64,
     pub db: u32,
     pub pass: Pass,
-    pub rows: Option<Items<TableRow>>,
+    pub rows: Option<Rows>,
     pub fate: Fate,
 }
 

@@ -6,12 +6,12 @@ ghost use Rattle.ct_traverse.specs.Best.{gathered, shown};
 ghost use Rattle.ct_traverse.specs.Walk.{ask_lines, asks, counts, is_same_pass, pending_one, question, question_lines, questions, second_pass, without_member};
 
 use crate::best::{Best, answer, gather};
+use crate::kept::Kept;
 use crate::line::{Pass, TLine, TPending};
 use crate::post::Post;
-use ct_frame::frame::TableRow;
+use crate::rows::Row;
 use ct_lead::runs::is_among;
 use ct_mail::sent::Fate;
-use ct_store::hashed::Store;
 use ct_values::items::Items;
 use ct_values::memory::NoMemory;
 use std::alloc::Global;
@@ -27,7 +27,7 @@ pub struct Traverse {
     pub members: Items<u32>,
     pub pass: Pass,
     pub missing: Items<u32>,
-    pub kept: Store<Best>,
+    pub kept: Kept<Best>,
 }
 
 /// Are they one pass?
@@ -133,7 +133,7 @@ impl Traverse {
         alloc: Global,
         pass: Pass,
         node: u32,
-        rows: &[TableRow],
+        rows: &[Row],
         missing: Items<u32>,
     ) -> Result<(), NoMemory>
         ensures ok { OnOk result (self.new ≡ record self.old { missing = missing; kept = gathered pass node rows.now self.old.kept }) }
@@ -150,7 +150,7 @@ impl Traverse {
         alloc: Global,
         pass: Pass,
         node: u32,
-        rows: &[TableRow],
+        rows: &[Row],
         missing: Items<u32>,
     ) -> Result<(), NoMemory>
         ensures ok { OnOk result (self.new ≡ record self.old { pass = passes.Entries; missing = missing; kept = gathered pass node rows.now self.old.kept }) }
@@ -168,7 +168,7 @@ impl Traverse {
         alloc: Global,
         pass: Pass,
         node: u32,
-        rows: &[TableRow],
+        rows: &[Row],
     ) -> Result<Vec<TLine>, NoMemory>
         ensures ok { IfOk result (λ lines. lines.items ≡ line.Shown (shown (gathered pass node rows.now self.old.kept)) ∷ []) }
         ensures err { OnErr result (self.new ≡ self.old) }

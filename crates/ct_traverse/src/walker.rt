@@ -14,15 +14,15 @@ ghost use Rattle.ct_traverse.specs.Posts.{before_waiting, is_delivered, is_waiti
 ghost use Rattle.ct_traverse.specs.Walk as walk;
 ghost use Rattle.ct_traverse.specs.Walk.{Walks, ask_lines, asks, begin_fault, begun, begun_as, carried, end_lines, gave, gave_at, given, passed, replied, reply, told, with_fate, with_rows, with_traverse, ended_after, first_pass, goes_on, have_numbers, is_there, lost, no_walk, pending, place_from, repeated, sent_back, told_rows, is_taken};
 
+use crate::kept::Kept;
 use crate::line::{Pass, TFault, TLine, TPending};
 use crate::post::{Post, Posts};
+use crate::rows::{Row, Rows};
 use crate::traverse::{Traverse, without_member};
 use ct_core::machine::Core;
-use ct_frame::frame::TableRow;
 use ct_frame::round::Phase;
 use ct_mail::sent::Fate;
 use ct_node_state::kinds::kind_at;
-use ct_store::hashed::Store;
 use ct_values::items::Items;
 use ct_values::memory::NoMemory;
 use ct_world::world::World;
@@ -145,7 +145,7 @@ fn first_pass(
         members: copied(alloc, core.members())?,
         pass: Pass::Copies,
         missing: copied(alloc, core.members())?,
-        kept: Store::new(alloc),
+        kept: Kept::new(alloc),
     })
 }
 
@@ -164,14 +164,14 @@ fn place_of(running: &[Traverse], number: u64) -> Option<usize>
 }
 
 /// All copies of a database at a node, or all its entries.
-fn rows_at(pass: Pass, core: &Core, db: u32) -> Result<Items<TableRow>, NoMemory>
+fn rows_at(alloc: Global, pass: Pass, core: &Core, db: u32) -> Result<Rows, NoMemory>
     ensures { IfOk result (λ rows. rows ≡ told_rows pass core.now.pnn db core.now.node) }
 {
     let rows = match pass {
         Pass::Copies => core.rows(db)?,
         Pass::Entries => core.entries(db)?,
     };
-    Ok(Items::new(rows))
+    Rows::new(alloc, rows.as_slice())
 }
 
 /// A line for each traverse whose node is in its generation no more.
@@ -202,7 +202,7 @@ fn count_at(
     running: &mut Vec<Traverse>,
     place: usize,
     post: &Post,
-    rows: &[TableRow],
+    rows: &[Row],
     missing: Items<u32>,
 ) -> Result<(), NoMemory>
     requires { place < length running.old.items }
@@ -220,7 +220,7 @@ fn turn_at(
     running: &mut Vec<Traverse>,
     place: usize,
     post: &Post,
-    rows: &[TableRow],
+    rows: &[Row],
     missing: Items<u32>,
 ) -> Result<(), NoMemory>
     requires { place < length running.old.items }
@@ -237,7 +237,7 @@ fn answer_at(
     running: &mut Vec<Traverse>,
     place: usize,
     post: &Post,
-    rows: &[TableRow],
+    rows: &[Row],
 ) -> Result<Vec<TLine>, NoMemory>
     requires { place < length running.old.items }
     ensures lines { (t : traverse.Traverse) → slice_get running.old.items place ≡ Some t → IfOk result (λ lines. lines.items ≡ line.Shown (shown (gathered post.now.pass post.now.sender rows.now t.kept)) ∷ []) }
@@ -250,7 +250,7 @@ fn answer_at(
 }
 
 /// The message by which a member answers with these rows.
-fn reply(post: &Post, rows: Items<TableRow>) -> Post
+fn reply(post: &Post, rows: Rows) -> Post
     ensures { result ≡ reply post.now rows }
 {
     Post {
@@ -414,7 +414,7 @@ impl Walker {
         let Some(view) = world.view(post.receiver) else {
             return Err(TFault::NoMemory);
         };
-        let rows = rows_at(post.pass, view.core, post.db)?;
+        let rows = rows_at(self.alloc, post.pass, view.core, post.db)?;
         let count = rows.len();
         self.send_back(reply(post, rows), count)
     }
@@ -423,7 +423,7 @@ impl Walker {
     fn wait_on(
         &mut self,
         post: &Post,
-        rows: &[TableRow],
+        rows: &[Row],
         place: usize,
         missing: Items<u32>,
     ) -> Result<Vec<TLine>, TFault>
@@ -483,7 +483,7 @@ impl Walker {
     /// The traverse at a place has these rows, the last ones of its first pass, and asks for entries. A refusal changes nothing,
     /// and want of memory neither.
     #[tactic(auto, using(crate::proofs::Walking::questions_wait, crate::proofs::Walking::cut_off), unfolding(crate::specs::Walk::passed))]
-    fn turn(&mut self, post: &Post, rows: &[TableRow], place: usize) -> Result<Vec<TLine>, TFault>
+    fn turn(&mut self, post: &Post, rows: &[Row], place: usize) -> Result<Vec<TLine>, TFault>
         requires { place < length self.old.running }
         ensures { (t : traverse.Traverse) → slice_get self.old.running place ≡ Some t → Walks (λ lines. lines.items) result (passed passes.Copies place (with_rows post.now rows.now t) self.old) self.old self.new }
     {
@@ -504,7 +504,7 @@ impl Walker {
 
     /// The traverse at a place has these rows, the last ones of all, and is answered. Want of memory changes nothing.
     #[tactic(auto, unfolding(crate::specs::Walk::passed))]
-    fn answer(&mut self, post: &Post, rows: &[TableRow], place: usize) -> Result<Vec<TLine>, TFault>
+    fn answer(&mut self, post: &Post, rows: &[Row], place: usize) -> Result<Vec<TLine>, TFault>
         requires { place < length self.old.running }
         ensures { (t : traverse.Traverse) → slice_get self.old.running place ≡ Some t → Walks (λ lines. lines.items) result (passed passes.Entries place (with_rows post.now rows.now t) self.old) self.old self.new }
     {
@@ -513,12 +513,7 @@ impl Walker {
 
     /// Rows come to the traverse at a place. A refusal changes nothing, and want of memory neither.
     #[tactic(auto, unfolding(crate::specs::Walk::gave, crate::specs::Walk::counted))]
-    fn gave_to(
-        &mut self,
-        post: &Post,
-        rows: &[TableRow],
-        place: usize,
-    ) -> Result<Vec<TLine>, TFault>
+    fn gave_to(&mut self, post: &Post, rows: &[Row], place: usize) -> Result<Vec<TLine>, TFault>
         requires { place < length self.old.running }
         ensures { Walks (λ lines. lines.items) result (gave post.now rows.now place (slice_get self.old.running place) self.old) self.old self.new }
     {
@@ -541,7 +536,7 @@ impl Walker {
 
     /// Rows come to their traverse. A refusal changes nothing, and want of memory neither.
     #[tactic(auto, unfolding(crate::specs::Walk::gave_at))]
-    fn gave(&mut self, post: &Post, rows: &[TableRow]) -> Result<Vec<TLine>, TFault>
+    fn gave(&mut self, post: &Post, rows: &[Row]) -> Result<Vec<TLine>, TFault>
         ensures { Walks (λ lines. lines.items) result (gave_at post.now rows.now (place_from 0 post.now.traverse self.old.running) self.old) self.old self.new }
     {
         let Some(place) = place_of(self.running.as_slice(), post.traverse) else {
