@@ -1,6 +1,6 @@
 -- The runs that are legal, and what the registers show then: a commit, and a round after it.
-use Rattle.std.proofs.Common.{◌≡◌, ℕ, ◌≤◌, List, [], ◌∷◌, length, refl, sym, subst}
-use Rattle.std.specs.Prelude.{None}
+use Rattle.std.proofs.Common.{◌≡◌, ◌≢◌, ℕ, ◌≤◌, true, List, [], ◌∷◌, length, refl, sym, subst, arith}
+use Rattle.std.specs.Prelude.{None, Some}
 use Rattle.ct_values.specs.declared.client.Answer.TheVariants as answer
 use Rattle.ct_persist.specs.Updates
 use Rattle.ct_persist.specs.Persisted
@@ -14,12 +14,12 @@ use Rattle.ct_register.specs.Lines
 use Rattle.ct_register.specs.Lines.{Lines}
 use Rattle.ct_register.specs.Births
 use Rattle.ct_rules_cluster.specs.Labels.{Ticket, Stopped}
-use Rattle.ct_register_worked.specs.Runs.{config, x, both, one_write, locks_database, begins, is_unsure, ends_database, UnsureMayBeLost, UnsureMayBeKept}
-use Rattle.ct_register.proofs.Places.{Everywhere, everywhere_at, at_all, at_twice, at_key_twice, of_one}
+use Rattle.ct_register_worked.specs.Runs.{config, x, both, one_write, locks_database, begins, is_unsure, ends_database, UnsureMayBeLost, UnsureMayBeKept, AcknowledgedAsTakenOver}
+use Rattle.ct_register.proofs.Places.{Everywhere, everywhere_at, at_all, at_twice, at_key_twice, of_one, of_two}
 use Rattle.ct_register.proofs.Small.{one_not_zero, nought, same, below_next}
 use Rattle.ct_register.proofs.Ways.{labels_after, database_after, begun_after}
 use Rattle.ct_register.proofs.Formed.{all_seen_counted}
-use Rattle.ct_register_worked.proofs.Rounds.{Unowned, unowned_at, unowned_by, nobody, births, persistent_births}
+use Rattle.ct_register_worked.proofs.Rounds.{Unowned, unowned_at, unowned_by, nobody, births, persistent_births, TookAll, took_all, of_none}
 
 -- nobody has seen any version
 abbrev pub SeenNone : Register → Type 0
@@ -60,6 +60,10 @@ begun_seen = at_all (λ (c : ℕ). c ≤ 1) 0 1 (λ _. 0) (same 1) (λ _. nought
 unsure_within : (db : ℕ) → Within (Words.at 2 unsure begun_line db)
 unfolding unsure begun_line
 unsure_within = at_all Within 2 unsure begun_line (nought 1, all_seen_counted 1 both (1 ∷ []) _ begun_seen) (at_all Within 2 (begun_after 0 one_write (Database.newborn 0 [] (λ _. None))) (λ _. Database.newborn 0 [] (λ _. None)) (nought 1, begun_seen) (λ _. (nought 0, λ m. nought 0)))
+
+begun_within : (db : ℕ) → Within (begun_line db)
+unfolding begun_line
+begun_within = at_all Within 2 (begun_after 0 one_write (Database.newborn 0 [] (λ _. None))) (λ _. Database.newborn 0 [] (λ _. None)) (nought 1, begun_seen) (λ _. (nought 0, λ m. nought 0))
 
 -- ---- a round that keeps it
 
@@ -138,3 +142,58 @@ pub unsure_may_be_lost : UnsureMayBeLost
 unfolding lost_born lost_front Words.at Words.at_key is_among Database.newest Database.all_seen Lines.also_had Register.reading kind_at kind_in name_in name_of has_records Updates.contents Persisted.written Register.owner_without
 unsure_may_be_lost =
     (_, (_, (one_not_zero, refl, _, (refl, refl, refl), refl), (_, (one_not_zero, refl, _, (refl, refl, refl), refl), (_, (refl, tt, (one_not_zero, refl, _, (record { begun = refl; newest = refl; unacknowledged = below_next 0; numbered = refl }, ((λ e. cc), refl, refl), refl), refl)), (_, (one_not_zero, refl, _, (refl, refl), refl), (_, refl, (_, (refl, tt, refl), (lost_born, ((λ _ _. 0), (λ _. 0), lost_births, lost_persistent, refl), (Lines.joined 2 1 lost_born, (refl, refl, below_next 1, unowned_by 1 lost_born.records lost_unowned, refl), refl)))))))), ((refl, refl, refl, refl), refl, refl))
+
+-- ---- a commit that is acknowledged once a member has left for a line that took it over
+
+taken_front : Lines
+taken_front = labels_after (Ticket 2 1 (1 ∷ []) ∷ locks_database 0 ∷ begins 0 ∷ []) (Lines.opening config)
+
+taken_births : Births.Birth taken_front 2 1 (1 ∷ []) 1 (λ _ _. 0)
+unfolding taken_front locked_line locked Words.at Words.at_key is_among
+taken_births = births taken_front 1 (1 ∷ []) (λ _ _. 0) 1 refl refl refl refl refl (λ db key. nought _) (λ db k key _. locked_line_seen db key k)
+
+taken_persistent : Births.PersistentBirth taken_front 2 (1 ∷ []) 1 (all_commits taken_front)
+unfolding taken_front all_commits begun_line Words.at is_among
+taken_persistent = persistent_births taken_front (1 ∷ []) (all_commits taken_front) 1 refl refl (λ db. same _) (λ db. (begun_within db).0) (λ db k is. (begun_within db).1 k)
+
+taken_born : Lines
+taken_born = Births.born_of 2 1 (λ _ _. 0) 1 (all_commits taken_front) taken_front
+
+-- node 0 has the lock, and node 1 has none
+locked_not_one : Everywhere (λ r. r.owner ≢ Some 1) locked_line
+unfolding locked_line locked
+locked_not_one = everywhere_at (λ r. r.owner ≢ Some 1) 0 (112 ∷ []) locked (λ _ _. Register.newborn []) (λ e. cc) (λ _ _ e. cc)
+
+-- node 1 owns nothing
+abbrev NotOne : (ℕ → List ℕ → Register) → Type 0
+NotOne records = Everywhere (λ r. r.owner ≢ Some 1) records
+
+taken_unowned : (l db : ℕ) (key : List ℕ) → (taken_born.records l db key).owner ≢ Some 1
+unfolding taken_born taken_front locked_line locked Words.at Words.at_key
+taken_unowned = at_all NotOne 2 (λ db key. taken_born.records 2 db key) (Words.at 1 locked_line (λ _ _ _. Register.newborn [])) (λ db key e. cc)
+    (at_all NotOne 1 locked_line (λ _ _ _. Register.newborn []) locked_not_one (λ _ db key e. cc))
+
+taken_one : Lines
+taken_one = Lines.joined 2 1 taken_born
+
+one_in_two : 1 ≤ 2
+one_in_two = omega arith
+
+all_there : (m : ℕ) → is_among m both ≡ true → 1 ≤ taken_one.pline m
+unfolding taken_one taken_born taken_front Words.at
+all_there = of_two (λ m. 1 ≤ taken_one.pline m) (same 1) one_in_two
+
+some_one : (k : ℕ) → Some 1 ≡ Some k → 1 ≤ k
+some_one k e = let is : 1 ≡ k = cc in subst (λ n. 1 ≤ n) is (same 1)
+
+-- line 2 alone took over from line 1
+all_took : TookAll 1 1 taken_one.databases
+unfolding taken_one taken_born taken_front all_commits begun_line Words.at
+all_took = took_all 1 1 2 (λ db. taken_one.databases 2 db) taken_born.databases some_one
+    (took_all 1 1 2 (λ db. taken_born.databases 2 db) taken_front.databases some_one
+    (took_all 1 1 1 begun_line (λ _ _. Database.newborn 0 [] (λ _. None)) (of_none 1 None refl) (λ l. of_none 1 None refl)))
+
+pub acknowledged_as_taken_over : AcknowledgedAsTakenOver
+unfolding taken_one taken_born taken_front all_commits Words.at Words.at_key is_among Database.newest Database.all_seen Lines.also_had Register.reading kind_at kind_in name_in name_of has_records Updates.contents Persisted.written
+acknowledged_as_taken_over =
+    (_, (_, (refl, tt, refl), (_, (one_not_zero, refl, _, (refl, refl, refl), refl), (_, (one_not_zero, refl, _, (refl, refl, refl), refl), (taken_born, ((λ _ _. 0), all_commits taken_front, taken_births, taken_persistent, refl), (taken_one, (refl, refl, below_next 1, taken_unowned, refl), (_, (refl, (all_there, all_took), (one_not_zero, refl, _, (record { begun = refl; newest = refl; unacknowledged = below_next 0; numbered = refl }, refl), refl)), refl)))))), ((refl, refl, refl, refl), (refl, refl, refl, refl), refl))

@@ -1,6 +1,6 @@
 -- The runs that are refused: runs through a round.
 use Rattle.std.proofs.Common.{◌≡◌, ℕ, zero, suc, ◌∙◌, ap, true, false, ◌+◌, ◌≤◌, List, [], ◌∷◌, length, refl, sym, arith, ⊎_elim, subst}
-use Rattle.std.specs.Prelude.{nat_eq, nat_lt, if◌then◌else◌, ◌++◌, take, Some}
+use Rattle.std.specs.Prelude.{nat_eq, nat_lt, if◌then◌else◌, ◌++◌, take, Option, Some}
 use Rattle.std.proofs.lemmas.Bool.{cond_both}
 use Rattle.ct_values.specs.Words.{or_empty}
 use Rattle.ct_values.specs.declared.client.Answer.TheVariants as answer
@@ -10,7 +10,7 @@ use Rattle.ct_store.specs.Map.{Pairs, look}
 use Rattle.ct_persist.specs.Updates
 use Rattle.ct_persist.specs.Persisted
 use Rattle.ct_rules_cluster.specs.Labels.{Label, Noted, Ticket, Stopped}
-use Rattle.ct_rules_node.specs.Node.{is_among, has_records, kind_at, kind_in, is_persistent}
+use Rattle.ct_rules_node.specs.Node.{is_among, has_records, kind_at, kind_in, name_in, name_of, is_persistent}
 use Rattle.ct_register.specs.Words
 use Rattle.ct_register.specs.Register
 use Rattle.ct_register.specs.Database
@@ -19,8 +19,8 @@ use Rattle.ct_register.specs.Lines
 use Rattle.ct_register.specs.Lines.{Lines}
 use Rattle.ct_register.specs.Births
 use Rattle.ct_register.specs.Legal
-use Rattle.ct_register_worked.specs.Runs.{config, functions, a, x, both, one_write, locks, reads, writes, locks_database, begins, commits, reads_database, round, installs, thaws}
-use Rattle.ct_register_worked.specs.Refused.{RoundForgets, RoundForgetsCommit, RoundOfAnother, RoundOfOtherMembers, RoundFromNowhere, RoundFromNothing, SecondRound, InstalledTwice, InstalledUnderLock, ThawedTooEarly, PersistentParentTooOld, InstalledByAnother, InstalledUnborn, AcknowledgedWithoutMember, AcknowledgedBeforeInstalled, OldReadAfterCommit, OldReadOfOwn, OldReadAfterRead}
+use Rattle.ct_register_worked.specs.Runs.{config, functions, a, x, both, one_write, locks, reads, writes, locks_database, unlocks_database, begins, commits, reads_database, round, installs, thaws}
+use Rattle.ct_register_worked.specs.Refused.{RoundForgets, RoundForgetsCommit, RoundOfAnother, RoundOfOtherMembers, RoundFromNowhere, RoundFromNothing, SecondRound, InstalledTwice, InstalledUnderLock, ThawedTooEarly, PersistentParentTooOld, InstalledByAnother, InstalledUnborn, AcknowledgedWithoutMember, AcknowledgedBeforeInstalled, AnsweredAfterOldRead, OldReadAfterCommit, OldReadOfOwn, OldReadAfterRead}
 use Rattle.ct_register.proofs.Ways.{labels_after, leave_no_choice, refused_after}
 use Rattle.ct_register.proofs.Small.{one_not_zero, not_below, below_next}
 use Rattle.ct_register_worked.proofs.Refusals.{from_opening, read_of_record}
@@ -155,6 +155,26 @@ old_read_after_commit s = from_opening (locks_database 0 ∷ begins 0 ∷ commit
 
 begun_front : Lines
 begun_front = labels_after (locks_database 0 ∷ begins 0 ∷ []) (Lines.opening config)
+
+-- a read moves no lock
+owner_stays : (n : ℕ) (d : Database) (r s : Lines) → s ≡ Lines.with_database (r.line 1) 2 d r → Legal.lock_owner config (s.line n) 2 s ≡ Legal.lock_owner config (r.line n) 2 r
+owner_stays n d r s is = ap (λ (s : Lines). Legal.lock_owner config (s.line n) 2 s) is
+
+-- node 1 has the lock in place of the committer
+moved_front : Lines
+moved_front = labels_after (locks_database 0 ∷ begins 0 ∷ unlocks_database 0 ∷ locks_database 1 ∷ []) (Lines.opening config)
+
+moved_owner : Legal.lock_owner config (moved_front.line 0) 2 moved_front ≡ Some 1
+unfolding Words.at Words.at_key name_of name_in moved_front
+moved_owner = refl
+
+another_owner : (o : Option ℕ) → o ≡ Some 1 → o ≡ Some 0 → ⊥
+another_owner o one zeroth = absurd (cc)
+
+pub answered_after_old_read : AnsweredAfterOldRead
+unfolding moved_front
+answered_after_old_read s = from_opening (locks_database 0 ∷ begins 0 ∷ unlocks_database 0 ∷ locks_database 1 ∷ []) (reads_database 1 [] ∷ commits 0 1 ∷ reads_database 0 x ∷ []) s refl (λ h.
+    (let p = read_of_database 1 [] moved_front h.0 h.1 in another_owner _ (owner_stays 0 p.2 moved_front h.0 p.4 ∙ moved_owner) h.2.1.0))
 
 pub old_read_of_own : OldReadOfOwn
 unfolding Words.at begun_front

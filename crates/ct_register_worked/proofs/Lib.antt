@@ -2,6 +2,7 @@ mod Reached
 mod Rounds
 mod Births
 mod Bases
+mod Members
 mod Refusals
 mod Forgotten
 mod Placements

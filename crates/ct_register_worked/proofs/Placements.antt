@@ -1,5 +1,5 @@
 -- Runs in which addresses are placed.
-use Rattle.std.proofs.Common.{◌≡◌, ℕ, [], ◌∷◌, refl, sym}
+use Rattle.std.proofs.Common.{◌≡◌, ℕ, refl, sym}
 use Rattle.std.specs.Prelude.{Bool, true, false}
 use Rattle.ct_values.specs.Words.{is_this_node}
 use Rattle.ct_values.specs.declared.address.Address.{Address}
@@ -7,18 +7,13 @@ use Rattle.ct_values.specs.declared.address.Address.TheVariants.{V4}
 use Rattle.ct_lcp2.specs.Best
 use Rattle.ct_lcp2.specs.Distance
 use Rattle.ct_lcp2.specs.Placing as lcp2
-use Rattle.ct_rules_cluster.specs.Labels.{Ticket}
 use Rattle.ct_rules_node.specs.Node.{is_among, holder_in, assigned_all}
 use Rattle.ct_register.specs.Words
-use Rattle.ct_register.specs.Register
 use Rattle.ct_register.specs.Placing
 use Rattle.ct_register.specs.Lines
-use Rattle.ct_register.specs.Lines.{Lines}
-use Rattle.ct_register.specs.Births
 use Rattle.ct_register.proofs.Places.{at_all}
-use Rattle.ct_register.proofs.Small.{nought, below_next}
-use Rattle.ct_register_worked.proofs.Rounds.{Unowned, unowned_at, unowned_by, two_not_zero, births, persistent_births}
-use Rattle.ct_register.proofs.Ways.{labels_after}
+use Rattle.ct_register.proofs.Small.{below_next}
+use Rattle.ct_register_worked.proofs.Rounds.{unowned_by, two_not_zero, both_front, both_births, both_persistent, both_born, both_unowned, both_one, both_one_unowned}
 use Rattle.ct_register_worked.specs.Runs.{config, both, first_at_zero, one_each, AddressesArePlaced}
 
 -- what LCP2 makes of the first address at node 0 and the second at none
@@ -28,33 +23,12 @@ placed_once = refl
 
 -- ---- the run
 
-front : Lines
-front = labels_after (Ticket 2 0 both ∷ []) (Lines.opening config)
-
-front_births : Births.Birth front 2 0 both 1 (λ _ _. 0)
-unfolding front Words.at is_among
-front_births = births front 0 both (λ _ _. 0) 0 refl refl refl refl refl (λ db key. nought _) (λ db k key _. nought 0)
-
-front_persistent : Births.PersistentBirth front 2 both 1 (λ _. 0)
-unfolding front Words.at is_among
-front_persistent = persistent_births front both (λ _. 0) 0 refl refl (λ db. nought _) (λ db. nought 0) (λ db k _. nought 0)
-
-born : Lines
-born = Births.born_of 2 1 (λ _ _. 0) 1 (λ _. 0) front
-
-born_unowned : Unowned born.records
-unfolding born front Words.at
-born_unowned = unowned_at 2 (λ db key. born.records 2 db key) (λ _ _ _. Register.newborn []) (λ db key. refl) (λ l db key. refl)
-
-one_unowned : Unowned (Lines.joined 2 0 born).records
-one_unowned = unowned_at 2 (λ db key. Register.joined_by 0 (born.records 2 db key)) born.records (born_unowned 2) born_unowned
-
 -- nobody holds the second address once node 0 has the first
 free_of_second : (m : ℕ) → Words.at 0 (Words.at_address (V4 1) true (λ _. false)) (λ _ _. false) m (V4 2) ≡ false
 unfolding Words.at_address
 free_of_second = at_all (λ (f : Address → Bool). f (V4 2) ≡ false) 0 (Words.at_address (V4 1) true (λ _. false)) (λ _ _. false) refl (λ _. refl)
 
 pub addresses_are_placed : AddressesArePlaced
-unfolding born front Words.at Words.at_address is_among Lines.also_had Placing.given_placement Placing.assigns is_this_node
+unfolding both_one both_born both_front Words.at Words.at_address is_among Lines.also_had Placing.given_placement Placing.assigns is_this_node
 addresses_are_placed =
-    (_, (_, (refl, tt, refl), (born, ((λ _ _. 0), (λ _. 0), front_births, front_persistent, refl), (_, (refl, _, (tt, refl), refl), (_, (refl, refl, below_next 1, unowned_by 0 born.records born_unowned, refl), (_, (refl, refl, below_next 1, unowned_by 1 (Lines.joined 2 0 born).records one_unowned, refl), (_, (two_not_zero, _, (first_at_zero, refl, refl), refl), (_, (refl, (two_not_zero, _, (record { able = both; given = first_at_zero }, refl, sym placed_once, refl), refl)), (_, (two_not_zero, (λ m ne is. refl), (1, one_each, refl, refl), refl), (_, (two_not_zero, (λ m ne is. free_of_second m), (1, one_each, refl, refl), refl), refl))))))))), (refl, refl, refl, refl))
+    (_, (_, (refl, tt, refl), (both_born, ((λ _ _. 0), (λ _. 0), both_births, both_persistent, refl), (_, (refl, _, (tt, refl), refl), (_, (refl, refl, below_next 1, unowned_by 0 both_born.records both_unowned, refl), (_, (refl, refl, below_next 1, unowned_by 1 both_one.records both_one_unowned, refl), (_, (two_not_zero, _, (first_at_zero, refl, refl), refl), (_, (refl, (two_not_zero, _, (record { able = both; given = first_at_zero }, refl, sym placed_once, refl), refl)), (_, (two_not_zero, (λ m ne is. refl), (1, one_each, refl, refl), refl), (_, (two_not_zero, (λ m ne is. free_of_second m), (1, one_each, refl, refl), refl), refl))))))))), (refl, refl, refl, refl))

@@ -1,6 +1,6 @@
 -- The runs that are legal, and what the registers show then: runs in one line.
-use Rattle.std.proofs.Common.{◌≡◌, ℕ, ◌≤◌, true, List, [], refl, sym, ◌∙◌, subst, inl, inr}
-use Rattle.std.specs.Prelude.{None, Some}
+use Rattle.std.proofs.Common.{◌≡◌, ℕ, ◌≤◌, true, [], refl, sym, subst, inl, inr}
+use Rattle.std.specs.Prelude.{None}
 use Rattle.ct_values.specs.Words.{or_empty}
 use Rattle.ct_persist.specs.Updates
 use Rattle.ct_persist.specs.Persisted
@@ -10,10 +10,11 @@ use Rattle.ct_register.specs.Register
 use Rattle.ct_register.specs.Database
 use Rattle.ct_register.specs.Database.{Database}
 use Rattle.ct_register.specs.Lines
-use Rattle.ct_register_worked.specs.Runs.{config, both, one_write, LockMoves, ReadersSee, FunctionsAnswer, VacuumForgets, StopEndsLocks, RefusalsChangeNothing, TicketsCount, CommitIsRead, AnotherIsRefused, UnsureIsOpen}
-use Rattle.ct_register.proofs.Places.{at_all, at_same, of_two}
+use Rattle.ct_register_worked.specs.Runs.{config, both, one_write, LockMoves, ReadersSee, FunctionsAnswer, VacuumForgets, StopEndsLocks, RefusalsChangeNothing, TicketsCount, CommitIsRead, AnsweredUnderLock, LockMovesAfterAnswer, AnotherIsRefused, UnsureIsOpen}
+use Rattle.ct_register.proofs.Places.{at_same, of_two}
 use Rattle.ct_register.proofs.Ways.{begun_after}
-use Rattle.ct_register.proofs.Small.{one_not_zero, none_not_some, nought, same, below_next}
+use Rattle.ct_register.proofs.Small.{one_not_zero, nought, same, below_next}
+use Rattle.ct_register_worked.proofs.Rounds.{TookAll, took_all, of_none}
 
 pub lock_moves : LockMoves
 unfolding Words.at Words.at_key Register.reading kind_at kind_in has_records
@@ -69,18 +70,28 @@ twice_read = record once_read { seen = Words.at 0 1 once_read.seen }
 
 -- no line took over from line 1, and with another database of line 1 that did not none did
 abbrev TookNothing : (ℕ → ℕ → Database) → Type 0
-TookNothing f = (l : ℕ) → (f l 2).from 1 ≡ None
+TookNothing f = TookAll 1 1 f
 
 took_nothing : (d : Database) (f : ℕ → ℕ → Database) → d.from 1 ≡ None → TookNothing f → TookNothing (with_this d f)
-took_nothing d f own rest = at_all (λ (dbs : ℕ → Database). (dbs 2).from 1 ≡ None) 1 (Words.at 2 d (f 1)) f (subst (λ (e : Database). e.from 1 ≡ None) (sym (at_same 2 2 d (f 1) refl)) own) rest
+took_nothing d f own rest = took_all 1 1 1 (Words.at 2 d (f 1)) f (of_none 1 ((Words.at 2 d (f 1) 2).from 1) (subst (λ (e : Database). e.from 1 ≡ None) (sym (at_same 2 2 d (f 1) refl)) own)) rest
 
-no_line : (f : ℕ → ℕ → Database) → TookNothing f → (l k : ℕ) → (f l 2).from 1 ≡ Some k → 1 ≤ k
-no_line f none l k e = absurd (none_not_some (sym (none l) ∙ e))
+took_none : TookNothing opened
+took_none l = of_none 1 None refl
 
 pub commit_is_read : CommitIsRead
 unfolding Words.at Words.at_key is_among Database.newest or_empty Database.all_seen kind_at kind_in name_in name_of has_records Updates.contents Persisted.written Register.reading
 commit_is_read =
-    (_, (_, (one_not_zero, refl, _, (refl, refl, refl), refl), (_, (one_not_zero, refl, _, (refl, refl, refl), refl), (_, inr (one_not_zero, refl, _, (0, nought 0, nought 0, nought 1, refl, refl), refl), (_, inr (one_not_zero, refl, _, (1, nought 1, same 1, same 1, refl, refl), refl), (_, (refl, (all_there, no_line (with_this twice_read (with_this once_read (with_this just_begun opened))) (took_nothing twice_read (with_this once_read (with_this just_begun opened)) refl (took_nothing once_read (with_this just_begun opened) refl (took_nothing just_begun opened refl (λ l. refl))))), (one_not_zero, refl, _, (record { begun = refl; newest = refl; unacknowledged = below_next 0; numbered = refl }, refl), refl)), (_, inr (one_not_zero, refl, _, (1, same 1, same 1, same 1, refl, refl), refl), refl)))))), (refl, refl, refl, refl))
+    (_, (_, (one_not_zero, refl, _, (refl, refl, refl), refl), (_, (one_not_zero, refl, _, (refl, refl, refl), refl), (_, inr (one_not_zero, refl, _, (0, nought 0, nought 0, nought 1, refl, refl), refl), (_, inr (one_not_zero, refl, _, (1, nought 1, same 1, same 1, refl, refl), refl), (_, (refl, (all_there, took_nothing twice_read (with_this once_read (with_this just_begun opened)) refl (took_nothing once_read (with_this just_begun opened) refl (took_nothing just_begun opened refl took_none))), (one_not_zero, refl, _, (record { begun = refl; newest = refl; unacknowledged = below_next 0; numbered = refl }, refl), refl)), (_, inr (one_not_zero, refl, _, (1, same 1, same 1, same 1, refl, refl), refl), refl)))))), (refl, refl, refl, refl))
+
+pub answered_under_lock : AnsweredUnderLock
+unfolding Words.at Words.at_key is_among Database.newest or_empty Database.all_seen kind_at kind_in name_in name_of has_records Updates.contents Persisted.written Register.reading
+answered_under_lock =
+    (_, (_, (one_not_zero, refl, _, (refl, refl, refl), refl), (_, (one_not_zero, refl, _, (refl, refl, refl), refl), (_, inr (one_not_zero, refl, _, (0, nought 0, nought 0, nought 1, refl, refl), refl), (_, (refl, (all_there, took_nothing once_read (with_this just_begun opened) refl (took_nothing just_begun opened refl took_none)), (one_not_zero, refl, _, (record { begun = refl; newest = refl; unacknowledged = below_next 0; numbered = refl }, refl), refl)), (_, inr (one_not_zero, refl, _, (1, same 1, same 1, same 1, refl, refl), refl), refl))))), (refl, refl, refl, refl))
+
+pub lock_moves_after_answer : LockMovesAfterAnswer
+unfolding Words.at Words.at_key is_among Database.newest or_empty Database.all_seen kind_at kind_in name_in name_of has_records Updates.contents Persisted.written Register.reading
+lock_moves_after_answer =
+    (_, (_, (one_not_zero, refl, _, (refl, refl, refl), refl), (_, (one_not_zero, refl, _, (refl, refl, refl), refl), (_, (refl, (all_there, took_nothing just_begun opened refl took_none), (one_not_zero, refl, _, (record { begun = refl; newest = refl; unacknowledged = below_next 0; numbered = refl }, refl), refl)), (_, (one_not_zero, refl, _, (refl, refl), refl), (_, (one_not_zero, refl, _, (refl, refl, refl), refl), (_, inr (one_not_zero, refl, _, (1, same 1, same 1, same 1, refl, refl), refl), refl)))))), (refl, refl, refl, refl))
 
 pub another_is_refused : AnotherIsRefused
 unfolding Words.at Words.at_key or_empty kind_at kind_in name_in name_of has_records Updates.contents Persisted.written Register.reading

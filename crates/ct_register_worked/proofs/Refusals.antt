@@ -18,7 +18,7 @@ use Rattle.ct_register_worked.specs.Runs.{config, functions, a, x, y, both, lock
 use Rattle.ct_register_worked.specs.Refused.{SecondLock, OldRead, ReadUnderLock, WriteUnderLock, StoreOfNoOwner, UnlockOfNoOwner, WrongAnswer, VacuumOfValue, ReadAfterStop, VacuumedUnderLock, EndedUnlocked, WrongLength, TooLongUnderLock, WriteKeptEmpty, LockAnsweredAgain, AnsweredAfterRefusal, AnsweredAfterStop, CommitUnlocked, CommitBesideAnother, WrongNumber, AcknowledgedTwice, CommitOfAnother, UnsureOfNobody, AnsweredWithoutLock, UnsureOfOwn, UnsureOfNoMember, UnsureTwice, UnsureAnew, RefusedAfterBegin, TicketWhileHeld, TicketLeftOut, YieldedByAnother}
 use Rattle.ct_register.proofs.Ways
 use Rattle.ct_register.proofs.Ways.{labels_after, refused_after}
-use Rattle.ct_register.proofs.Small.{one_not_zero, some_not_none, none_not_some, not_below}
+use Rattle.ct_register.proofs.Small.{one_not_zero, some_not_none, none_not_some}
 use Rattle.ct_rules_node.specs.Node.{is_among, kind_at, kind_in, name_in, name_of}
 
 -- these labels come first, and the rest is refused then

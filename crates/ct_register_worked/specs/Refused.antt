@@ -128,6 +128,11 @@ AcknowledgedBeforeInstalled = IsIllegal (Ticket 2 0 both ∷ round 0 both ∷ in
 abbrev pub AnsweredWithoutLock : Type 0
 AnsweredWithoutLock = IsIllegal (locks_database 0 ∷ begins 0 ∷ unlocks_database 0 ∷ locks_database 1 ∷ commits 0 1 ∷ [])
 
+-- the same, and that node reads the old pair meanwhile, and the other one the new pair after its answer
+abbrev pub AnsweredAfterOldRead : Type 0
+AnsweredAfterOldRead =
+    IsIllegal (locks_database 0 ∷ begins 0 ∷ unlocks_database 0 ∷ locks_database 1 ∷ reads_database 1 [] ∷ commits 0 1 ∷ reads_database 0 x ∷ [])
+
 abbrev pub OldReadAfterCommit : Type 0
 OldReadAfterCommit = IsIllegal (locks_database 0 ∷ begins 0 ∷ commits 0 1 ∷ reads_database 1 [] ∷ [])
 

@@ -209,6 +209,15 @@ abbrev pub CommitIsRead : Type 0
 CommitIsRead =
     Reaches (locks_database 0 ∷ begins 0 ∷ reads_database 1 [] ∷ reads_database 0 x ∷ commits 0 1 ∷ reads_database 1 x ∷ []) (λ s. Counts 1 1 1 1 (s.databases 1 2))
 
+-- who keeps the lock is answered, whatever another node has read meanwhile
+abbrev pub AnsweredUnderLock : Type 0
+AnsweredUnderLock = Reaches (locks_database 0 ∷ begins 0 ∷ reads_database 1 [] ∷ commits 0 1 ∷ reads_database 0 x ∷ []) (λ s. Counts 1 1 1 1 (s.databases 1 2))
+
+-- the lock moves once the commit is answered, and who has it then reads the commit
+abbrev pub LockMovesAfterAnswer : Type 0
+LockMovesAfterAnswer =
+    Reaches (locks_database 0 ∷ begins 0 ∷ commits 0 1 ∷ unlocks_database 0 ∷ locks_database 1 ∷ reads_database 1 x ∷ []) (λ s. Counts 1 1 1 1 (s.databases 1 2))
+
 -- while a commit waits, another is refused for it, and that changes nothing
 abbrev pub AnotherIsRefused : Type 0
 AnotherIsRefused = Reaches (locks_database 0 ∷ begins 0 ∷ refuses 0 why.CommitPending ∷ reads_database 0 x ∷ []) (λ s. Counts 1 0 1 0 (s.databases 1 2))
@@ -226,6 +235,26 @@ UnsureMayBeLost = Reaches (locks_database 0 ∷ begins 0 ∷ is_unsure 0 1 (1 �
 abbrev pub UnsureMayBeKept : Type 0
 UnsureMayBeKept = Reaches (locks_database 0 ∷ begins 0 ∷ is_unsure 0 1 (1 ∷ []) ∷ ends_database 0 ∷ Ticket 2 1 both ∷ round 1 both ∷ installs 1 ∷ []) (λ s.
     (Counts 0 0 0 0 (s.databases 2 2)) × ((s.databases 2 2).seq ≡ 1) × (contents_after 0 (s.databases 2 2) ≡ (a, x) ∷ []))
+
+-- a commit is acknowledged once every member of its line has installed it
+abbrev pub AcknowledgedOnceInstalled : Type 0
+AcknowledgedOnceInstalled = Reaches (Ticket 2 0 both ∷ round 0 both ∷ installs 0 ∷ installs 1 ∷ locks_database 0 ∷ begins 0 ∷ commits 0 1 ∷ []) (λ s.
+    Counts 1 1 1 1 (s.databases 2 2))
+
+-- while one has not, it is missing
+abbrev pub UnsureBeforeInstalled : Type 0
+UnsureBeforeInstalled = Reaches (Ticket 2 0 both ∷ round 0 both ∷ installs 0 ∷ locks_database 0 ∷ begins 0 ∷ is_unsure 0 1 (1 ∷ []) ∷ []) (λ s.
+    Counts 1 0 1 0 (s.databases 2 2))
+
+-- and so is one that left for a line that took over nothing of the commit
+abbrev pub UnsureWithoutMember : Type 0
+UnsureWithoutMember = Reaches (Ticket 2 1 (1 ∷ []) ∷ round 1 (1 ∷ []) ∷ installs 1 ∷ locks_database 0 ∷ begins 0 ∷ is_unsure 0 1 (1 ∷ []) ∷ []) (λ s.
+    (Counts 1 0 1 0 (s.databases 1 2)) × (Counts 0 0 0 0 (s.databases 2 2)))
+
+-- a member that left for a line that took the commit over has it
+abbrev pub AcknowledgedAsTakenOver : Type 0
+AcknowledgedAsTakenOver = Reaches (Ticket 2 1 (1 ∷ []) ∷ locks_database 0 ∷ begins 0 ∷ round 1 (1 ∷ []) ∷ installs 1 ∷ commits 0 1 ∷ []) (λ s.
+    (Counts 1 1 1 1 (s.databases 1 2)) × (Counts 0 0 0 0 (s.databases 2 2)) × (contents_after 0 (s.databases 2 2) ≡ (a, x) ∷ []))
 
 -- a push assigns the first address to node 0; a run places the second one, where it is farthest from the first; and each
 -- node takes what is assigned to it

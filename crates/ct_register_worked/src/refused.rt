@@ -1,5 +1,5 @@
 //! Small runs that are not legal.
-ghost use Rattle.ct_register_worked.specs.Refused.{SecondLock, OldRead, ReadUnderLock, WriteUnderLock, StoreOfNoOwner, UnlockOfNoOwner, WrongAnswer, VacuumOfValue, ReadAfterStop, VacuumedUnderLock, EndedUnlocked, WrongLength, TooLongUnderLock, WriteKeptEmpty, LockAnsweredAgain, AnsweredAfterRefusal, AnsweredAfterStop, CommitUnlocked, CommitBesideAnother, WrongNumber, AcknowledgedTwice, CommitOfAnother, AnsweredWithoutLock, UnsureOfNobody, UnsureOfOwn, UnsureOfNoMember, UnsureTwice, UnsureAnew, RefusedAfterBegin, AcknowledgedWithoutMember, AcknowledgedBeforeInstalled, OldReadAfterCommit, OldReadOfOwn, OldReadAfterRead, RoundForgets, RoundForgetsCommit, RoundOfAnother, RoundOfOtherMembers, RoundFromNowhere, RoundFromNothing, PersistentParentTooOld, SecondRound, InstalledByAnother, InstalledUnborn, InstalledTwice, InstalledUnderLock, ThawedTooEarly, TicketWhileHeld, TicketLeftOut, YieldedByAnother, TookUnassigned, TookWhileHeld, WrongTake, TakeOfNoRun, PushedAnew, PushedUnborn};
+ghost use Rattle.ct_register_worked.specs.Refused.{SecondLock, OldRead, ReadUnderLock, WriteUnderLock, StoreOfNoOwner, UnlockOfNoOwner, WrongAnswer, VacuumOfValue, ReadAfterStop, VacuumedUnderLock, EndedUnlocked, WrongLength, TooLongUnderLock, WriteKeptEmpty, LockAnsweredAgain, AnsweredAfterRefusal, AnsweredAfterStop, CommitUnlocked, CommitBesideAnother, WrongNumber, AcknowledgedTwice, CommitOfAnother, AnsweredWithoutLock, AnsweredAfterOldRead, UnsureOfNobody, UnsureOfOwn, UnsureOfNoMember, UnsureTwice, UnsureAnew, RefusedAfterBegin, AcknowledgedWithoutMember, AcknowledgedBeforeInstalled, OldReadAfterCommit, OldReadOfOwn, OldReadAfterRead, RoundForgets, RoundForgetsCommit, RoundOfAnother, RoundOfOtherMembers, RoundFromNowhere, RoundFromNothing, PersistentParentTooOld, SecondRound, InstalledByAnother, InstalledUnborn, InstalledTwice, InstalledUnderLock, ThawedTooEarly, TicketWhileHeld, TicketLeftOut, YieldedByAnother, TookUnassigned, TookWhileHeld, WrongTake, TakeOfNoRun, PushedAnew, PushedUnborn};
 
 /// A second lock; a read of an old value, or while another node owns the record, or at a node in no line; a write while a
 /// node owns the record; a store or an unlock of no owner; a wrong answer of a function, a refusal of its value with a wrong
@@ -30,10 +30,10 @@ pub fn calls()
 {}
 
 /// A commit without the database's lock, or beside one that is not acknowledged; an answer with a wrong number, or a second
-/// one, or of another node's commit, or once another node has the lock; an unsure one though nobody is missing, or that names its own node, no member or a node twice; a
-/// refusal of a commit that began; an
-/// acknowledgment though a member left for a line without the commit, or has not installed the line; a read without what is acknowledged, or one's own,
-/// or read before.
+/// one, or of another node's commit, or once another node has the lock, also if that has read the old pair meanwhile; an
+/// unsure one though nobody is missing, or that names its own node, no member or a node twice; a refusal of a commit that
+/// began; an acknowledgment though a member left for a line without the commit, or has not installed the line; a read
+/// without what is acknowledged, or one's own, or read before.
 pub fn commits()
     ensures commit_unlocked { CommitUnlocked }
     ensures commit_beside_another { CommitBesideAnother }
@@ -41,6 +41,7 @@ pub fn commits()
     ensures acknowledged_twice { AcknowledgedTwice }
     ensures commit_of_another { CommitOfAnother }
     ensures answered_without_lock { AnsweredWithoutLock }
+    ensures answered_after_old_read { AnsweredAfterOldRead }
     ensures unsure_of_nobody { UnsureOfNobody }
     ensures unsure_of_own { UnsureOfOwn }
     ensures unsure_of_no_member { UnsureOfNoMember }

@@ -1,5 +1,5 @@
 -- Each run, as it was shown.
-use Rattle.ct_register_worked.proofs.Forgotten.{acknowledged_without_member, acknowledged_before_installed, old_read_after_commit, old_read_of_own, old_read_after_read}
+use Rattle.ct_register_worked.proofs.Forgotten.{acknowledged_without_member, acknowledged_before_installed, answered_after_old_read, old_read_after_commit, old_read_of_own, old_read_after_read}
 use Rattle.ct_register_worked.proofs.Refusals.{commit_unlocked, commit_beside_another, wrong_number, acknowledged_twice, commit_of_another, answered_without_lock, unsure_of_nobody, unsure_of_own, unsure_of_no_member, unsure_twice, unsure_anew, refused_after_begin}
 use Rattle.ct_register_worked.proofs.refused.commits.Goals as goal
 
@@ -53,3 +53,6 @@ returns-clause-acknowledged_before_installed c = acknowledged_before_installed
 
 pub returns-clause-answered_without_lock : goal.returns-clause-answered_without_lock
 returns-clause-answered_without_lock c = answered_without_lock
+
+pub returns-clause-answered_after_old_read : goal.returns-clause-answered_after_old_read
+returns-clause-answered_after_old_read c = answered_after_old_read
