@@ -27,6 +27,7 @@ impl<G: Drop> Column<G> {
     /// No plan was played. Node n of the column is to pass the gate at place n, or an open gate where there is none. It takes no
     /// memory.
     pub fn new(alloc: Global, gates: Vec<G>) -> Column<G>
+        ensures gates { result.gates ≡ gates }
         ensures last { result.last ≡ [] }
         ensures ended { result.ended ≡ Ok tt }
     {

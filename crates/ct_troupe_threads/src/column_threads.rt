@@ -48,6 +48,7 @@ impl<R: Drop, G: Drop> ColumnThreads<R, G> {
     ) -> ColumnThreads<R, G>
         requires { length columns.items ≡ 8 }
         ensures both { result.both ≡ both }
+        ensures columns { result.columns ≡ columns }
         ensures played { result.played ≡ 0 }
     {
         ColumnThreads {
