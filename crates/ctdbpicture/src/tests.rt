@@ -1,12 +1,13 @@
 //! Runs of the library's call with ample memory.
+use ct_call::table::CallTable;
+use ct_ladder_play::running::run;
 use ct_outside::memory::{MemSink, MemSource};
-use ct_picture::running::run;
 use std::alloc::Global;
 use std::test::Fail;
 
-// How many words, an input, which calls of the input, out and err fail, and the status, whether out got a picture, and err.
+// The words, an input, which calls of the input, out and err fail, and the status, whether out got a picture, and err.
 type Case = (
-    usize,
+    &'static [&'static str],
     &'static str,
     [&'static [u64]; 3],
     (u8, bool, &'static str),
@@ -19,72 +20,171 @@ const MOVES: &str = "frame 1 1 0 1 call t b 1 lock\nanswer 1 locked -\n";
 const WALKS: &str =
     "tframe 1 0 1 1 ask 1 copies\ntframe 2 1 0 1 rows 1 copies 2\ntlost 2\ntraverse 1 ended\npending-traverse 2 0 t\nkey=a data=x\nDumped 1 records\n";
 
-const CASES: [Case; 16] = [
-    (0, MOVES, NONE, (0, true, "")),
-    (0, WALKS, NONE, (0, true, "")),
+const PLAYS: &str =
+    "nodes 2\ndb t volatile\nlock 1 t b\ndrop 1\nretry 1\nsettle 3\nrepeat 2\nread 0 t d\nctdb 1 catdb t\n";
+
+const SCENARIO: &[&str] = &["--scenario"];
+
+const LINES: &[&str] = &["--lines"];
+
+const CASES: [Case; 31] = [
+    (SCENARIO, PLAYS, NONE, (0, true, "")),
+    (LINES, PLAYS, NONE, (0, true, "")),
+    (SCENARIO, "", NONE, (0, true, "")),
+    (SCENARIO, "nodes 16\n", NONE, (0, true, "")),
+    (SCENARIO, MOVES, NONE, (2, false, "ctdbpicture: line 1\n")),
+    (&[], PLAYS, NONE, (2, false, "ctdbpicture: line 1\n")),
     (
-        0,
+        SCENARIO,
+        "nodes 2\nnodes 2\n",
+        NONE,
+        (2, false, "ctdbpicture: line 2\n"),
+    ),
+    (
+        LINES,
+        "nodes 2\nsettle 0\n",
+        NONE,
+        (2, false, "ctdbpicture: line 2\n"),
+    ),
+    (
+        LINES,
+        "settle 9\n",
+        NONE,
+        (2, false, "ctdbpicture: line 1\n"),
+    ),
+    (
+        SCENARIO,
+        "nodes 2\nstop 1\nstop 1\n",
+        NONE,
+        (2, false, "ctdbpicture: line 3\n"),
+    ),
+    (
+        LINES,
+        "nodes 2\nstop 1",
+        NONE,
+        (2, false, "ctdbpicture: line 2\n"),
+    ),
+    (
+        &["--lines", "--lines"],
+        PLAYS,
+        NONE,
+        (1, false, "ctdbpicture: usage\n"),
+    ),
+    (
+        &["scenario"],
+        PLAYS,
+        NONE,
+        (1, false, "ctdbpicture: usage\n"),
+    ),
+    (
+        SCENARIO,
+        PLAYS,
+        [&[1], &[], &[]],
+        (3, false, "ctdbpicture: read fault\n"),
+    ),
+    (
+        LINES,
+        PLAYS,
+        [&[], &[1], &[]],
+        (4, false, "ctdbpicture: write fault\n"),
+    ),
+    (&[], MOVES, NONE, (0, true, "")),
+    (&[], WALKS, NONE, (0, true, "")),
+    (
+        &[],
         "tframe 1 0 1 1 walk 1 1\n",
         NONE,
         (2, false, "ctdbpicture: line 1\n"),
     ),
-    (0, "", NONE, (0, true, "")),
-    (1, MOVES, NONE, (1, false, "ctdbpicture: usage\n")),
-    (0, "lock 1 t b\n", NONE, (2, false, "ctdbpicture: line 1\n")),
+    (&[], "", NONE, (0, true, "")),
+    (&["run"], MOVES, NONE, (1, false, "ctdbpicture: usage\n")),
     (
-        0,
+        &[],
+        "lock 1 t b\n",
+        NONE,
+        (2, false, "ctdbpicture: line 1\n"),
+    ),
+    (
+        &[],
         "answer 1 locked -\n\n",
         NONE,
         (2, false, "ctdbpicture: line 2\n"),
     ),
-    (0, "answer 1 lo", NONE, (2, false, "ctdbpicture: line 1\n")),
     (
-        0,
+        &[],
+        "answer 1 lo",
+        NONE,
+        (2, false, "ctdbpicture: line 1\n"),
+    ),
+    (
+        &[],
         "answer 1 \u{e9}\n",
         NONE,
         (2, false, "ctdbpicture: line 1\n"),
     ),
     (
-        0,
+        &[],
         "answer 1 a\tb\n",
         NONE,
         (2, false, "ctdbpicture: line 1\n"),
     ),
-    (0, "stopped 16\n", NONE, (2, false, "ctdbpicture: line 1\n")),
     (
-        0,
+        &[],
+        "stopped 16\n",
+        NONE,
+        (2, false, "ctdbpicture: line 1\n"),
+    ),
+    (
+        &[],
         "frame 1 0 1 1 cal t b 1 lock\n",
         NONE,
         (2, false, "ctdbpicture: line 1\n"),
     ),
     (
-        0,
+        &[],
         MOVES,
         [&[1], &[], &[]],
         (3, false, "ctdbpicture: read fault\n"),
     ),
     (
-        0,
+        &[],
         MOVES,
         [&[2], &[], &[]],
         (3, false, "ctdbpicture: read fault\n"),
     ),
     (
-        0,
+        &[],
         MOVES,
         [&[], &[1], &[]],
         (4, false, "ctdbpicture: write fault\n"),
     ),
-    (1, MOVES, [&[], &[], &[1]], (4, false, "")),
+    (&["run"], MOVES, [&[], &[], &[1]], (4, false, "")),
 ];
+
+fn strings(alloc: Global, words: &[&str]) -> Result<Vec<String>, Fail> {
+    let mut strings = Vec::new(alloc);
+    for word in words {
+        strings.push(String::from_str(alloc, word)?)?;
+    }
+    Ok(strings)
+}
 
 fn agrees(alloc: Global, case: &Case) -> Result<bool, Fail> {
     let (words, input, [input_fails, out_fails, err_fails], (status, drawn, err)) = *case;
+    let words = strings(alloc, words)?;
+    let table = CallTable::new(alloc);
     let bytes = Vec::from_slice(alloc, input.as_bytes())?;
     let mut source = MemSource::new(bytes, Vec::from_slice(alloc, input_fails)?);
     let mut held = MemSink::new(alloc, Vec::from_slice(alloc, out_fails)?);
     let mut said = MemSink::new(alloc, Vec::from_slice(alloc, err_fails)?);
-    let got = run(alloc, words, &mut source, &mut held, &mut said);
+    let got = run(
+        alloc,
+        &table,
+        words.as_slice(),
+        &mut source,
+        &mut held,
+        &mut said,
+    );
     let whole = held.held().ends_with(b"</svg>\n");
     Ok(
         got == status
