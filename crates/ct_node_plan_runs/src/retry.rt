@@ -132,7 +132,7 @@ fn revokes_of(
 ) -> Result<(), NoMemory>
     ensures { OnOk result (outs.new ≡ outs.old ++ revoked_in generation me db records.now) }
 {
-    for (key, state) in records.sorted()? {
+    for (key, state) in records.sorted_where(|state| state.tracking.revoking().is_some())? {
         revoke_again(outs, generation, me, db, key, &state.tracking)?;
     }
     Ok(())

@@ -3,3 +3,4 @@ pub mod Names
 pub mod Tables
 pub mod Sorting
 pub mod There
+pub mod Having

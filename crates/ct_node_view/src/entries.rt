@@ -31,7 +31,7 @@ fn entry_row(db: u32, key: &Key, entry: &Entry) -> Result<TableRow, NoMemory>
 fn add_entries(rows: &mut Vec<TableRow>, db: u32, records: &Store<RecState>) -> Result<(), NoMemory>
     ensures { OnOk result (rows.new.items ≡ rows.old.items ++ entries_of db records.now) }
 {
-    for (key, state) in records.sorted()? {
+    for (key, state) in records.sorted_where(|state| state.entry.is_some())? {
         if let Some(entry) = &state.entry {
             rows.push(entry_row(db, key, entry)?)?;
         }
@@ -56,7 +56,7 @@ fn copies_of(alloc: Global, records: &Store<RecState>) -> Result<Vec<(&Key, &Rec
     ensures { IfOk result (λ copies. map deref_pair copies.items ≡ copies_of records.now) }
 {
     let mut copies = Vec::new(alloc);
-    for (key, state) in records.sorted()? {
+    for (key, state) in records.sorted_where(|state| state.copy.is_some())? {
         if let Some(copy) = &state.copy {
             copies.push((key, copy))?;
         }

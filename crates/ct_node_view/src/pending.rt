@@ -35,7 +35,7 @@ fn add_wished(
 ) -> Result<(), NoMemory>
     ensures { OnOk result (calls.new.items ≡ calls.old.items ++ wished_in node records.now) }
 {
-    for (_key, state) in records.sorted()? {
+    for (_key, state) in records.sorted_where(|state| state.wish.is_some())? {
         if let Some(wish) = &state.wish {
             calls.push(of_wish(node, wish)?)?;
         }

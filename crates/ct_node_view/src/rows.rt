@@ -53,7 +53,7 @@ fn add_rows(
 ) -> Result<(), NoMemory>
     ensures { OnOk result (rows.new.items ≡ rows.old.items ++ rows_of me db records.now) }
 {
-    for (key, state) in records.sorted()? {
+    for (key, state) in records.sorted_where(|state| state.copy.is_some())? {
         if let Some(copy) = &state.copy {
             rows.push(row_of(me, db, key, copy)?)?;
         }

@@ -36,7 +36,7 @@ impl Model for Called {
 fn add_calls(calls: &mut Vec<Called>, db: u32, records: &Store<RecState>) -> Result<(), NoMemory>
     ensures { OnOk result (calls.new.items ≡ calls.old.items ++ calls_of db records.now) }
 {
-    for (key, state) in records.sorted()? {
+    for (key, state) in records.sorted_where(|state| state.wish.is_some())? {
         if let Some(wish) = &state.wish {
             calls.push(Called {
                 call: wish.call,

@@ -20,10 +20,10 @@ use Rattle.ct_store.proofs.Maps.{key_total, one_key, equal, same_map, look-write
 abbrev pub same : List ℕ → List ℕ → Bool
 same = pointwise nat_eq
 
-is_one : (q k : List ℕ) → same q k ≡ true → q ≡ k
+pub is_one : (q k : List ℕ) → same q k ≡ true → q ≡ k
 is_one q k h = one_key q k (equal _ (sym (texts_ties q k) ∙ h))
 
-flips : (k q : List ℕ) → same k q ≡ is_at (key_cmp q) k
+pub flips : (k q : List ℕ) → same k q ≡ is_at (key_cmp q) k
 flips k q = texts_ties k q ∙ (eq_by_cmp_equiv key_total).symm k q
 
 abbrev pub or_else : {X : Type 0} → Option X → Option X → Option X
@@ -59,7 +59,7 @@ module _ {X : Type 0} where
   one_taken es fs k h = same_map _ _ (ordered_ascends fs) (erase_ascends _ k (ordered_ascends es)) (λ q.
       look-ordered q fs ∙ h q ∙ ap (λ b. cond b None (lookup (same q) es)) (texts_ties k q) ∙ ap (cond (is_at (key_cmp k) q) None) (sym (look-ordered q es)) ∙ sym (look-erase q k (ordered es) (ordered_ascends es)))
 
-  absent : (q : List ℕ) (es : List (List ℕ × X)) → AllByRecursion (λ k. same q k ≡ false) (keys_of es) → lookup (same q) es ≡ None
+  pub absent : (q : List ℕ) (es : List (List ℕ × X)) → AllByRecursion (λ k. same q k ≡ false) (keys_of es) → lookup (same q) es ≡ None
   absent q [] h = refl
   absent q (e ∷ es) h = ap (λ b. cond b (Some e.1) (lookup (same q) es)) h.0 ∙ absent q es h.1
 

@@ -1,3 +1,4 @@
 pub mod Hashing
 pub mod Maps
 pub mod Playing
+pub mod Those

@@ -1,8 +1,5 @@
 -- A map as the list of its pairs, by ascending key.
 use Rattle.std.specs.Prelude.{ℕ, Bool, ◌||◌, is_some, nat_lt, List, length, Option}
-use Rattle.std.specs.declared.cmp.Ordering.{Ordering}
-use Rattle.std.specs.Ordering.{nat_cmp}
-use Rattle.std.specs.Cmp.Lexicographic.{slice_cmp}
 use Rattle.std.specs.Map.{keys_of, lookup, remove_entry}
 use Rattle.std.specs.BTreeMap.{is_at, insert_entry}
 use Rattle.std.specs.List.Sorted.{IsStrictlySortedBy}

@@ -1,14 +1,19 @@
 //! A map that finds a key by its hash.
-ghost use Rattle.std.specs.Prelude.{◌≡◌, length, IfOk, OnOk, OnErr, None, [], option_copied, map};
+ghost use Rattle.std.specs.Prelude.{◌≡◌, Bool, length, IfOk, OnOk, OnErr, None, [], option_copied, map, nat_eq};
+ghost use Rattle.std.specs.Cmp.Lexicographic.{pointwise};
+ghost use Rattle.std.specs.List.{IsDistinct};
+ghost use Rattle.std.specs.Map.{keys_of};
 ghost use Rattle.std.specs.Option.{option_copied_mut};
 ghost use Rattle.std.specs.Map.Iter.{deref_pair};
+ghost use Rattle.ct_store.specs.Hashed.{ordered};
 ghost use Rattle.ct_store.specs.Map.{Ascends, look, write, erase, has_room};
+ghost use Rattle.ct_store.specs.Those.{Tells, those};
 
 use crate::keyed::Keyed;
 use ct_values::key::Key;
 use ct_values::memory::NoMemory;
 use std::alloc::Global;
-use std::collections::{BTreeMap, HashMap};
+use std::collections::HashMap;
 use std::marker::Model;
 
 /// Items by key, found by the hash of the key. The seed of the hash is fixed.
@@ -25,6 +30,13 @@ impl<T> Model for Store<T> {
     ghost Value = { Pairs T };
 
     ghost view = { λ a. ordered a.items.entries };
+}
+
+/// Puts pairs in the order of their keys, where those differ.
+fn put_in_order<T>(pairs: &mut Vec<(&Key, &T)>)
+    ensures { IsDistinct (pointwise nat_eq) (keys_of (map deref_pair pairs.old.items)) → map deref_pair pairs.new.items ≡ ordered (map deref_pair pairs.old.items) }
+{
+    pairs.sort_unstable_by(|a, b| a.0.cmp(b.0));
 }
 
 impl<T> Store<T> {
@@ -60,27 +72,31 @@ impl<T> Store<T> {
         self.get(key).is_some() || self.len() < 1024
     }
 
-    /// The keys and their items, put in order.
-    fn in_order(&self) -> Result<BTreeMap<&Key, &T>, NoMemory>
-        ensures { IfOk result (λ m. map deref_pair m.entries ≡ self.now) }
-    {
-        let mut found: BTreeMap<&Key, &T> = BTreeMap::new(self.alloc);
-        for (key, item) in &self.items {
-            found.insert(key, item)?;
-        }
-        Ok(found)
-    }
-
     /// The keys and their items, by ascending key.
     pub fn sorted(&self) -> Result<Vec<(&Key, &T)>, NoMemory>
         ensures { IfOk result (λ all. map deref_pair all.items ≡ self.now) }
     {
-        let found = self.in_order()?;
-        let mut all = Vec::with_capacity(self.alloc, found.len())?;
-        for pair in found {
-            all.push(pair)?;
+        let mut all = Vec::with_capacity(self.alloc, self.items.len())?;
+        for (key, item) in &self.items {
+            all.push((key, item))?;
         }
+        put_in_order(&mut all);
         Ok(all)
+    }
+
+    /// The keys and their items that pass a test, by ascending key. The others are not put in order.
+    pub fn sorted_where<F: Fn(&T) -> bool>(&self, test: F) -> Result<Vec<(&Key, &T)>, NoMemory>
+        requires { F.IsAlwaysCallable test }
+        ensures { (p : T → Bool) → Tells F.Fn p test → IfOk result (λ some. map deref_pair some.items ≡ those p self.now) }
+    {
+        let mut some = Vec::new(self.alloc);
+        for (key, item) in &self.items {
+            if test(item) {
+                some.push((key, item))?;
+            }
+        }
+        put_in_order(&mut some);
+        Ok(some)
     }
 }
 
