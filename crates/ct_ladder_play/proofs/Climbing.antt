@@ -16,7 +16,7 @@ use Rattle.ct_play.specs.declared.what.What.{What}
 use Rattle.ct_ladder.specs.declared.rung.Fate.{Fate}
 use Rattle.ct_ladder.specs.declared.rung.Fate.TheVariants as fate
 use Rattle.ct_ladder.specs.declared.rung.Rung.{Rung}
-use Rattle.ct_ladder_play.specs.Playing.{Climb, Climbed, Climbs, ClimbsAll, Ladders, after_rungs, and_on, behind, climbed, ladder_at, ladder_in, line_climbed, lines_climbed, nodes_of, one_comes, rungs_of, said_rungs, settle_one, settled, stepped, told_from, waiting_at, with_line}
+use Rattle.ct_ladder_play.specs.Playing.{Climb, Climbed, Climbs, ClimbsAll, Ladders, after_rungs, and_on, climb_after, climbed, ladder_at, ladder_in, line_climbed, lines_climbed, nodes_of, one_comes, rungs_of, said_rungs, settle_one, settle_climbed, step_climbed, told_rungs, least_waiting, climb_from}
 
 -- ---- one step
 
@@ -34,7 +34,7 @@ step_refused r f what e = ap (climbed f) e
 pub record Settling (rules : Rules) (count : ℕ) (first now : Session) (left : ℕ) (before rungs : List Rung) : Type 0 where
   pub done : List Rung
   pub made : rungs ≡ before ++ done
-  pub goes_on : after_rungs done (settled rules left now) ≡ settled rules count first
+  pub goes_on : after_rungs done (settle_climbed rules left now) ≡ settle_climbed rules count first
 
 after_nothing : (r : Result Climbed What) → after_rungs [] r ≡ r
 after_nothing (Ok x) = refl
@@ -45,34 +45,34 @@ after_both xs ys (Ok x) = ap (λ rs. Ok (record { session = x.session; rungs = r
 after_both xs ys (Err what) = refl
 
 pub begins : (rules : Rules) (count : ℕ) (first : Session) (before : List Rung) → Settling rules count first first count before before
-begins rules count first before = record { done = []; made = sym (append-nil before); goes_on = after_nothing (settled rules count first) }
+begins rules count first before = record { done = []; made = sym (append-nil before); goes_on = after_nothing (settle_climbed rules count first) }
 
-one_left : (rules : Rules) (m left : ℕ) (now : Session) (next : Option ℕ) → m ≡ suc left → waiting_at now ≡ next → settled rules m now ≡ one_comes rules now next (λ t. settled rules left t)
-unfolding settled
-one_left rules m left now next e n = ap (λ k. settled rules k now) e ∙ ap (λ o. one_comes rules now o (λ t. settled rules left t)) n
+one_left : (rules : Rules) (m left : ℕ) (now : Session) (next : Option ℕ) → m ≡ suc left → least_waiting now ≡ next → settle_climbed rules m now ≡ one_comes rules now next (λ t. settle_climbed rules left t)
+unfolding settle_climbed
+one_left rules m left now next e n = ap (λ k. settle_climbed rules k now) e ∙ ap (λ o. one_comes rules now o (λ t. settle_climbed rules left t)) n
 
 -- one more came
 pub came : (rules : Rules) (count : ℕ) (first now : Session) (m left k : ℕ) (before rungs more : List Rung) (x : Climbed)
     → m ≡ suc left
-    → waiting_at now ≡ Some k
-    → stepped rules (fate.Came k) settle_one now ≡ Ok x
+    → least_waiting now ≡ Some k
+    → step_climbed rules (fate.Came k) settle_one now ≡ Ok x
     → more ≡ rungs ++ x.rungs
     → Settling rules count first now m before rungs
     → Settling rules count first x.session left before more
 came rules count first now m left k before rungs more x e n a r h =
-    let later : Session → Result Climbed What = λ t. settled rules left t in
-    let it : settled rules m now ≡ after_rungs x.rungs (settled rules left x.session) = one_left rules m left now (Some k) e n ∙ ap (λ s. and_on s later) a in
+    let later : Session → Result Climbed What = λ t. settle_climbed rules left t in
+    let it : settle_climbed rules m now ≡ after_rungs x.rungs (settle_climbed rules left x.session) = one_left rules m left now (Some k) e n ∙ ap (λ s. and_on s later) a in
     record {
       done = h.done ++ x.rungs;
       made = r ∙ ap (λ rs. rs ++ x.rungs) h.made ∙ append_assoc before h.done x.rungs;
-      goes_on = sym (after_both h.done x.rungs (settled rules left x.session)) ∙ ap (λ s. after_rungs h.done s) (sym it) ∙ h.goes_on;
+      goes_on = sym (after_both h.done x.rungs (settle_climbed rules left x.session)) ∙ ap (λ s. after_rungs h.done s) (sym it) ∙ h.goes_on;
     }
 
 -- a message came by this step
 pub came_next : (rules : Rules) (count : ℕ) (first now new : Session) (i k : ℕ) (before rungs more : List Rung)
     → i < count
-    → waiting_at now ≡ Some k
-    → Climbs (Ok tt) (stepped rules (fate.Came k) settle_one now) new rungs more
+    → least_waiting now ≡ Some k
+    → Climbs (Ok tt) (step_climbed rules (fate.Came k) settle_one now) new rungs more
     → Settling rules count first now (count - i) before rungs
     → Settling rules count first new (count - (i + 1)) before more
 came_next rules count first now new i k before rungs more b n (x, a, s, r) h =
@@ -82,43 +82,43 @@ came_next rules count first now new i k before rungs more b n (x, a, s, r) h =
 -- or it was refused
 pub came_refused : (rules : Rules) (count : ℕ) (first now new : Session) (i k : ℕ) (before rungs more : List Rung) (f : PlayFault)
     → i < count
-    → waiting_at now ≡ Some k
-    → Climbs (Err f) (stepped rules (fate.Came k) settle_one now) new rungs more
+    → least_waiting now ≡ Some k
+    → Climbs (Err f) (step_climbed rules (fate.Came k) settle_one now) new rungs more
     → Settling rules count first now (count - i) before rungs
-    → Climbs (Err f) (settled rules count first) new before more
+    → Climbs (Err f) (settle_climbed rules count first) new before more
 came_refused rules count first now new i k before rungs more (Refused what) b n a h =
     let e : count - i ≡ suc (count - (i + 1)) = omega arith in
-    let later : Session → Result Climbed What = λ t. settled rules (count - (i + 1)) t in
-    let it : settled rules (count - i) now ≡ Err what = one_left rules (count - i) (count - (i + 1)) now (Some k) e n ∙ ap (λ s. and_on s later) a in
+    let later : Session → Result Climbed What = λ t. settle_climbed rules (count - (i + 1)) t in
+    let it : settle_climbed rules (count - i) now ≡ Err what = one_left rules (count - i) (count - (i + 1)) now (Some k) e n ∙ ap (λ s. and_on s later) a in
     sym h.goes_on ∙ ap (λ s. after_rungs h.done s) it
 came_refused rules count first now new i k before rungs more Want b n a h = tt
 
 -- no message waits any more
 pub none_left : (rules : Rules) (count : ℕ) (first now new : Session) (i : ℕ) (before rungs more : List Rung) (r : Result (Unit {0}) PlayFault)
     → i < count
-    → waiting_at now ≡ None
-    → Climbs r (stepped rules fate.Still settle_one now) new rungs more
+    → least_waiting now ≡ None
+    → Climbs r (step_climbed rules fate.Still settle_one now) new rungs more
     → Settling rules count first now (count - i) before rungs
-    → Climbs r (settled rules count first) new before more
+    → Climbs r (settle_climbed rules count first) new before more
 none_left rules count first now new i before rungs more (Ok u) b n (x, a, s, r) h =
     let e : count - i ≡ suc (count - (i + 1)) = omega arith in
-    let it : settled rules (count - i) now ≡ Ok x = one_left rules (count - i) (count - (i + 1)) now None e n ∙ a in
+    let it : settle_climbed rules (count - i) now ≡ Ok x = one_left rules (count - i) (count - (i + 1)) now None e n ∙ a in
     (record { session = x.session; rungs = h.done ++ x.rungs }, sym h.goes_on ∙ ap (λ s. after_rungs h.done s) it, s, r ∙ ap (λ rs. rs ++ x.rungs) h.made ∙ append_assoc before h.done x.rungs)
 none_left rules count first now new i before rungs more (Err (Refused what)) b n a h =
     let e : count - i ≡ suc (count - (i + 1)) = omega arith in
-    let it : settled rules (count - i) now ≡ Err what = one_left rules (count - i) (count - (i + 1)) now None e n ∙ a in
+    let it : settle_climbed rules (count - i) now ≡ Err what = one_left rules (count - i) (count - (i + 1)) now None e n ∙ a in
     sym h.goes_on ∙ ap (λ s. after_rungs h.done s) it
 none_left rules count first now new i before rungs more (Err Want) b n a h = tt
 
-none_more : (rules : Rules) (m : ℕ) (now : Session) → m ≡ 0 → settled rules m now ≡ Ok (record { session = now; rungs = [] })
-unfolding settled
-none_more rules m now e = ap (λ k. settled rules k now) e
+none_more : (rules : Rules) (m : ℕ) (now : Session) → m ≡ 0 → settle_climbed rules m now ≡ Ok (record { session = now; rungs = [] })
+unfolding settle_climbed
+none_more rules m now e = ap (λ k. settle_climbed rules k now) e
 
 -- as many came as were to
 pub all_came : (rules : Rules) (count : ℕ) (first now : Session) (i : ℕ) (before rungs : List Rung)
     → count ≤ i
     → Settling rules count first now (count - i) before rungs
-    → Climbs (Ok tt) (settled rules count first) now before rungs
+    → Climbs (Ok tt) (settle_climbed rules count first) now before rungs
 all_came rules count first now i before rungs b h =
     (record { session = now; rungs = h.done ++ [] }, sym h.goes_on ∙ ap (λ s. after_rungs h.done s) (none_more rules (count - i) now (omega arith)), refl, h.made ∙ ap (λ rs. before ++ rs) (sym (append-nil h.done)))
 
@@ -128,13 +128,13 @@ all_came rules count first now i before rungs b h =
 pub record Climbing (rules : Rules) (is_shown : Bool) (first now : Session) (all left : List (List ℕ)) (n : ℕ) (before rungs : List Rung) : Type 0 where
   pub done : List Rung
   pub made : rungs ≡ before ++ done
-  pub goes_on : behind done (lines_climbed rules is_shown n now left) ≡ lines_climbed rules is_shown 1 first all
+  pub goes_on : climb_after done (lines_climbed rules is_shown n now left) ≡ lines_climbed rules is_shown 1 first all
 
-behind_nothing : (r : Climb) → behind [] r ≡ r
+behind_nothing : (r : Climb) → climb_after [] r ≡ r
 behind_nothing (Ok x) = refl
 behind_nothing (Err n) = refl
 
-behind_both : (xs ys : List Rung) (r : Climb) → behind xs (behind ys r) ≡ behind (xs ++ ys) r
+behind_both : (xs ys : List Rung) (r : Climb) → climb_after xs (climb_after ys r) ≡ climb_after (xs ++ ys) r
 behind_both xs ys (Ok x) = ap (λ rs. Ok (record { session = x.session; rungs = rs })) (sym (append_assoc xs ys x.rungs))
 behind_both xs ys (Err n) = refl
 
@@ -151,12 +151,12 @@ pub climb_more : (rules : Rules) (is_shown : Bool) (first now : Session) (all : 
 climb_more rules is_shown first now all line left n before rungs said more x a s r h =
     let own = said_rungs is_shown line ++ x.rungs in
     let later : Climb = lines_climbed rules is_shown (n + 1) x.session left in
-    let it : lines_climbed rules is_shown n now (line ∷ left) ≡ behind own later = ap (λ c. with_line (said_rungs is_shown line) n c (λ t. lines_climbed rules is_shown (n + 1) t left)) a in
+    let it : lines_climbed rules is_shown n now (line ∷ left) ≡ climb_after own later = ap (λ c. climb_from (said_rungs is_shown line) n c (λ t. lines_climbed rules is_shown (n + 1) t left)) a in
     record {
       done = h.done ++ own;
       made = r ∙ ap (λ rs. rs ++ x.rungs) (s ∙ ap (λ rs. rs ++ said_rungs is_shown line) h.made) ∙ ap (λ rs. rs ++ x.rungs) (append_assoc before h.done (said_rungs is_shown line))
           ∙ append_assoc before (h.done ++ said_rungs is_shown line) x.rungs ∙ ap (λ rs. before ++ rs) (append_assoc h.done (said_rungs is_shown line) x.rungs);
-      goes_on = sym (behind_both h.done own later) ∙ ap (λ c. behind h.done c) (sym it) ∙ h.goes_on;
+      goes_on = sym (behind_both h.done own later) ∙ ap (λ c. climb_after h.done c) (sym it) ∙ h.goes_on;
     }
 
 -- a line was played
@@ -174,7 +174,7 @@ pub climb_refused : (rules : Rules) (is_shown : Bool) (first now new : Session) 
     → Climbing rules is_shown first now all (line ∷ left) n before rungs
     → lines_climbed rules is_shown 1 first all ≡ Err n
 climb_refused rules is_shown first now new all line left n before rungs said more what a h =
-    sym h.goes_on ∙ ap (λ c. behind h.done (with_line (said_rungs is_shown line) n c (λ t. lines_climbed rules is_shown (n + 1) t left))) a
+    sym h.goes_on ∙ ap (λ c. climb_after h.done (climb_from (said_rungs is_shown line) n c (λ t. lines_climbed rules is_shown (n + 1) t left))) a
 
 none_after : {A : Type 0} (lines : List A) (i : ℕ) → length lines ≤ i → drop i lines ≡ []
 none_after [] zero h = refl
@@ -206,7 +206,7 @@ at_rest : (n : ℕ) (rest : List ℕ) (x : Climbed) → nat_eq (length rest) 0 �
 at_rest n [] x some = absurd (eqb-false 0 0 some refl)
 at_rest n (b ∷ bs) x some = refl
 
-at_end : (n : ℕ) (rest : List ℕ) (x : Climbed) → nat_eq (length rest) 0 ≡ true → ladder_at n rest (Ok x) ≡ Ok (record { nodes = nodes_of x.session; rungs = x.rungs ++ told_from fate.Still (pending_texts x.session) })
+at_end : (n : ℕ) (rest : List ℕ) (x : Climbed) → nat_eq (length rest) 0 ≡ true → ladder_at n rest (Ok x) ≡ Ok (record { nodes = nodes_of x.session; rungs = x.rungs ++ told_rungs fate.Still (pending_texts x.session) })
 at_end n [] x none = refl
 at_end n (b ∷ bs) x none = absurd (let e = eqb-true (length (b ∷ bs)) 0 none in omega arith)
 
@@ -249,10 +249,10 @@ ladder_unended v parts n rules is_shown first new before now rest e s r some (x,
 pub ladder_made : {A : Type 0} (v : A → List ℕ) (parts : List A) (n : ℕ) (rules : Rules) (is_shown : Bool) (first new : Session) (before now all : List Rung) (nodes : ℕ) (rest : List ℕ)
     → n ≡ length parts - 1 → first ≡ start → rest ≡ word_at (map v parts) n → nat_eq (length rest) 0 ≡ true
     → ClimbsAll (Ok tt) (lines_climbed rules is_shown 1 first (map v (take n parts))) new before now
-    → before ≡ [] → all ≡ now ++ told_from fate.Still (pending_texts new) → nodes ≡ nodes_of new
+    → before ≡ [] → all ≡ now ++ told_rungs fate.Still (pending_texts new) → nodes ≡ nodes_of new
     → ladder_in rules is_shown (map v parts) ≡ Ok (record { nodes = nodes; rungs = all })
 ladder_made v parts n rules is_shown first new before now all nodes rest e s r none (x, h, t, m) b a k =
     made_of v parts n rules is_shown first (Ok x) e s h ∙ at_end (n + 1) (word_at (map v parts) n) x (ap (λ l. nat_eq (length l) 0) (sym r) ∙ none)
-    ∙ ap (λ u. Ok (record { nodes = nodes_of u; rungs = x.rungs ++ told_from fate.Still (pending_texts u) })) (sym t)
-    ∙ ap (λ rs. Ok (record { nodes = nodes_of new; rungs = rs ++ told_from fate.Still (pending_texts new) })) (sym (m ∙ ap (λ rs. rs ++ x.rungs) b))
+    ∙ ap (λ u. Ok (record { nodes = nodes_of u; rungs = x.rungs ++ told_rungs fate.Still (pending_texts u) })) (sym t)
+    ∙ ap (λ rs. Ok (record { nodes = nodes_of new; rungs = rs ++ told_rungs fate.Still (pending_texts new) })) (sym (m ∙ ap (λ rs. rs ++ x.rungs) b))
     ∙ ap (λ rs. Ok (record { nodes = nodes_of new; rungs = rs })) (sym a) ∙ ap (λ q. Ok (record { nodes = q; rungs = all })) (sym k)

@@ -33,8 +33,8 @@ use Rattle.ct_picture.specs.declared.row.RowKind.{RowKind}
 use Rattle.ct_ladder.specs.declared.rung.Fate.{Fate}
 use Rattle.ct_ladder.specs.declared.rung.Fate.TheVariants as fate
 use Rattle.ct_ladder.specs.declared.rung.Rung.{Rung}
-use Rattle.ct_ladder_play.specs.Playing.{Climb, Climbed, after_rungs, and_on, bare, behind, climbed, fate_told, ladder_at, ladder_from, ladder_in, line_climbed, line_row, lines_climbed, matter_at, matter_climbed, matter_in, one_comes, or_beside, rungs_of, rungs_with, said_rungs, settle_one, settled, told_from, waiting_at, waiting_in, with_line}
-use Rattle.ct_ladder_play.specs.Told.{LaddersAreRefused, LaddersTellPlays, TellsRun, run_line, run_lines_in, said_line, said_lines_in}
+use Rattle.ct_ladder_play.specs.Playing.{Climb, Climbed, after_rungs, and_on, without_feed, climb_after, climbed, fate_told, ladder_at, ladder_from, ladder_in, line_climbed, line_row, lines_climbed, matter_at, matter_climbed, matter_in, one_comes, or_beside, rungs_of, rungs_with, said_rungs, settle_one, settle_climbed, told_rungs, least_waiting, waiting_in, climb_from}
+use Rattle.ct_ladder_play.specs.Told.{LaddersAreRefused, LaddersTellPlays, TellsPlay, run_shown, run_lines_in, said_shown, said_lines_in}
 use Rattle.ct_ladder_play.specs.declared.playing.Ladder.{Ladder}
 use Rattle.ct_ladder_play.specs.declared.playing.Matter.{Matter}
 use Rattle.ct_ladder_play.specs.declared.playing.Matter.TheVariants as matter
@@ -54,15 +54,15 @@ row_line : (line : List ℕ) → (line_row line).line ≡ line
 unfolding row_of
 row_line line = row_choice (list_all is_printed line) (kind_of (words_of line)) line
 
-told_lines : (f : Fate) (texts : List (List ℕ)) → run_lines_in (told_from f texts) ≡ map bare texts
+told_lines : (f : Fate) (texts : List (List ℕ)) → run_lines_in (told_rungs f texts) ≡ map without_feed texts
 told_lines f [] = refl
-told_lines f (t ∷ ts) = ap (λ l. l ∷ run_lines_in (told_from fate.Still ts)) (row_line (bare t)) ∙ ap (λ ls. bare t ∷ ls) (told_lines fate.Still ts)
+told_lines f (t ∷ ts) = ap (λ l. l ∷ run_lines_in (told_rungs fate.Still ts)) (row_line (without_feed t)) ∙ ap (λ ls. without_feed t ∷ ls) (told_lines fate.Still ts)
 
-told_quiet : (f : Fate) (texts : List (List ℕ)) → said_lines_in (told_from f texts) ≡ []
+told_quiet : (f : Fate) (texts : List (List ℕ)) → said_lines_in (told_rungs f texts) ≡ []
 told_quiet f [] = refl
 told_quiet f (t ∷ ts) = told_quiet fate.Still ts
 
-rungs_lines : (f : Fate) (texts : List (List ℕ)) → run_lines_in (rungs_with f texts) ≡ map bare texts
+rungs_lines : (f : Fate) (texts : List (List ℕ)) → run_lines_in (rungs_with f texts) ≡ map without_feed texts
 rungs_lines fate.Still [] = refl
 rungs_lines (fate.Came k) [] = refl
 rungs_lines (fate.CameAgain k) [] = refl
@@ -77,10 +77,10 @@ rungs_quiet (fate.Lost k) [] = refl
 rungs_quiet f (t ∷ ts) = told_quiet f (t ∷ ts)
 
 lines_joined : (xs ys : List Rung) → run_lines_in (xs ++ ys) ≡ run_lines_in xs ++ run_lines_in ys
-lines_joined xs ys = flat_map-append (λ (r : Rung). run_line r.shown) xs ys
+lines_joined xs ys = flat_map-append (λ (r : Rung). run_shown r.shown) xs ys
 
 said_joined : (xs ys : List Rung) → said_lines_in (xs ++ ys) ≡ said_lines_in xs ++ said_lines_in ys
-said_joined xs ys = flat_map-append (λ (r : Rung). said_line r.shown) xs ys
+said_joined xs ys = flat_map-append (λ (r : Rung). said_shown r.shown) xs ys
 
 both : {A : Type 0} (xs ys us vs : List A) → xs ≡ us → ys ≡ vs → xs ++ ys ≡ us ++ vs
 both xs ys us vs e f = ap (λ l. l ++ ys) e ∙ ap (λ l. us ++ l) f
@@ -90,7 +90,7 @@ both xs ys us vs e f = ap (λ l. l ++ ys) e ∙ ap (λ l. us ++ l) f
 -- the rows show what was played, and no line of the scenario
 record Shows (x : Climbed) (p : Played) : Type 0 where
   session : x.session ≡ p.session
-  lines : run_lines_in x.rungs ≡ map bare p.texts
+  lines : run_lines_in x.rungs ≡ map without_feed p.texts
   quiet : said_lines_in x.rungs ≡ []
 
 -- so it is where the line is played, and it is refused where the play refuses it
@@ -105,10 +105,10 @@ acts f (Ok p) = record { session = refl; lines = rungs_lines (fate_told f p.text
 acts f (Err w) = tt
 
 -- rows come first
-same_after : (rungs : List Rung) (texts : List (List ℕ)) (e : Effect) (a : Accepted) (made : Result Climbed What) (more : Result Effect What) → run_lines_in rungs ≡ map bare texts → said_lines_in rungs ≡ [] → Same made (put a more) → Same (after_rungs rungs made) (put a (after texts e.deeds more))
+same_after : (rungs : List Rung) (texts : List (List ℕ)) (e : Effect) (a : Accepted) (made : Result Climbed What) (more : Result Effect What) → run_lines_in rungs ≡ map without_feed texts → said_lines_in rungs ≡ [] → Same made (put a more) → Same (after_rungs rungs made) (put a (after texts e.deeds more))
 same_after rungs texts e a (Ok x) (Ok m) h g s = record {
   session = s.session;
-  lines = lines_joined rungs x.rungs ∙ both (run_lines_in rungs) (run_lines_in x.rungs) (map bare texts) (map bare m.texts) h s.lines ∙ sym (map-append bare texts m.texts);
+  lines = lines_joined rungs x.rungs ∙ both (run_lines_in rungs) (run_lines_in x.rungs) (map without_feed texts) (map without_feed m.texts) h s.lines ∙ sym (map-append without_feed texts m.texts);
   quiet = said_joined rungs x.rungs ∙ both (said_lines_in rungs) (said_lines_in x.rungs) [] [] g s.quiet;
 }
 same_after rungs texts e a (Ok x) (Err w) h g s = absurd s
@@ -135,18 +135,18 @@ seated p w k = record { places = with_later p; world = Some w; walker = k }
 
 -- a message came, and so do more
 then_more : (rules : Rules) (m k : ℕ) (p : Accepted) (r : Result Effect What)
-    → ((v : World) (l : Walk) → Same (settled rules m (seated p v l)) (put (with_later p) (up_to m (next rules) v l)))
-    → Same (comes (put (with_later p) (and_then r (λ v l. Ok (still v l)))) (Some k) (λ t. settled rules m t)) (put (with_later p) (and_then r (λ v l. up_to m (next rules) v l)))
+    → ((v : World) (l : Walk) → Same (settle_climbed rules m (seated p v l)) (put (with_later p) (up_to m (next rules) v l)))
+    → Same (comes (put (with_later p) (and_then r (λ v l. Ok (still v l)))) (Some k) (λ t. settle_climbed rules m t)) (put (with_later p) (and_then r (λ v l. up_to m (next rules) v l)))
 then_more rules m k p (Ok e) h =
     let texts = e.texts ++ [] in
     let rungs = rungs_of (fate.Came k) texts in
-    let lines : run_lines_in rungs ≡ map bare e.texts = rungs_lines (fate_told (fate.Came k) texts) texts ∙ ap (map bare) (append-nil e.texts) in
-    same_after rungs e.texts e (with_later p) (settled rules m (seated p e.world e.walk)) (up_to m (next rules) e.world e.walk) lines (rungs_quiet (fate_told (fate.Came k) texts) texts) (h e.world e.walk)
+    let lines : run_lines_in rungs ≡ map without_feed e.texts = rungs_lines (fate_told (fate.Came k) texts) texts ∙ ap (map without_feed) (append-nil e.texts) in
+    same_after rungs e.texts e (with_later p) (settle_climbed rules m (seated p e.world e.walk)) (up_to m (next rules) e.world e.walk) lines (rungs_quiet (fate_told (fate.Came k) texts) texts) (h e.world e.walk)
 then_more rules m k p (Err w) h = tt
 
 next_more : (rules : Rules) (m : ℕ) (p : Accepted) (w : World) (k : Walk) (o : Option ℕ)
-    → ((v : World) (l : Walk) → Same (settled rules m (seated p v l)) (put (with_later p) (up_to m (next rules) v l)))
-    → Same (comes (put (with_later p) (next_first (delivery rules w k o) w k (λ v l. Ok (still v l)))) o (λ t. settled rules m t)) (put (with_later p) (next_first (delivery rules w k o) w k (λ v l. up_to m (next rules) v l)))
+    → ((v : World) (l : Walk) → Same (settle_climbed rules m (seated p v l)) (put (with_later p) (up_to m (next rules) v l)))
+    → Same (comes (put (with_later p) (next_first (delivery rules w k o) w k (λ v l. Ok (still v l)))) o (λ t. settle_climbed rules m t)) (put (with_later p) (next_first (delivery rules w k o) w k (λ v l. up_to m (next rules) v l)))
 next_more rules m p w k None h = record { session = refl; lines = refl; quiet = refl }
 next_more rules m p w k (Some n) h = then_more rules m n p (effect.stepped rules w k (step.Deliver n)) h
 
@@ -169,19 +169,19 @@ waits a (Some w) = refl
 
 -- one more comes at a session where the line may stand
 one_settles : (rules : Rules) (m : ℕ) (s : Session) → later_refusal s.places ≡ None
-    → ((v : World) (l : Walk) → Same (settled rules m (seated s.places v l)) (put (with_later s.places) (up_to m (next rules) v l)))
-    → Same (settled rules (suc m) s) (put (with_later s.places) (up_to (suc m) (next rules) (world_at (with_later s.places) s.world) s.walker))
-unfolding settled up_to
+    → ((v : World) (l : Walk) → Same (settle_climbed rules m (seated s.places v l)) (put (with_later s.places) (up_to m (next rules) v l)))
+    → Same (settle_climbed rules (suc m) s) (put (with_later s.places) (up_to (suc m) (next rules) (world_at (with_later s.places) s.world) s.walker))
+unfolding settle_climbed up_to
 one_settles rules m s free h =
     let w = world_at (with_later s.places) s.world in
-    let later : Session → Result Climbed What = λ t. settled rules m t in
+    let later : Session → Result Climbed What = λ t. settle_climbed rules m t in
     let plays = put (with_later s.places) (next_first (next rules w s.walker) w s.walker (λ v l. up_to m (next rules) v l)) in
     let one : line_played rules settle_one s ≡ put (with_later s.places) (next_first (next rules w s.walker) w s.walker (λ v l. Ok (still v l))) = settle_played rules settle_one 1 s refl one_read ∙ at_place rules 1 s free in
-    let is = comes_is rules s (waiting_at s) later ∙ ap (λ r. comes r (waiting_at s) later) one ∙ ap (λ o. comes (put (with_later s.places) (next_first (next rules w s.walker) w s.walker (λ v l. Ok (still v l)))) o later) (waits (with_later s.places) s.world) in
+    let is = comes_is rules s (least_waiting s) later ∙ ap (λ r. comes r (least_waiting s) later) one ∙ ap (λ o. comes (put (with_later s.places) (next_first (next rules w s.walker) w s.walker (λ v l. Ok (still v l)))) o later) (waits (with_later s.places) s.world) in
     subst (λ r. Same r plays) (sym is) (next_more rules m s.places w s.walker (next_waiting w.cluster.sent) h)
 
-seats : (rules : Rules) (m : ℕ) (p : Accepted) (w : World) (k : Walk) → later_refusal p ≡ None → Same (settled rules m (seated p w k)) (put (with_later p) (up_to m (next rules) w k))
-unfolding settled up_to
+seats : (rules : Rules) (m : ℕ) (p : Accepted) (w : World) (k : Walk) → later_refusal p ≡ None → Same (settle_climbed rules m (seated p w k)) (put (with_later p) (up_to m (next rules) w k))
+unfolding settle_climbed up_to
 seats rules zero p w k free = record { session = refl; lines = refl; quiet = refl }
 seats rules (suc m) p w k free = one_settles rules m (seated p w k) free (λ v l. seats rules m p v l free)
 
@@ -189,14 +189,14 @@ comes_refused : (v : What) (o : Option ℕ) (later : Session → Result Climbed 
 comes_refused v None later w = tt
 comes_refused v (Some k) later w = tt
 
-settles : (rules : Rules) (m : ℕ) (s : Session) (o : Option LineKind) → later_refusal s.places ≡ o → Same (settled rules (suc m) s) (placed rules (item.Settle (suc m)) s o)
-unfolding settled
+settles : (rules : Rules) (m : ℕ) (s : Session) (o : Option LineKind) → later_refusal s.places ≡ o → Same (settle_climbed rules (suc m) s) (placed rules (item.Settle (suc m)) s o)
+unfolding settle_climbed
 settles rules m s None free = one_settles rules m s free (λ v l. seats rules m s.places v l free)
 settles rules m s (Some kind) refused =
-    let later : Session → Result Climbed What = λ t. settled rules m t in
+    let later : Session → Result Climbed What = λ t. settle_climbed rules m t in
     let one = settle_played rules settle_one 1 s refl one_read ∙ ap (placed rules (item.Settle 1) s) refused in
-    let is = comes_is rules s (waiting_at s) later ∙ ap (λ r. comes r (waiting_at s) later) one in
-    subst (λ r. Same r (Err (what.Line kind))) (sym is) (comes_refused (what.Line kind) (waiting_at s) later (what.Line kind))
+    let is = comes_is rules s (least_waiting s) later ∙ ap (λ r. comes r (least_waiting s) later) one in
+    subst (λ r. Same r (Err (what.Line kind))) (sym is) (comes_refused (what.Line kind) (least_waiting s) later (what.Line kind))
 
 -- what a line is to a ladder tells what is shown of it
 by_matter : (rules : Rules) (line : List ℕ) (s : Session) (m : Matter) → matter_at line ≡ m → Same (matter_climbed rules line s m) (line_played rules line s) → Same (line_climbed rules line s) (line_played rules line s)
@@ -205,9 +205,9 @@ by_matter rules line s m is h = subst (λ n. Same (matter_climbed rules line s n
 as_acts : (rules : Rules) (line : List ℕ) (s : Session) (f : Fate) → matter_at line ≡ matter.Acts f → Same (line_climbed rules line s) (line_played rules line s)
 as_acts rules line s f is = by_matter rules line s (matter.Acts f) is (acts f (line_played rules line s))
 
-as_settles : (rules : Rules) (line : List ℕ) (s : Session) (m : ℕ) → 1 ≤ m → nat_lt 65535 (length line) ≡ false → line_of line ≡ Some (item.Settle m) → Same (settled rules m s) (line_played rules line s)
+as_settles : (rules : Rules) (line : List ℕ) (s : Session) (m : ℕ) → 1 ≤ m → nat_lt 65535 (length line) ≡ false → line_of line ≡ Some (item.Settle m) → Same (settle_climbed rules m s) (line_played rules line s)
 as_settles rules line s zero some short is = absurd (omega arith)
-as_settles rules line s (suc m) some short is = subst (λ r. Same (settled rules (suc m) s) r) (sym (settle_played rules line (suc m) s short is)) (settles rules m s (later_refusal s.places) refl)
+as_settles rules line s (suc m) some short is = subst (λ r. Same (settle_climbed rules (suc m) s) r) (sym (settle_played rules line (suc m) s short is)) (settles rules m s (later_refusal s.places) refl)
 
 matter_of_short : (line : List ℕ) (o : Option ScenarioLine) → nat_lt 65535 (length line) ≡ false → line_of line ≡ o → matter_at line ≡ matter_in o
 matter_of_short line o short is = ap (λ b. cond b (matter.Acts fate.Still) (matter_in (line_of line))) short ∙ ap matter_in is
@@ -234,7 +234,7 @@ line_same rules line s = by_length rules line s (nat_lt 65535 (length line)) ref
 -- the rows show what a run of the lines prints
 record Follows (is_shown : Bool) (lines : List (List ℕ)) (x : Climbed) (r : Run) : Type 0 where
   texts : List (List ℕ)
-  told : run_lines_in x.rungs ≡ map bare texts
+  told : run_lines_in x.rungs ≡ map without_feed texts
   printed : all_text texts ≡ r.text
   said : said_lines_in x.rungs ≡ cond is_shown lines []
   session : x.session ≡ r.session
@@ -271,14 +271,14 @@ texts_joined xs ys = flat_map-append (λ t. t) xs ys
 not_none : {A : Type 0} (x : A) → Some x ≢ None
 not_none x e = absurd cc
 
-more_lines : (is_shown : Bool) (n : ℕ) (line : List ℕ) (lines : List (List ℕ)) (x : Climbed) (p : Played) (c : Climb) (r : Run) → Shows x p → Follow is_shown (n + 1) lines c r → Follow is_shown n (line ∷ lines) (behind (said_rungs is_shown line ++ x.rungs) c) (preceded (all_text p.texts) p.deeds 1 r)
+more_lines : (is_shown : Bool) (n : ℕ) (line : List ℕ) (lines : List (List ℕ)) (x : Climbed) (p : Played) (c : Climb) (r : Run) → Shows x p → Follow is_shown (n + 1) lines c r → Follow is_shown n (line ∷ lines) (climb_after (said_rungs is_shown line ++ x.rungs) c) (preceded (all_text p.texts) p.deeds 1 r)
 more_lines is_shown n line lines x p (Ok y) r h f =
     let own = said_rungs is_shown line ++ x.rungs in
-    let own_lines : run_lines_in own ≡ map bare p.texts = lines_joined (said_rungs is_shown line) x.rungs ∙ both (run_lines_in (said_rungs is_shown line)) (run_lines_in x.rungs) [] (map bare p.texts) (said_apart is_shown line) h.lines in
+    let own_lines : run_lines_in own ≡ map without_feed p.texts = lines_joined (said_rungs is_shown line) x.rungs ∙ both (run_lines_in (said_rungs is_shown line)) (run_lines_in x.rungs) [] (map without_feed p.texts) (said_apart is_shown line) h.lines in
     let own_said : said_lines_in own ≡ cond is_shown (line ∷ []) [] = said_joined (said_rungs is_shown line) x.rungs ∙ both (said_lines_in (said_rungs is_shown line)) (said_lines_in x.rungs) (cond is_shown (line ∷ []) []) [] (said_itself is_shown line) h.quiet ∙ append-nil (cond is_shown (line ∷ []) []) in
     record {
       texts = p.texts ++ f.texts;
-      told = lines_joined own y.rungs ∙ both (run_lines_in own) (run_lines_in y.rungs) (map bare p.texts) (map bare f.texts) own_lines f.told ∙ sym (map-append bare p.texts f.texts);
+      told = lines_joined own y.rungs ∙ both (run_lines_in own) (run_lines_in y.rungs) (map without_feed p.texts) (map without_feed f.texts) own_lines f.told ∙ sym (map-append without_feed p.texts f.texts);
       printed = texts_joined p.texts f.texts ∙ ap (λ t. all_text p.texts ++ t) f.printed;
       said = said_joined own y.rungs ∙ both (said_lines_in own) (said_lines_in y.rungs) (cond is_shown (line ∷ []) []) (cond is_shown lines []) own_said f.said ∙ said_more is_shown line lines;
       session = f.session;
@@ -287,7 +287,7 @@ more_lines is_shown n line lines x p (Ok y) r h f =
     }
 more_lines is_shown n line lines x p (Err k) r h f = (f.0, let e = f.1 in omega arith)
 
-line_more : (is_shown : Bool) (n : ℕ) (line : List ℕ) (lines : List (List ℕ)) (s : Session) (c : Result Climbed What) (p : Result Played What) (climb : Session → Climb) (run : Session → Run) → Same c p → ((t : Session) → Follow is_shown (n + 1) lines (climb t) (run t)) → Follow is_shown n (line ∷ lines) (with_line (said_rungs is_shown line) n c climb) (continued p s run)
+line_more : (is_shown : Bool) (n : ℕ) (line : List ℕ) (lines : List (List ℕ)) (s : Session) (c : Result Climbed What) (p : Result Played What) (climb : Session → Climb) (run : Session → Run) → Same c p → ((t : Session) → Follow is_shown (n + 1) lines (climb t) (run t)) → Follow is_shown n (line ∷ lines) (climb_from (said_rungs is_shown line) n c climb) (continued p s run)
 line_more is_shown n line lines s (Ok x) (Ok p) climb run h later = more_lines is_shown n line lines x p (climb x.session) (run p.session) h (subst (λ t. Follow is_shown (n + 1) lines (climb x.session) (run t)) h.session (later x.session))
 line_more is_shown n line lines s (Ok x) (Err w) climb run h later = absurd h
 line_more is_shown n line lines s (Err v) (Ok p) climb run h later = absurd h
@@ -365,18 +365,18 @@ made_by rules is_shown bytes =
     ∙ ap (λ ls. ladder_at (length (parts_of bytes) - 1 + 1) (rest bytes) (lines_climbed rules is_shown 1 start ls)) (lines_are bytes)
 
 -- a run that was followed to its end
-tells : (is_shown : Bool) (lines : List (List ℕ)) (n : ℕ) (end : List ℕ) (c : Climb) (r : Run) (l : Ladder) → Follow is_shown 1 lines c r → ladder_at n end c ≡ Ok l → TellsRun is_shown lines (with_rest (length end) r) l × (end ≡ [])
+tells : (is_shown : Bool) (lines : List (List ℕ)) (n : ℕ) (end : List ℕ) (c : Climb) (r : Run) (l : Ladder) → Follow is_shown 1 lines c r → ladder_at n end c ≡ Ok l → TellsPlay is_shown lines (with_rest (length end) r) l × (end ≡ [])
 tells is_shown lines n [] (Ok x) r l f is =
-    let whole = x.rungs ++ told_from fate.Still (pending_texts x.session) in
+    let whole = x.rungs ++ told_rungs fate.Still (pending_texts x.session) in
     let here : whole ≡ l.rungs = cc in (
       record {
         texts = f.texts ++ pending_texts r.session;
-        told = ap run_lines_in (sym here) ∙ lines_joined x.rungs (told_from fate.Still (pending_texts x.session))
-            ∙ both (run_lines_in x.rungs) (run_lines_in (told_from fate.Still (pending_texts x.session))) (map bare f.texts) (map bare (pending_texts r.session)) f.told (told_lines fate.Still (pending_texts x.session) ∙ ap (λ t. map bare (pending_texts t)) f.session)
-            ∙ sym (map-append bare f.texts (pending_texts r.session));
+        told = ap run_lines_in (sym here) ∙ lines_joined x.rungs (told_rungs fate.Still (pending_texts x.session))
+            ∙ both (run_lines_in x.rungs) (run_lines_in (told_rungs fate.Still (pending_texts x.session))) (map without_feed f.texts) (map without_feed (pending_texts r.session)) f.told (told_lines fate.Still (pending_texts x.session) ∙ ap (λ t. map without_feed (pending_texts t)) f.session)
+            ∙ sym (map-append without_feed f.texts (pending_texts r.session));
         printed = texts_joined f.texts (pending_texts r.session) ∙ ap (λ t. t ++ all_text (pending_texts r.session)) f.printed;
-        said = ap said_lines_in (sym here) ∙ said_joined x.rungs (told_from fate.Still (pending_texts x.session))
-            ∙ both (said_lines_in x.rungs) (said_lines_in (told_from fate.Still (pending_texts x.session))) (cond is_shown lines []) [] f.said (told_quiet fate.Still (pending_texts x.session)) ∙ append-nil (cond is_shown lines []);
+        said = ap said_lines_in (sym here) ∙ said_joined x.rungs (told_rungs fate.Still (pending_texts x.session))
+            ∙ both (said_lines_in x.rungs) (said_lines_in (told_rungs fate.Still (pending_texts x.session))) (cond is_shown lines []) [] f.said (told_quiet fate.Still (pending_texts x.session)) ∙ append-nil (cond is_shown lines []);
         good = ap (refusal_after 0) f.good;
       },
       refl,

@@ -56,8 +56,8 @@ matter_at line = if nat_lt 65535 (length line) then matter.Acts fate.Still else 
 -- ---- rows
 
 -- a text without its line feed
-abbrev pub bare : List ℕ → List ℕ
-bare text = take (length text - 1) text
+abbrev pub without_feed : List ℕ → List ℕ
+without_feed text = take (length text - 1) text
 
 abbrev pub or_beside : List ℕ → Option Row → Row
 or_beside line None = record { line = line; label = line; kind = kind.Beside }
@@ -76,25 +76,25 @@ is_still (fate.Lost k) = false
 abbrev pub begins_lost : List ℕ → Bool
 begins_lost text = bytes_eq (take (min (length text) 5) text) (codes "lost ")
 
-abbrev pub lost : Fate → Fate
-lost fate.Still = fate.Still
-lost (fate.Came k) = fate.Lost k
-lost (fate.CameAgain k) = fate.Lost k
-lost (fate.Lost k) = fate.Lost k
+abbrev pub as_lost : Fate → Fate
+as_lost fate.Still = fate.Still
+as_lost (fate.Came k) = fate.Lost k
+as_lost (fate.CameAgain k) = fate.Lost k
+as_lost (fate.Lost k) = fate.Lost k
 
 -- what became of a message, where this was printed: it is lost where that is said first
 abbrev pub fate_told : Fate → List (List ℕ) → Fate
 fate_told f [] = f
-fate_told f (t ∷ ts) = if begins_lost t then lost f else f
+fate_told f (t ∷ ts) = if begins_lost t then as_lost f else f
 
 -- a row for each text, in the first of which this became of a message
-abbrev pub told_from : Fate → List (List ℕ) → List Rung
-told_from f [] = []
-told_from f (t ∷ ts) = record { fate = f; shown = shown.Told (line_row (bare t)) } ∷ told_from fate.Still ts
+abbrev pub told_rungs : Fate → List (List ℕ) → List Rung
+told_rungs f [] = []
+told_rungs f (t ∷ ts) = record { fate = f; shown = shown.Told (line_row (without_feed t)) } ∷ told_rungs fate.Still ts
 
 abbrev pub rungs_with : Fate → List (List ℕ) → List Rung
 rungs_with f [] = if is_still f then [] else record { fate = f; shown = shown.Nothing } ∷ []
-rungs_with f (t ∷ ts) = told_from f (t ∷ ts)
+rungs_with f (t ∷ ts) = told_rungs f (t ∷ ts)
 
 -- the rows of one step, one at least where it is told what became of a message
 abbrev pub rungs_of : Fate → List (List ℕ) → List Rung
@@ -112,8 +112,8 @@ climbed f (Ok p) = Ok (record { session = p.session; rungs = rungs_of f p.texts 
 climbed f (Err what) = Err what
 
 -- a line is played, by which this becomes of a message
-abbrev pub stepped : Rules → Fate → List ℕ → Session → Result Climbed What
-stepped rules f line s = climbed f (line_played rules line s)
+abbrev pub step_climbed : Rules → Fate → List ℕ → Session → Result Climbed What
+step_climbed rules f line s = climbed f (line_played rules line s)
 
 abbrev pub after_rungs : List Rung → Result Climbed What → Result Climbed What
 after_rungs rungs (Ok x) = Ok (record { session = x.session; rungs = rungs ++ x.rungs })
@@ -129,25 +129,25 @@ waiting_in None = None
 waiting_in (Some w) = next_waiting w.cluster.sent
 
 -- the message that waits and has the least number
-abbrev pub waiting_at : Session → Option ℕ
-waiting_at s = waiting_in s.world
+abbrev pub least_waiting : Session → Option ℕ
+least_waiting s = waiting_in s.world
 
 -- one message comes
 abbrev pub settle_one : List ℕ
 settle_one = codes "settle 1"
 
 abbrev pub one_comes : Rules → Session → Option ℕ → (Session → Result Climbed What) → Result Climbed What
-one_comes rules s None later = stepped rules fate.Still settle_one s
-one_comes rules s (Some k) later = and_on (stepped rules (fate.Came k) settle_one s) later
+one_comes rules s None later = step_climbed rules fate.Still settle_one s
+one_comes rules s (Some k) later = and_on (step_climbed rules (fate.Came k) settle_one s) later
 
 -- so many messages come, one after the other, the least first; fewer where none waits
-unfoldable pub settled : Rules → ℕ → Session → Result Climbed What
-settled rules zero s = Ok (record { session = s; rungs = [] })
-settled rules (suc m) s = one_comes rules s (waiting_at s) (λ t. settled rules m t)
+unfoldable pub settle_climbed : Rules → ℕ → Session → Result Climbed What
+settle_climbed rules zero s = Ok (record { session = s; rungs = [] })
+settle_climbed rules (suc m) s = one_comes rules s (least_waiting s) (λ t. settle_climbed rules m t)
 
 abbrev pub matter_climbed : Rules → List ℕ → Session → Matter → Result Climbed What
-matter_climbed rules line s (matter.Settles m) = settled rules m s
-matter_climbed rules line s (matter.Acts f) = stepped rules f line s
+matter_climbed rules line s (matter.Settles m) = settle_climbed rules m s
+matter_climbed rules line s (matter.Acts f) = step_climbed rules f line s
 
 -- a line of the scenario
 abbrev pub line_climbed : Rules → List ℕ → Session → Result Climbed What
@@ -170,18 +170,18 @@ said_rungs false line = []
 abbrev pub Climb : Type 0
 Climb = Result Climbed ℕ
 
-abbrev pub behind : List Rung → Climb → Climb
-behind rungs (Ok x) = Ok (record { session = x.session; rungs = rungs ++ x.rungs })
-behind rungs (Err n) = Err n
+abbrev pub climb_after : List Rung → Climb → Climb
+climb_after rungs (Ok x) = Ok (record { session = x.session; rungs = rungs ++ x.rungs })
+climb_after rungs (Err n) = Err n
 
-abbrev pub with_line : List Rung → ℕ → Result Climbed What → (Session → Climb) → Climb
-with_line said n (Ok x) later = behind (said ++ x.rungs) (later x.session)
-with_line said n (Err what) later = Err n
+abbrev pub climb_from : List Rung → ℕ → Result Climbed What → (Session → Climb) → Climb
+climb_from said n (Ok x) later = climb_after (said ++ x.rungs) (later x.session)
+climb_from said n (Err what) later = Err n
 
 -- lines, the first of which has this number
 abbrev pub lines_climbed : Rules → Bool → ℕ → Session → List (List ℕ) → Climb
 lines_climbed rules is_shown n s [] = Ok (record { session = s; rungs = [] })
-lines_climbed rules is_shown n s (line ∷ lines) = with_line (said_rungs is_shown line) n (line_climbed rules line s) (λ t. lines_climbed rules is_shown (n + 1) t lines)
+lines_climbed rules is_shown n s (line ∷ lines) = climb_from (said_rungs is_shown line) n (line_climbed rules line s) (λ t. lines_climbed rules is_shown (n + 1) t lines)
 
 abbrev pub ClimbsAll : Result (Unit {0}) RunFault → Climb → Session → List Rung → List Rung → Type 0
 ClimbsAll (Ok u) climb new before now = (x : Climbed) × (climb ≡ Ok x) × (new ≡ x.session) × (now ≡ before ++ x.rungs)
@@ -198,7 +198,7 @@ nodes_of s = nodes_said s.places.nodes
 
 -- what stands behind the last line feed is no line; the calls that wait are told at the end
 abbrev pub ladder_at : ℕ → List ℕ → Climb → Result Ladder ℕ
-ladder_at n [] (Ok x) = Ok (record { nodes = nodes_of x.session; rungs = x.rungs ++ told_from fate.Still (pending_texts x.session) })
+ladder_at n [] (Ok x) = Ok (record { nodes = nodes_of x.session; rungs = x.rungs ++ told_rungs fate.Still (pending_texts x.session) })
 ladder_at n (b ∷ bs) (Ok x) = Err n
 ladder_at n rest (Err m) = Err m
 

@@ -6,40 +6,40 @@ use Rattle.ct_play.specs.Play.{Run, all_text, lines_after, pending_text_of, play
 use Rattle.ct_ladder.specs.declared.rung.Rung.{Rung}
 use Rattle.ct_ladder.specs.declared.rung.Shown.{Shown}
 use Rattle.ct_ladder.specs.declared.rung.Shown.TheVariants as shown
-use Rattle.ct_ladder_play.specs.Playing.{bare, ladder_from}
+use Rattle.ct_ladder_play.specs.Playing.{without_feed, ladder_from}
 use Rattle.ct_ladder_play.specs.declared.playing.Ladder.{Ladder}
 
 -- the line of the run that is shown, if one is
-abbrev pub run_line : Shown → List (List ℕ)
-run_line shown.Nothing = []
-run_line (shown.Told row) = row.line ∷ []
-run_line (shown.Said said) = []
+abbrev pub run_shown : Shown → List (List ℕ)
+run_shown shown.Nothing = []
+run_shown (shown.Told row) = row.line ∷ []
+run_shown (shown.Said said) = []
 
 -- the line of the scenario that is shown, if one is
-abbrev pub said_line : Shown → List (List ℕ)
-said_line shown.Nothing = []
-said_line (shown.Told row) = []
-said_line (shown.Said said) = said ∷ []
+abbrev pub said_shown : Shown → List (List ℕ)
+said_shown shown.Nothing = []
+said_shown (shown.Told row) = []
+said_shown (shown.Said said) = said ∷ []
 
 -- the lines of the run, and those of the scenario, that rows show, in order
 abbrev pub run_lines_in : List Rung → List (List ℕ)
-run_lines_in rungs = flat_map (λ (r : Rung). run_line r.shown) rungs
+run_lines_in rungs = flat_map (λ (r : Rung). run_shown r.shown) rungs
 
 abbrev pub said_lines_in : List Rung → List (List ℕ)
-said_lines_in rungs = flat_map (λ (r : Rung). said_line r.shown) rungs
+said_lines_in rungs = flat_map (λ (r : Rung). said_shown r.shown) rungs
 
 -- The rows show each text that the run prints, and each that waits at its end, without its line feed, exactly once and in order;
 -- and so the lines of the scenario, where they are shown. No line was refused.
-pub record TellsRun (is_shown : Bool) (lines : List (List ℕ)) (run : Run) (l : Ladder) : Type 0 where
+pub record TellsPlay (is_shown : Bool) (lines : List (List ℕ)) (run : Run) (l : Ladder) : Type 0 where
   pub texts : List (List ℕ)
-  pub told : run_lines_in l.rungs ≡ map bare texts
+  pub told : run_lines_in l.rungs ≡ map without_feed texts
   pub printed : all_text texts ≡ run.text ++ pending_text_of run
   pub said : said_lines_in l.rungs ≡ (if is_shown then lines else [])
   pub good : run.refusal ≡ None
 
 -- it is so of each scenario that has a ladder, and nothing stands behind its last line feed
 abbrev pub LaddersTellPlays : Type 0
-LaddersTellPlays = (rules : Rules) (is_shown : Bool) (bytes : List ℕ) (l : Ladder) → ladder_from rules is_shown bytes ≡ Ok l → TellsRun is_shown (lines_after [] bytes) (played rules bytes) l × (rest bytes ≡ [])
+LaddersTellPlays = (rules : Rules) (is_shown : Bool) (bytes : List ℕ) (l : Ladder) → ladder_from rules is_shown bytes ≡ Ok l → TellsPlay is_shown (lines_after [] bytes) (played rules bytes) l × (rest bytes ≡ [])
 
 -- where there is none, the line of the number that is told is the first that a play refuses, or the one that the input ends in
 abbrev pub LaddersAreRefused : Type 0

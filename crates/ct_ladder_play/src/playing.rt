@@ -3,7 +3,7 @@ ghost use Rattle.std.specs.Prelude.{◌≡◌, ◌≤◌, ◌<◌, ◌++◌, ◌
 ghost use Rattle.ct_call.specs.Shown.{rules_of};
 ghost use Rattle.ct_ladder.specs.declared.rung.Fate.TheVariants as fate;
 ghost use Rattle.ct_play.specs.Session.{pending_texts};
-ghost use Rattle.ct_ladder_play.specs.Playing.{Climbs, ClimbsAll, Ladders, bare, begins_lost, fate_told, is_still, ladder_from, ladder_in, line_climbed, line_row, lines_climbed, matter_at, matter_of, nodes_of, rungs_of, said_rungs, settled, step_fate, stepped, told_from, waiting_at};
+ghost use Rattle.ct_ladder_play.specs.Playing.{Climbs, ClimbsAll, Ladders, without_feed, begins_lost, fate_told, is_still, ladder_from, ladder_in, line_climbed, line_row, lines_climbed, matter_at, matter_of, nodes_of, rungs_of, said_rungs, settle_climbed, step_fate, step_climbed, told_rungs, least_waiting};
 
 use ct_call::table::CallTable;
 use ct_ladder::rung::{Fate, Rung, Shown};
@@ -76,8 +76,8 @@ fn matter_at(alloc: Global, line: &[u8]) -> Result<Matter, NoMemory>
 }
 
 /// A text without its line feed.
-fn bare(text: &[u8]) -> &[u8]
-    ensures { result.now ≡ bare text.now }
+fn without_feed(text: &[u8]) -> &[u8]
+    ensures { result.now ≡ without_feed text.now }
 {
     let n = text.len().saturating_sub(1);
     &text[..n]
@@ -149,11 +149,11 @@ fn add_told(
     first: Fate,
     texts: &[Items<u8>],
 ) -> Result<(), NoMemory>
-    ensures { OnOk result (rungs.new.items ≡ rungs.old.items ++ told_from first texts.now) }
+    ensures { OnOk result (rungs.new.items ≡ rungs.old.items ++ told_rungs first texts.now) }
 {
     let mut fate = first;
     for text in texts {
-        let row = line_row(alloc, bare(text.as_slice()))?;
+        let row = line_row(alloc, without_feed(text.as_slice()))?;
         add(
             rungs,
             Rung {
@@ -198,7 +198,7 @@ fn step(
     fate: Fate,
     rungs: &mut Vec<Rung>,
 ) -> Result<(), PlayFault>
-    ensures { Climbs result (stepped (rules_of table.now) fate line.now session.old) session.new rungs.old.items rungs.new.items }
+    ensures { Climbs result (step_climbed (rules_of table.now) fate line.now session.old) session.new rungs.old.items rungs.new.items }
 {
     let texts = match session.play(alloc, table, line) {
         Ok(texts) => texts,
@@ -211,8 +211,8 @@ fn step(
 }
 
 /// The message that waits and has the least number.
-fn waiting_at(session: &Session) -> Option<u64>
-    ensures { result ≡ waiting_at session.now }
+fn least_waiting(session: &Session) -> Option<u64>
+    ensures { result ≡ least_waiting session.now }
 {
     match &session.world {
         Some(world) => world.next_waiting(),
@@ -229,10 +229,10 @@ fn settle(
     count: u32,
     rungs: &mut Vec<Rung>,
 ) -> Result<(), PlayFault>
-    ensures { Climbs result (settled (rules_of table.now) count session.old) session.new rungs.old.items rungs.new.items }
+    ensures { Climbs result (settle_climbed (rules_of table.now) count session.old) session.new rungs.old.items rungs.new.items }
 {
     for _i in 0..count {
-        match waiting_at(session) {
+        match least_waiting(session) {
             Some(number) => {
                 let fate = Fate::Came { number };
                 match step(alloc, table, session, b"settle 1", fate, rungs) {
@@ -310,7 +310,7 @@ fn climb_all(
 
 /// The calls that wait at the end.
 fn add_pending(alloc: Global, session: &Session, rungs: &mut Vec<Rung>) -> Result<(), NoMemory>
-    ensures { OnOk result (rungs.new.items ≡ rungs.old.items ++ told_from fate.Still (pending_texts session.now)) }
+    ensures { OnOk result (rungs.new.items ≡ rungs.old.items ++ told_rungs fate.Still (pending_texts session.now)) }
 {
     let texts = session.pending(alloc)?;
     add_told(alloc, rungs, Fate::Still, &texts)
