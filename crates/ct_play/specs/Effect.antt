@@ -13,9 +13,9 @@ use Rattle.ct_rules_cluster.specs.declared.step.StepFault.{StepFault}
 use Rattle.ct_rules_cluster.specs.declared.step.StepFault.TheVariants as fault
 use Rattle.ct_rules_node.specs.Node.{is_persistent, kind_at}
 use Rattle.ct_mail.specs.Mail.{next_waiting}
-use Rattle.ct_text.specs.Command.{command_text}
-use Rattle.ct_text.specs.declared.command.TextFault.{TextFault}
-use Rattle.ct_text.specs.declared.command.TextFault.TheVariants as untold
+use Rattle.ct_text_commands.specs.Command.{command_text}
+use Rattle.ct_text_commands.specs.declared.command.TextFault.{TextFault}
+use Rattle.ct_text_commands.specs.declared.command.TextFault.TheVariants as untold
 use Rattle.ct_traverse.specs.Moves.{Move, Stepped as Took, Begin, Carry, Lose, Again, going_on}
 use Rattle.ct_traverse.specs.Posts.{next_waiting as next_post}
 use Rattle.ct_traverse.specs.Walk.{Walk, Walked, begun, carried, lost, repeated}

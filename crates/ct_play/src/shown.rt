@@ -5,7 +5,7 @@ ghost use Rattle.ct_play.specs.Effect.{ShowsLines, cut_after, refused_by, shown}
 use crate::what::{PlayFault, What};
 use ct_lines::line::ShowCommand;
 use ct_rules_cluster::step::{Step, StepFault};
-use ct_text::command::{TextFault, command_text};
+use ct_text_commands::command::{TextFault, command_text};
 use ct_values::items::Items;
 use ct_values::memory::NoMemory;
 use ct_world::world::World;

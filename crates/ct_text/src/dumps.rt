@@ -1,10 +1,9 @@
-//! The texts of what a node has of one database.
+//! The texts of the records of one database.
 ghost use Rattle.std.specs.Prelude.{◌≡◌, ◌++◌, codes, map, OnOk};
 ghost use Rattle.std.specs.Fmt.{decimal};
 ghost use Rattle.std.specs.Map.Iter.{deref_pair};
-ghost use Rattle.ct_text.specs.Dumps.{copies_text, copy_line, dumped_text, pair_line, pairs_text, seq_text};
+ghost use Rattle.ct_text.specs.Dumps.{copies_text, copy_line, dumped_text, pair_line, pairs_text};
 
-use crate::lines::push_number_line;
 use crate::words::{push, push_number, push_value};
 use ct_frame::header::RecCopy;
 use ct_values::client::Pair;
@@ -33,7 +32,7 @@ fn push_copy(text: &mut Vec<u8>, key: &Key, copy: &RecCopy) -> Result<(), NoMemo
 
 /// Copies, and how many they are.
 #[tactic(auto, unfolding(crate::specs::Dumps::copies_text))]
-pub(crate) fn push_copies(text: &mut Vec<u8>, copies: Vec<(&Key, &RecCopy)>) -> Result<(), NoMemory>
+pub fn push_copies(text: &mut Vec<u8>, copies: Vec<(&Key, &RecCopy)>) -> Result<(), NoMemory>
     ensures { OnOk result (text.new.items ≡ text.old.items ++ copies_text (map deref_pair copies.entry.items)) }
 {
     let count = copies.len() as u64;
@@ -61,11 +60,4 @@ pub fn push_pairs(text: &mut Vec<u8>, pairs: &[Pair]) -> Result<(), NoMemory>
         push_pair(text, pair)?;
     }
     push_dumped(text, pairs.len() as u64)
-}
-
-/// The number of a commit.
-pub(crate) fn push_seq(text: &mut Vec<u8>, seq: u64) -> Result<(), NoMemory>
-    ensures { OnOk result (text.new.items ≡ text.old.items ++ seq_text seq) }
-{
-    push_number_line(text, b"Sequence number:", seq)
 }

@@ -1,7 +1,7 @@
 use Rattle.std.proofs.Common.{◌≡◌, ◌++◌, drop}
 use Rattle.std.specs.List.{flat_map}
-use Rattle.ct_text.specs.Lists.{place_line}
-use Rattle.ct_text.proofs.nodes.push_places.Given as goal
+use Rattle.ct_text_commands.specs.Lists.{place_line}
+use Rattle.ct_text_commands.proofs.nodes.push_places.Given as goal
 
 -- the text before and the lines of the addresses that are left
 abbrev pub invariant-loop-address : goal.invariant-loop-address

@@ -1,7 +1,7 @@
 use Rattle.std.proofs.Common.{arith}
-use Rattle.ct_text.specs.Status.{state_line}
-use Rattle.ct_text.proofs.Numbers.{next_line}
-use Rattle.ct_text.proofs.nodes.push_states.Goals as goal
+use Rattle.ct_text_commands.specs.Status.{state_line}
+use Rattle.ct_text_commands.proofs.Numbers.{next_line}
+use Rattle.ct_text_commands.proofs.nodes.push_states.Goals as goal
 
 pub loop-node-preserved : goal.loop-node-preserved
 loop-node-preserved c = (omega (arith, c.loop-node-test.true), next_line (state_line c.args.own c.args.running.now c.args.able.now) c.loop-node.node c.args.text.now.items c.loop-node.text.items c.push_state_line.new.text.items c.loop-node.invariant.1 c.in_ok-push_state_line.ensures)

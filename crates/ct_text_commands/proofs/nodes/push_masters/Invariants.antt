@@ -1,6 +1,6 @@
 use Rattle.std.proofs.Common.{◌≡◌, ◌++◌, drop}
-use Rattle.ct_text.specs.Status.{master_lines}
-use Rattle.ct_text.proofs.nodes.push_masters.Given as goal
+use Rattle.ct_text_commands.specs.Status.{master_lines}
+use Rattle.ct_text_commands.proofs.nodes.push_masters.Given as goal
 
 -- the text before and the lines of the members that are left
 abbrev pub invariant-loop-place : goal.invariant-loop-place

@@ -1,12 +1,12 @@
 //! The texts that tell of nodes. Each is written at the end of a text.
 ghost use Rattle.std.specs.Prelude.{◌≡◌, ◌++◌, codes, slice_get, OnOk};
-ghost use Rattle.ct_text.specs.Lists.{ip_text, node_line, nodes_text, place_line, places_text, pnn_text};
+ghost use Rattle.ct_text_commands.specs.Lists.{ip_text, node_line, nodes_text, place_line, places_text, pnn_text};
 ghost use Rattle.ct_rules_cluster.specs.Cluster.{is_true};
 ghost use Rattle.ct_text.specs.Words.{node_text};
-ghost use Rattle.ct_text.specs.Status.{current_text, generation_text, leader_text, master_line, master_lines, mode_text, own_text, size_line, state_line, state_text, states_text, told_text};
+ghost use Rattle.ct_text_commands.specs.Status.{current_text, generation_text, leader_text, master_line, master_lines, mode_text, own_text, size_line, state_line, state_text, states_text, told_text};
 
 use crate::lines::push_number_line;
-use crate::words::{push, push_number};
+use ct_text::words::{push, push_number};
 use ct_frame::frame::Assigned;
 use ct_node_state::placing::holder_in;
 use ct_values::address::{Address, push_address};

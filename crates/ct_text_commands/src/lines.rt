@@ -1,8 +1,8 @@
 //! Lines of a word and a number.
 ghost use Rattle.std.specs.Prelude.{◌≡◌, ◌++◌, OnOk};
-ghost use Rattle.ct_text.specs.Lists.{number_line};
+ghost use Rattle.ct_text_commands.specs.Lists.{number_line};
 
-use crate::words::{push, push_number};
+use ct_text::words::{push, push_number};
 use ct_values::memory::NoMemory;
 
 /// A line of a word and a number, at the end of a text.

@@ -1,6 +1,6 @@
 use Rattle.std.proofs.Common.{◌≡◌, ◌++◌, drop}
-use Rattle.ct_text.specs.Lists.{db_lines}
-use Rattle.ct_text.proofs.databases.push_dbs.Given as goal
+use Rattle.ct_text_commands.specs.Lists.{db_lines}
+use Rattle.ct_text_commands.proofs.databases.push_dbs.Given as goal
 
 -- the text before and the lines of the databases that are left
 abbrev pub invariant-loop-number : goal.invariant-loop-number

@@ -1,6 +1,6 @@
 use Rattle.std.proofs.Common.{◌≡◌, drop}
-use Rattle.ct_text.specs.Lists.{named_from}
-use Rattle.ct_text.proofs.databases.db_named.Given as goal
+use Rattle.ct_text_commands.specs.Lists.{named_from}
+use Rattle.ct_text_commands.proofs.databases.db_named.Given as goal
 
 -- what is left tells what the whole does
 abbrev pub invariant-loop-i : goal.invariant-loop-i

@@ -1,13 +1,12 @@
 //! The text of a command that shows something.
 ghost use Rattle.std.specs.Prelude.{◌≡◌, Some, IfOk};
-ghost use Rattle.ct_text.specs.Command.{Tells, cat_text, command_text, seqnum_text};
-ghost use Rattle.ct_text.specs.Dumps.{dump_text, seq_text};
-ghost use Rattle.ct_text.specs.Lists.{db_named, dbs_text, ip_text, nodes_text, pnn_text};
-ghost use Rattle.ct_text.specs.Status.{status_text};
+ghost use Rattle.ct_text_commands.specs.Command.{Tells, cat_text, command_text, dump_text, seq_text, seqnum_text};
+ghost use Rattle.ct_text_commands.specs.Lists.{db_named, dbs_text, ip_text, nodes_text, pnn_text};
+ghost use Rattle.ct_text_commands.specs.Status.{status_text};
 ghost use Rattle.ct_law_form.specs.Whole.{HasLimits};
 
-use crate::databases::{db_named, push_dbs};
-use crate::dumps::{push_copies, push_pairs, push_seq};
+use crate::databases::{db_named, push_dbs, push_seq};
+use ct_text::dumps::{push_copies, push_pairs};
 use crate::lines::push_number_line;
 use crate::nodes::{push_ip, push_nodes, push_pnn, push_states, push_told};
 use ct_core::machine::Core;
@@ -32,7 +31,7 @@ pub enum TextFault {
 }
 
 impl From<NoMemory> for TextFault {
-    ghost use Rattle.ct_text.specs.declared.command.TextFault.TheVariants.{NoMemory as Want};
+    ghost use Rattle.ct_text_commands.specs.declared.command.TextFault.TheVariants.{NoMemory as Want};
 
     ghost from_gives = { λ _ e. e ≡ Want };
 
@@ -99,7 +98,7 @@ fn dbs_text(alloc: Global, core: &Core) -> Result<Vec<u8>, NoMemory>
     Ok(text)
 }
 
-#[tactic(auto, unfolding(crate::specs::Dumps::dump_text))]
+#[tactic(auto, unfolding(crate::specs::Command::dump_text))]
 fn dump_text(alloc: Global, core: &Core, db: u32) -> Result<Vec<u8>, NoMemory>
     ensures { IfOk result (λ v. v.items ≡ dump_text core.now.config core.now.node db) }
 {

@@ -1,8 +1,8 @@
 use Rattle.std.proofs.Common.{◌≡◌, ◌≤◌, ◌++◌}
 use Rattle.std.specs.List.{flat_map}
-use Rattle.ct_text.specs.Status.{state_line}
+use Rattle.ct_text_commands.specs.Status.{state_line}
 use Rattle.ct_rules_cluster.specs.Cluster.{numbers}
-use Rattle.ct_text.proofs.nodes.push_states.Given as goal
+use Rattle.ct_text_commands.proofs.nodes.push_states.Given as goal
 
 -- the lines of the nodes before this one
 abbrev pub invariant-loop-node : goal.invariant-loop-node

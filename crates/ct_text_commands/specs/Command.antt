@@ -1,14 +1,24 @@
 -- The text of a command that shows something, at a node.
-use Rattle.std.specs.Prelude.{◌≡◌, ℕ, Bool, if◌then◌else◌, List, Option, None, Some, Result, Ok, Err}
+use Rattle.std.specs.Prelude.{◌≡◌, ℕ, Bool, if◌then◌else◌, List, codes, Option, None, Some, Result, Ok, Err}
 use Rattle.ct_values.specs.declared.config.Config.{Config}
+use Rattle.ct_persist.specs.Persisted.{listed}
 use Rattle.ct_rules_node.specs.Node.{Node, db_at, is_persistent, kind_at}
+use Rattle.ct_node_view.specs.Had.{copies_of}
 use Rattle.ct_lines.specs.declared.line.ShowCommand.{ShowCommand}
 use Rattle.ct_lines.specs.declared.line.ShowCommand.TheVariants as command
-use Rattle.ct_text.specs.Dumps.{dump_text, seq_text}
-use Rattle.ct_text.specs.Lists.{db_named, dbs_text, ip_text, nodes_text, pnn_text}
-use Rattle.ct_text.specs.Status.{status_text}
-use Rattle.ct_text.specs.declared.command.TextFault.{TextFault}
-use Rattle.ct_text.specs.declared.command.TextFault.TheVariants.{NoSuchDb, WrongKind, NoMemory}
+use Rattle.ct_text.specs.Dumps.{copies_text, pairs_text}
+use Rattle.ct_text_commands.specs.Lists.{db_named, dbs_text, ip_text, nodes_text, number_line, pnn_text}
+use Rattle.ct_text_commands.specs.Status.{status_text}
+use Rattle.ct_text_commands.specs.declared.command.TextFault.{TextFault}
+use Rattle.ct_text_commands.specs.declared.command.TextFault.TheVariants.{NoSuchDb, WrongKind, NoMemory}
+
+-- the pairs of a persistent database, and the copies of the records of any other, by key
+unfoldable pub dump_text : Config → Node → ℕ → List ℕ
+dump_text c n db = if is_persistent (kind_at c db) then pairs_text (listed (db_at db n).store.pairs) else copies_text (copies_of (db_at db n).records)
+
+-- the number of the last commit of a persistent database
+abbrev pub seq_text : ℕ → List ℕ
+seq_text seq = number_line (codes "Sequence number:") seq
 
 -- what the node has of a database, where it is declared
 abbrev pub cat_text : Config → Node → Option ℕ → Result (List ℕ) TextFault

@@ -4,7 +4,7 @@ use Rattle.std.specs.Fmt.{decimal}
 use Rattle.std.specs.List.{flat_map}
 use Rattle.ct_values.specs.declared.config.Config.{Config}
 use Rattle.ct_rules_node.specs.Node.{Node, is_serving}
-use Rattle.ct_text.specs.Lists.{number_line}
+use Rattle.ct_text_commands.specs.Lists.{number_line}
 use Rattle.ct_rules_cluster.specs.Cluster.{everyone, is_true}
 
 -- a node that is down, one that is not able to hold addresses, and any other

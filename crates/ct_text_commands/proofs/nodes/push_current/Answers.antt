@@ -1,10 +1,10 @@
 use Rattle.std.proofs.Common.{◌∙◌, ◌++◌, ℕ, List, ap}
 use Rattle.std.specs.Prelude.{codes}
 use Rattle.std.proofs.lemmas.Result.{on_ok_weaker}
-use Rattle.ct_text.specs.Lists.{number_line}
-use Rattle.ct_text.specs.Status.{current_text, master_lines, size_line}
-use Rattle.ct_text.proofs.Numbers.{three_parts}
-use Rattle.ct_text.proofs.nodes.push_current.Goals as goal
+use Rattle.ct_text_commands.specs.Lists.{number_line}
+use Rattle.ct_text_commands.specs.Status.{current_text, master_lines, size_line}
+use Rattle.ct_text_commands.proofs.Numbers.{three_parts}
+use Rattle.ct_text_commands.proofs.nodes.push_current.Goals as goal
 
 pub returns : goal.returns
 unfolding current_text

@@ -1,9 +1,11 @@
 //! The databases of a configuration, by name and as a text.
 ghost use Rattle.std.specs.Prelude.{◌≡◌, ◌<◌, ◌^◌, ◌++◌, length, nat_eq, OnOk};
 ghost use Rattle.std.specs.Cmp.Lexicographic.{pointwise};
-ghost use Rattle.ct_text.specs.Lists.{db_line, db_named, dbs_text, kind_text};
+ghost use Rattle.ct_text_commands.specs.Command.{seq_text};
+ghost use Rattle.ct_text_commands.specs.Lists.{db_line, db_named, dbs_text, kind_text};
 
-use crate::words::{push, push_number};
+use crate::lines::push_number_line;
+use ct_text::words::{push, push_number};
 use ct_values::config::{Config, DbDecl, DbKind};
 use ct_values::memory::NoMemory;
 use ct_values::name::DbName;
@@ -58,4 +60,11 @@ pub(crate) fn push_dbs(text: &mut Vec<u8>, config: &Config) -> Result<(), NoMemo
         push_db(text, number as u64, decl)?;
     }
     Ok(())
+}
+
+/// The number of the last commit of a persistent database.
+pub(crate) fn push_seq(text: &mut Vec<u8>, seq: u64) -> Result<(), NoMemory>
+    ensures { OnOk result (text.new.items ≡ text.old.items ++ seq_text seq) }
+{
+    push_number_line(text, b"Sequence number:", seq)
 }
