@@ -28,7 +28,7 @@ use Rattle.ct_script.specs.Sound.{IsSound, may_be_told, script_of}
 use Rattle.ct_rules_node.specs.Coming.{is_allowed_op}
 use Rattle.ct_rules_node.specs.Node.{is_among}
 use Rattle.ct_rules_node.specs.Turn.{Turn}
-use Rattle.ct_node_turn.specs.declared.turn.CoreFault.{CoreFault}
+use Rattle.ct_node_state.specs.declared.turn.CoreFault.{CoreFault}
 use Rattle.ct_actor.specs.Queues.{is_for}
 use Rattle.ct_law_journal_growing.proofs.Following.{next_got}
 use Rattle.ct_actor.specs.Seats.{IsItem, IsSeatOf, TakesEvent, TakesItem}

@@ -10,8 +10,8 @@ use Rattle.ct_journal.specs.Runs.{RunsTo}
 use Rattle.ct_journal.specs.declared.journal.JournalEntry.{JournalEntry}
 use Rattle.ct_rules_node.specs.Node.{Node, opening}
 use Rattle.ct_rules_node.specs.Turn.{Turn}
-use Rattle.ct_node_turn.specs.declared.turn.CoreFault.{CoreFault}
-use Rattle.ct_node_turn.specs.declared.turn.CoreFault.TheVariants.{Exhausted, NoMemory}
+use Rattle.ct_node_state.specs.declared.turn.CoreFault.{CoreFault}
+use Rattle.ct_node_state.specs.declared.turn.CoreFault.TheVariants.{Exhausted, NoMemory}
 
 -- a node as a machine, and the entries of its journal
 pub record Journalled : Type 0 where

@@ -12,7 +12,7 @@ use ct_call::table::CallTable;
 use ct_core::machine::Core;
 use ct_frame::event::{Event, Out};
 use ct_journal::journal::{Journal, JournalEntry};
-use ct_node_turn::turn::CoreFault;
+use ct_node_state::turn::CoreFault;
 use ct_values::config::Config;
 use ct_values::items::Items;
 use ct_values::memory::NoMemory;

@@ -13,7 +13,7 @@ use crate::node::Node;
 use ct_call::table::CallTable;
 use ct_frame::frame::Frame;
 use ct_frame::plan::{Plan, PlanItem};
-use ct_node_turn::turn::CoreFault;
+use ct_node_state::turn::CoreFault;
 use ct_script::cue::Cue;
 use ct_values::client::ClientOp;
 use ct_values::copies::Duplicate;

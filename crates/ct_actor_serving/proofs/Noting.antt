@@ -36,8 +36,8 @@ use Rattle.ct_actor_serving.specs.declared.fault.AtLimit.TheVariants as limit
 use Rattle.ct_actor_serving.specs.declared.fault.ServeFault.{ServeFault}
 use Rattle.ct_actor_serving.specs.declared.fault.ServeFault.TheVariants as fault
 use Rattle.ct_actor_serving.proofs.Telling.{notes_sent, serves_lock, told_same, told_so, unrefused}
-use Rattle.ct_node_turn.specs.declared.turn.CoreFault.{CoreFault}
-use Rattle.ct_node_turn.specs.declared.turn.CoreFault.TheVariants as core
+use Rattle.ct_node_state.specs.declared.turn.CoreFault.{CoreFault}
+use Rattle.ct_node_state.specs.declared.turn.CoreFault.TheVariants as core
 
 -- ---- an entry more
 

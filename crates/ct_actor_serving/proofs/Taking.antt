@@ -34,8 +34,8 @@ use Rattle.ct_actor_serving.specs.Serving.{Acts, Counts, GoesOn, HasCause, fault
 use Rattle.ct_actor_serving.specs.declared.fault.AtLimit.{AtLimit}
 use Rattle.ct_actor_serving.specs.declared.fault.AtLimit.TheVariants as limit
 use Rattle.ct_actor_serving.specs.declared.fault.ServeFault.{ServeFault}
-use Rattle.ct_node_turn.specs.declared.turn.CoreFault.{CoreFault}
-use Rattle.ct_node_turn.specs.declared.turn.CoreFault.TheVariants.{Exhausted, NoMemory}
+use Rattle.ct_node_state.specs.declared.turn.CoreFault.{CoreFault}
+use Rattle.ct_node_state.specs.declared.turn.CoreFault.TheVariants.{Exhausted, NoMemory}
 
 -- what a node does keeps the rules of its fields
 pub sendable : (c : Config) (me : ℕ) (outs : List Out) → list_all (is_sound_out c me) outs ≡ true → list_all is_sendable outs ≡ true

@@ -23,8 +23,8 @@ use Rattle.ct_actor_serving.specs.declared.fault.ServeFault.{ServeFault}
 use Rattle.ct_actor_serving.specs.declared.fault.ServeFault.TheVariants as fault
 use Rattle.ct_actor_serving.specs.declared.fault.Until.{Until}
 use Rattle.ct_actor_serving.specs.declared.fault.Until.TheVariants as until
-use Rattle.ct_node_turn.specs.declared.turn.CoreFault.{CoreFault}
-use Rattle.ct_node_turn.specs.declared.turn.CoreFault.TheVariants as core
+use Rattle.ct_node_state.specs.declared.turn.CoreFault.{CoreFault}
+use Rattle.ct_node_state.specs.declared.turn.CoreFault.TheVariants as core
 
 -- ---- what is counted outside
 

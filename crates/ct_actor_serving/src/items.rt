@@ -25,7 +25,7 @@ use ct_actor::acting::{take_call, take_round};
 use ct_actor::node::Node;
 use ct_call::table::CallTable;
 use ct_frame::plan::PlanItem;
-use ct_node_turn::turn::CoreFault;
+use ct_node_state::turn::CoreFault;
 use ct_outside::fault::TakeFault;
 use ct_outside::link::Link;
 use ct_outside::lock::RecLock;

@@ -7,7 +7,7 @@ use ct_core::coming::may_come;
 use ct_core::machine::Core;
 use ct_frame::event::{Event, Out};
 use ct_node_plan::change::Planned;
-use ct_node_turn::turn::CoreFault;
+use ct_node_state::turn::CoreFault;
 use std::alloc::Global;
 use std::test::Fail;
 

@@ -17,8 +17,8 @@ use Rattle.ct_rules_node.specs.Coming.{may_come}
 use Rattle.ct_rules_node.specs.Node.{Node}
 use Rattle.ct_rules_node.specs.Steps.{happens, unless_spent}
 use Rattle.ct_rules_node.specs.Turn.{Turn, begins}
-use Rattle.ct_node_turn.specs.declared.turn.CoreFault.{CoreFault}
-use Rattle.ct_node_turn.specs.declared.turn.CoreFault.TheVariants.{Exhausted, NoMemory}
+use Rattle.ct_node_state.specs.declared.turn.CoreFault.{CoreFault}
+use Rattle.ct_node_state.specs.declared.turn.CoreFault.TheVariants.{Exhausted, NoMemory}
 use Rattle.ct_core.specs.Core.{Core, CoreInForm, IsChangeOf, IsPlanOf, PlansStep, turn_of}
 
 -- ---- plans

@@ -13,8 +13,8 @@ use Rattle.ct_rules_node.specs.Coming.{may_come}
 use Rattle.ct_rules_node.specs.Node.{Node}
 use Rattle.ct_rules_node.specs.Steps.{stepped}
 use Rattle.ct_rules_node.specs.Turn.{Turn}
-use Rattle.ct_node_turn.specs.declared.turn.CoreFault.{CoreFault}
-use Rattle.ct_node_turn.specs.declared.turn.CoreFault.TheVariants.{Exhausted, NoMemory}
+use Rattle.ct_node_state.specs.declared.turn.CoreFault.{CoreFault}
+use Rattle.ct_node_state.specs.declared.turn.CoreFault.TheVariants.{Exhausted, NoMemory}
 
 -- a node with its number and its configuration
 pub record Core : Type 0 where

@@ -15,7 +15,7 @@ use ct_node_plan::change::Planned;
 use ct_node_plan_records::databases::{on_pack, on_pupdate};
 use ct_node_plan_records::messages::on_record;
 use ct_node_state::node::Node;
-use ct_node_turn::turn::CoreFault;
+use ct_node_state::turn::CoreFault;
 use ct_values::config::Config;
 
 /// A message arrives: it is dropped, or its rule is followed.

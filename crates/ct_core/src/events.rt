@@ -17,7 +17,7 @@ use ct_node_plan_rounds::leading::begin_round;
 use ct_node_plan_runs::begin::begin_takeover;
 use ct_node_plan_runs::retry::retry;
 use ct_node_state::node::Node;
-use ct_node_turn::turn::CoreFault;
+use ct_node_state::turn::CoreFault;
 use ct_values::config::Config;
 
 /// The rule of a node: what comes of each event.

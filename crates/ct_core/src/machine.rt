@@ -21,7 +21,7 @@ use ct_node_plan::change::{Change, Planned};
 use ct_node_plan::commit::commit;
 use ct_node_state::members::Members;
 use ct_node_state::node::Node;
-use ct_node_turn::turn::CoreFault;
+use ct_node_state::turn::CoreFault;
 use ct_values::config::Config;
 use ct_values::copies::Duplicate;
 use ct_values::items::Items;

@@ -17,7 +17,7 @@ use ct_node_plan::still::nothing;
 use ct_node_plan_installs::installing;
 use ct_node_plan_rounds::{freezing, leading, thawing};
 use ct_node_state::node::Node;
-use ct_node_turn::turn::CoreFault;
+use ct_node_state::turn::CoreFault;
 use ct_node_view::sound::is_sound;
 use ct_values::address::Address;
 use ct_values::config::Config;

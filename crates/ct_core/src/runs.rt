@@ -11,7 +11,7 @@ use ct_node_plan::change::Planned;
 use ct_node_plan::still::nothing;
 use ct_node_plan_runs::{begin, follow};
 use ct_node_state::node::Node;
-use ct_node_turn::turn::CoreFault;
+use ct_node_state::turn::CoreFault;
 use ct_node_view::admission::is_current;
 use ct_node_view::sound::is_sound;
 use ct_values::address::Address;

@@ -8,8 +8,8 @@ use Rattle.ct_rules_node.specs.Turn.{Turn}
 use Rattle.ct_node_state.specs.Whole.{left_as}
 use Rattle.ct_node_plan.specs.declared.change.Change.{Change}
 use Rattle.ct_node_plan.specs.declared.change.Change.TheVariants as change
-use Rattle.ct_node_turn.specs.declared.turn.CoreFault.{CoreFault}
-use Rattle.ct_node_turn.specs.declared.turn.CoreFault.TheVariants.{Exhausted, NoMemory}
+use Rattle.ct_node_state.specs.declared.turn.CoreFault.{CoreFault}
+use Rattle.ct_node_state.specs.declared.turn.CoreFault.TheVariants.{Exhausted, NoMemory}
 use Rattle.ct_node_plan.specs.declared.change.Left.{Left}
 use Rattle.ct_node_plan.specs.declared.change.Planned.{Planned}
 

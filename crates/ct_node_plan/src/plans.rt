@@ -9,7 +9,7 @@ use ct_frame::event::{Note, Out};
 use ct_frame::frame::{Frame, Msg};
 use ct_lead::lead::Lead;
 use ct_node_state::node::Node;
-use ct_node_turn::turn::{CoreFault, Turn};
+use ct_node_state::turn::{CoreFault, Turn};
 use ct_values::items::Items;
 use ct_values::memory::NoMemory;
 

@@ -6,8 +6,8 @@ ghost use Rattle.ct_node_plan.specs.Changes.{Plans};
 
 use crate::change::{Change, Planned};
 use ct_node_state::node::Node;
-use ct_node_turn::outs::outs_of;
-use ct_node_turn::turn::CoreFault;
+use ct_node_state::outs::outs_of;
+use ct_node_state::turn::CoreFault;
 use ct_record_parts::draft::Draft;
 use ct_values::key::Key;
 

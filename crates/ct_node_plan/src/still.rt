@@ -6,7 +6,7 @@ ghost use Rattle.ct_node_plan.specs.Changes.{IsPlanned, Plans};
 use crate::change::{Change, Planned};
 use ct_frame::event::Out;
 use ct_node_state::node::Node;
-use ct_node_turn::turn::CoreFault;
+use ct_node_state::turn::CoreFault;
 use ct_values::client::Answer;
 use ct_values::items::Items;
 use ct_values::memory::NoMemory;

@@ -25,7 +25,7 @@ use ct_node_state::members::Members;
 use ct_node_state::node::Node;
 use ct_node_state::phases::is_present_in;
 use ct_node_state::placing::assigned_all;
-use ct_node_turn::turn::{CoreFault, Turn};
+use ct_node_state::turn::{CoreFault, Turn};
 use ct_values::address::Address;
 use ct_values::config::Config;
 use ct_values::memory::NoMemory;

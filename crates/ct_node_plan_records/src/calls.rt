@@ -11,7 +11,7 @@ use ct_call::table::CallTable;
 use ct_node_plan::change::Planned;
 use ct_node_plan::record::acted;
 use ct_node_state::node::Node;
-use ct_node_turn::turn::CoreFault;
+use ct_node_state::turn::CoreFault;
 use ct_record::moves;
 use ct_values::client::ClientOp;
 use ct_values::config::Config;

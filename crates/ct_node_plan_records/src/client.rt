@@ -17,7 +17,7 @@ use ct_node_plan::change::Planned;
 use ct_node_plan::still::answered;
 use ct_node_state::kinds::{is_persistent, kind_at};
 use ct_node_state::node::Node;
-use ct_node_turn::turn::CoreFault;
+use ct_node_state::turn::CoreFault;
 use ct_node_view::refusal::refusal;
 use ct_values::client::{Answer, ClientOp};
 use ct_values::config::Config;

@@ -17,7 +17,7 @@ use ct_node_plan::change::{Change, Planned};
 use ct_node_plan::posts::post_all;
 use ct_node_plan::still::one;
 use ct_node_state::node::Node;
-use ct_node_turn::turn::CoreFault;
+use ct_node_state::turn::CoreFault;
 use ct_persist::commit::Commit;
 use ct_values::client::{Answer, Pair};
 use ct_values::items::Items;

@@ -18,7 +18,7 @@ use ct_node_plan::record::acted;
 use ct_node_plan::still::nothing;
 use ct_node_state::kinds::{has_records, kind_at};
 use ct_node_state::node::Node;
-use ct_node_turn::turn::CoreFault;
+use ct_node_state::turn::CoreFault;
 use ct_node_view::admission::is_current;
 use ct_node_view::named::record_in;
 use ct_record::moves;

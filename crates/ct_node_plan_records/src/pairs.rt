@@ -10,7 +10,7 @@ ghost use Rattle.ct_node_plan.specs.Changes.{Plans};
 use ct_node_plan::change::Planned;
 use ct_node_plan::still::answered;
 use ct_node_state::node::Node;
-use ct_node_turn::turn::CoreFault;
+use ct_node_state::turn::CoreFault;
 use ct_values::client::Answer;
 use ct_values::key::Key;
 use ct_values::memory::NoMemory;

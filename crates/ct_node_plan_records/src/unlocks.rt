@@ -13,7 +13,7 @@ use crate::calls::unlock;
 use ct_node_plan::change::Planned;
 use ct_node_plan::plans::whole;
 use ct_node_state::node::Node;
-use ct_node_turn::turn::{CoreFault, Turn};
+use ct_node_state::turn::{CoreFault, Turn};
 use ct_record::moves::release;
 use ct_record_parts::draft::Draft;
 use ct_values::config::Config;

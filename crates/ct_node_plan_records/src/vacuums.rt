@@ -19,7 +19,7 @@ use ct_node_plan::change::{Change, Planned};
 use ct_node_plan::still::nothing;
 use ct_node_state::node::Node;
 use ct_node_state::phases::is_serving;
-use ct_node_turn::turn::CoreFault;
+use ct_node_state::turn::CoreFault;
 use ct_values::config::Config;
 use ct_values::key::Key;
 

@@ -14,7 +14,7 @@ use Rattle.ct_rules_node.specs.Turn.{Turn, begins, notes, posts_all, with_lead}
 use Rattle.ct_lead.specs.Stages.{awaits_freezeack, awaits_pullreply, awaits_pushack, is_completed, is_pulling, led_after_freezeack, led_after_pullreply, led_after_pushack, led_body, led_members}
 use Rattle.ct_node_plan.specs.Changes.{Plans}
 use Rattle.ct_node_plan.specs.declared.change.Planned.{Planned}
-use Rattle.ct_node_turn.specs.declared.turn.CoreFault.{CoreFault}
+use Rattle.ct_node_state.specs.declared.turn.CoreFault.{CoreFault}
 use Rattle.ct_node_plan_rounds.specs.Made.{made_by}
 use Rattle.ct_node_plan_rounds.proofs.Acks.{freezeack_ends, freezeack_waits, pullreply_ends, pullreply_waits, pushack_ends, pushack_waits}
 

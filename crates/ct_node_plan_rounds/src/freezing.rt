@@ -12,7 +12,7 @@ use ct_node_plan::change::Planned;
 use ct_node_plan::plans::{posts, whole};
 use ct_node_plan::still::nothing;
 use ct_node_state::node::Node;
-use ct_node_turn::turn::{CoreFault, Turn};
+use ct_node_state::turn::{CoreFault, Turn};
 use ct_node_view::rows::{ptables, table};
 use ct_values::config::Config;
 use ct_values::copies::Duplicate;

@@ -20,7 +20,7 @@ use ct_node_plan::plans::{leads, leads_and_posts, leads_notes_and_posts};
 use ct_node_plan::still::nothing;
 use ct_node_state::node::Node;
 use ct_node_state::placing::assigned_all;
-use ct_node_turn::turn::CoreFault;
+use ct_node_state::turn::CoreFault;
 use ct_values::config::Config;
 use ct_values::items::Items;
 use ct_values::memory::NoMemory;

@@ -19,7 +19,7 @@ use ct_node_plan::change::{Change, Planned};
 use ct_node_plan::posts::{post_all, post_releases, take};
 use ct_node_state::node::Node;
 use ct_node_state::phases::is_serving;
-use ct_node_turn::turn::CoreFault;
+use ct_node_state::turn::CoreFault;
 use ct_values::config::Config;
 use ct_values::items::Items;
 use ct_values::memory::NoMemory;

@@ -12,7 +12,7 @@ use ct_node_plan::change::{Change, Planned};
 use ct_node_plan::posts::post;
 use ct_node_state::node::Node;
 use ct_node_state::placing::assigned_all;
-use ct_node_turn::turn::CoreFault;
+use ct_node_state::turn::CoreFault;
 use ct_values::address::Address;
 use ct_values::config::Config;
 use ct_values::items::Items;

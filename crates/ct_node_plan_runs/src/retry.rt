@@ -18,7 +18,7 @@ use ct_node_plan::change::{Change, Planned};
 use ct_node_plan::posts::{post, post_all};
 use ct_node_state::node::Node;
 use ct_node_state::phases::is_present_in;
-use ct_node_turn::turn::CoreFault;
+use ct_node_state::turn::CoreFault;
 use ct_node_view::waiting::{Called, pending_calls};
 use ct_record_parts::parts::kind_of;
 use ct_rules::event::Place;

@@ -6,12 +6,12 @@ ghost use Rattle.ct_text_commands.specs.Status.{status_text};
 ghost use Rattle.ct_law_form.specs.Whole.{HasLimits};
 
 use crate::databases::{db_named, push_dbs, push_seq};
-use ct_text::dumps::{push_copies, push_pairs};
 use crate::lines::push_number_line;
 use crate::nodes::{push_ip, push_nodes, push_pnn, push_states, push_told};
 use ct_core::machine::Core;
 use ct_core::view::View;
 use ct_lines::line::ShowCommand;
+use ct_text::dumps::{push_copies, push_pairs};
 use ct_values::memory::NoMemory;
 use ct_values::name::DbName;
 use std::alloc::Global;

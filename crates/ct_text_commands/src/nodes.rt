@@ -6,9 +6,9 @@ ghost use Rattle.ct_text.specs.Words.{node_text};
 ghost use Rattle.ct_text_commands.specs.Status.{current_text, generation_text, leader_text, master_line, master_lines, mode_text, own_text, size_line, state_line, state_text, states_text, told_text};
 
 use crate::lines::push_number_line;
-use ct_text::words::{push, push_number};
 use ct_frame::frame::Assigned;
 use ct_node_state::placing::holder_in;
+use ct_text::words::{push, push_number};
 use ct_values::address::{Address, push_address};
 use ct_values::config::Config;
 use ct_values::memory::NoMemory;

@@ -16,7 +16,7 @@ use ct_call::table::CallTable;
 use ct_frame::event::Event;
 use ct_frame::plan::Plan;
 use ct_journal::journal::Journal;
-use ct_node_turn::turn::CoreFault;
+use ct_node_state::turn::CoreFault;
 use ct_script::cue::Cue;
 use ct_values::memory::NoMemory;
 use std::alloc::Global;

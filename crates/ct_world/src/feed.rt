@@ -19,7 +19,7 @@ use ct_frame::event::Event;
 use ct_frame::frame::Frame;
 use ct_frame::header::LIMIT;
 use ct_node_plan::change::{Change, Planned};
-use ct_node_turn::turn::CoreFault;
+use ct_node_state::turn::CoreFault;
 use ct_rules_cluster::step::{Line, StepFault};
 use ct_values::items::Items;
 use ct_values::memory::NoMemory;

@@ -1,6 +1,6 @@
 use Rattle.std.proofs.Common.{◌≡◌, drop}
 use Rattle.ct_rules_node.specs.Rounds.{releases}
-use Rattle.ct_node_turn.proofs.turn.Turn.releases.Given as goal
+use Rattle.ct_node_state.proofs.turn.Turn.releases.Given as goal
 
 -- what is noted so far and of the rest is what is noted of all
 abbrev pub invariant-loop-address : goal.invariant-loop-address

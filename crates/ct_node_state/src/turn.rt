@@ -5,13 +5,13 @@ ghost use Rattle.ct_rules_node.specs.Node as state;
 ghost use Rattle.ct_rules_node.specs.Records.{acted};
 ghost use Rattle.ct_rules_node.specs.Rounds.{releases};
 ghost use Rattle.ct_rules_node.specs.Turn.{answers, begins, does, notes, posts, posts_all};
-ghost use Rattle.ct_node_turn.specs.Goes.{Goes};
+ghost use Rattle.ct_node_state.specs.Goes.{Goes};
 
 use crate::locks::any_locked;
+use crate::node::Node;
 use crate::outs::outs_of;
 use ct_frame::event::{Note, Out};
 use ct_frame::frame::{Frame, Msg};
-use ct_node_state::node::Node;
 use ct_record_parts::draft::Draft;
 use ct_values::address::Address;
 use ct_values::client::Answer;
@@ -32,7 +32,7 @@ pub enum CoreFault {
 }
 
 impl From<NoMemory> for CoreFault {
-    ghost use Rattle.ct_node_turn.specs.declared.turn.CoreFault.TheVariants.{NoMemory as Want};
+    ghost use Rattle.ct_node_state.specs.declared.turn.CoreFault.TheVariants.{NoMemory as Want};
 
     ghost from_gives = { λ _ e. e ≡ Want };
 
