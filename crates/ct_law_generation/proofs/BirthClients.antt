@@ -51,7 +51,7 @@ has_kind : (c : Config) (o : ClientOp) → no_such_db c o ≡ None → db_of o <
 unfolding no_such_db kind_at
 has_kind c o e = kind_there c.dbs (db_of o) (not_refused _ _ e)
 
-none_pending : (w : Option Wish) → pending_of w ≡ None → w ≡ None
+pub none_pending : (w : Option Wish) → pending_of w ≡ None → w ≡ None
 unfolding pending_of
 none_pending None e = refl
 none_pending (Some w) e = absurd (cc)

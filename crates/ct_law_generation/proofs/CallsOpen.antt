@@ -233,7 +233,7 @@ drop_calls c k w None x who h ok = done_calls c [] w w x who h (λ f. refl) tt o
 drop_calls c k w (Some m) x who h ok = done_calls c [] w _ x who (fate_calls c k m Dropped w who h) (λ f. refl) tt ok
 
 -- the next number was never given
-fresh_call : (c : Config) (w : Cluster) (who : Opened) → Calls c w who → who (w.calls + 1) ≡ None
+pub fresh_call : (c : Config) (w : Cluster) (who : Opened) → Calls c w who → who (w.calls + 1) ≡ None
 fresh_call c w who h = cases (who (w.calls + 1)) refl
   where
     cases : (v : Option (ℕ × ClientOp)) → who (w.calls + 1) ≡ v → who (w.calls + 1) ≡ None

@@ -8,7 +8,7 @@ use Rattle.ct_values.specs.declared.client.ClientOp.TheVariants as op
 use Rattle.ct_values.specs.declared.config.Config.{Config}
 use Rattle.ct_frame.specs.declared.frame.Frame.{Frame}
 use Rattle.ct_call.specs.Rules.{Rules}
-use Rattle.ct_rules_node.specs.Node.{Node, Phase, Serving, Lead, Completed, is_serving, is_present}
+use Rattle.ct_rules_node.specs.Node.{Node, Lead, Completed, is_serving}
 use Rattle.ct_rules_node.specs.Turn.{begins}
 use Rattle.ct_rules_node.specs.Steps.{happens}
 use Rattle.ct_rules_node.specs.Takeovers.{begin_takeover}
@@ -26,6 +26,7 @@ use Rattle.ct_register.specs.Lines.{Lines}
 use Rattle.ct_register.specs.Words.{at}
 use Rattle.ct_law_generation.specs.Shown.{labels_of}
 use Rattle.ct_law_generation.specs.Waiting.{told_step}
+use Rattle.ct_law_plain.proofs.Locked.{serves_present}
 use Rattle.ct_law_registers.proofs.Parts.{Choice, goes_on, PlacesNeed, AllNeed}
 use Rattle.ct_law_registers.proofs.Places.{Turns}
 use Rattle.ct_law_addresses.proofs.Facts.{Spots, spots, MailStands, Holds}
@@ -50,11 +51,6 @@ begun_by_aside config n call (op.Commit db ws) lines = either (is_refused call l
     either true = tt
     either false = (begun_aside config n db ws, tt)
 begun_by_aside config n call asked lines = tt
-
-serves_present : (p : Phase) → is_serving p ≡ true → is_present p ≡ true
-unfolding is_serving is_present
-serves_present Serving e = refl
-serves_present _ e = absurd (cc)
 
 module _ (config : Config) (x : Choice) (nodes : ℕ → Node) (fs : List Frame) (r : Lines) (turns : Turns) (h : Ready config nodes fs r turns) where
   -- labels that speak of no address, and no node's turn

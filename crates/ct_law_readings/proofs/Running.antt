@@ -1,7 +1,8 @@
 -- Through every list of steps a step adds one version at most to what was read of a record.
-use Rattle.std.proofs.Common.{◌≡◌, ℕ, Bool, true, false, List, [], ◌∷◌, length, refl, subst, arith, inl, inr, ⊎_elim}
+use Rattle.std.proofs.Common.{◌≡◌, ℕ, Bool, true, false, List, [], ◌∷◌, length, refl, subst, inl, inr, ⊎_elim}
 use Rattle.std.specs.Prelude.{◌⊎◌}
 use Rattle.std.specs.List.{list_any}
+use Rattle.std.proofs.lemmas.List.{nil_from_length}
 use Rattle.ct_values.specs.declared.config.Config.{Config}
 use Rattle.ct_call.specs.Rules.{Rules}
 use Rattle.ct_rules_cluster.specs.Cluster.{Cluster, opening}
@@ -24,14 +25,10 @@ use Rattle.ct_law_readings.proofs.Stepping.{ran_tells}
 
 -- ---- a step that removes the record
 
-no_versions : (vs : List (List ℕ)) → length vs ≡ 0 → vs ≡ []
-no_versions [] e = refl
-no_versions (v ∷ vs) e = absurd (omega arith)
-
 -- without marks there is no version
 unmarked : (vs : List (List ℕ)) (m : Marks) → AreMarks vs m → m.marks ≡ [] → vs ≡ []
 unfolding EndsAt
-unmarked vs m h e = no_versions vs (subst (λ (ms : List Mark). EndsAt (length vs) ms) e h.ends)
+unmarked vs m h e = nil_from_length vs (subst (λ (ms : List Mark). EndsAt (length vs) ms) e h.ends)
 
 -- ---- any step
 

@@ -26,7 +26,7 @@ use Rattle.ct_rules_cluster.specs.declared.step.StepFault.{StepFault}
 use Rattle.ct_law_generation.proofs.Opened.{Opened}
 use Rattle.ct_law_generation.proofs.Accounts.{Stands}
 use Rattle.ct_law_generation.proofs.BirthEvents.{open_at, IsNew}
-use Rattle.ct_law_generation.proofs.CallsOpen.{Calls}
+use Rattle.ct_law_generation.proofs.CallsOpen.{Calls, fresh_call}
 use Rattle.ct_law_generation.proofs.CallsTold.{by_log}
 use Rattle.ct_law_generation.proofs.Fed.{fed_is}
 use Rattle.ct_law_generation.proofs.Faulting.{runs}
@@ -143,14 +143,6 @@ drop_tells : (db : ℕ) (key : List ℕ) (s : Step) (k : ℕ) (w : Cluster) (m :
 unfolding drop line_labels
 drop_tells db key s k w None x log ok = done_tells db key s [] w x log (nothing_tells db key) ok
 drop_tells db key s k w (Some m) x log ok = done_tells db key s [] _ x log (nothing_tells db key) ok
-
--- the next number was never given
-fresh_call : (c : Config) (w : Cluster) (who : Opened) → Calls c w who → who (w.calls + 1) ≡ None
-fresh_call c w who h = cases (who (w.calls + 1)) refl
-  where
-    cases : (v : Option (ℕ × ClientOp)) → who (w.calls + 1) ≡ v → who (w.calls + 1) ≡ None
-    cases None e = e
-    cases (Some v) e = absurd (let l = h.given (w.calls + 1) v e in omega arith)
 
 client_tells : (db : ℕ) (key : List ℕ) (c : Config) (rules : Rules) (n : ℕ) (o : ClientOp) (w : Cluster) (x : Stepped) (log : List OpenCall) → Calls c w (by_log log) → is_up n w ≡ true → fed c rules n (event.Client (w.calls + 1) o) [] (record w { calls = w.calls + 1 }) ≡ Ok x →
     Told db key (step.Client n o) (opened w (step.Client n o) log) x

@@ -24,11 +24,10 @@ use Rattle.ct_rules.specs.declared.event.Act.{Act}
 use Rattle.ct_rules.specs.declared.event.Act.TheVariants as act
 use Rattle.ct_rules.specs.declared.event.Place.{Place}
 use Rattle.ct_rules.specs.declared.state.RecState.{RecState}
-use Rattle.ct_rules.specs.declared.state.Wish.{Wish}
 use Rattle.ct_rules_node.specs.Node.{Node, is_serving, has_records, kind_at, db_at, state_at}
 use Rattle.ct_rules_node.specs.Turn.{Turn, begins, does, makes, answers}
 use Rattle.ct_rules_node.specs.Records.{out_of, place_of, view, acted, at_record}
-use Rattle.ct_rules_node.specs.Clients.{is_commit, pending_of, call_pending, refusal, serves, serves_or, client}
+use Rattle.ct_rules_node.specs.Clients.{is_commit, call_pending, refusal, serves, serves_or, client}
 use Rattle.ct_rules_node.specs.Steps.{on_record_of, if_persistent, if_sound, if_taken_over, arrives, vacuum_all, vacuums, happens}
 use Rattle.ct_rules_node.specs.Admission.{record_in, is_current}
 use Rattle.ct_law_rules_node.proofs.Refusals.{first_none}
@@ -38,6 +37,7 @@ use Rattle.ct_rules_cluster.specs.Traces.{OpenCall, line_labels}
 use Rattle.ct_rules_cluster.specs.declared.step.Step.{Step}
 use Rattle.ct_law_generation.proofs.Opened.{Opened, answered_by, AllOpen}
 use Rattle.ct_law_generation.proofs.Accounts.{wish_call, Stands, with_call, own_call, other_call, same_asked, place_wish}
+use Rattle.ct_law_generation.proofs.BirthClients.{none_pending}
 use Rattle.ct_law_generation.proofs.BirthEvents.{open_at, IsNew, happens_kept}
 use Rattle.ct_law_generation.proofs.Removing.{removed_by}
 use Rattle.ct_law_generation.proofs.Unremoved.{Silent, either, on_pupdate_silent, on_pack_silent, begin_round_silent, on_freeze_silent, on_freezeack_silent, on_pull_silent, on_pullreply_silent, on_push_silent, on_pushack_silent, begin_takeover_silent, on_release_silent, on_releaseack_silent, on_take_silent}
@@ -158,11 +158,6 @@ own_once n who x db key call o none h j k a b e f c d = ⊎_elim
     (cases_eq j call)
 
 -- ---- a client's call
-
-none_pending : (w : Option Wish) → pending_of w ≡ None → w ≡ None
-unfolding pending_of
-none_pending None e = refl
-none_pending (Some w) e = absurd (cc)
 
 not_pending : (c : Config) (rules : Rules) (x : Node) (o : ClientOp) → refusal c rules x o ≡ None → call_pending x o ≡ None
 unfolding refusal

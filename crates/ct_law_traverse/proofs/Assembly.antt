@@ -3,6 +3,7 @@ use Rattle.std.proofs.Common.{◌≡◌, ◌≢◌, ℕ, ◌+◌, ◌<◌, ◌�
 use Rattle.std.specs.Prelude.{◌⊎◌}
 use Rattle.std.specs.List.{AllByRecursion, list_any}
 use Rattle.std.proofs.lemmas.Bool.{cases_Bool, or_cases}
+use Rattle.std.proofs.lemmas.List.{nil_from_length}
 use Rattle.std.proofs.lemmas.List.Folds.{list_any-append}
 use Rattle.ct_frame.specs.declared.frame.TableRow.{TableRow}
 use Rattle.ct_frame.specs.declared.header.RecCopy.{RecCopy}
@@ -86,14 +87,10 @@ all_paired : (P Q : Best → Type 0) (xs : List Best) → AllByRecursion P xs �
 all_paired P Q [] h k = tt
 all_paired P Q (x ∷ xs) h k = ((h.0, k.0), all_paired P Q xs h.1 k.1)
 
-no_versions : (vs : List (List ℕ)) → length vs ≡ 0 → vs ≡ []
-no_versions [] e = refl
-no_versions (v ∷ vs) e = absurd (omega arith)
-
 -- without marks nothing is read
 unmarked : (m : Moment) → IsMarked m → m.marks.marks ≡ [] → reading m.versions ≡ []
 unfolding EndsAt reading
-unmarked m h e = ap (λ (vs : List (List ℕ)). reading vs) (no_versions m.versions (subst (λ (ms : List Mark). EndsAt (length m.versions) ms) e h.ends))
+unmarked m h e = ap (λ (vs : List (List ℕ)). reading vs) (nil_from_length m.versions (subst (λ (ms : List Mark). EndsAt (length m.versions) ms) e h.ends))
 
 -- ---- what was seen
 

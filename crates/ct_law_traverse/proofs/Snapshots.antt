@@ -4,9 +4,7 @@ use Rattle.std.specs.Prelude.{◌⊎◌, ◌&&◌, not, bytes_eq}
 use Rattle.std.specs.List.{AllByRecursion}
 use Rattle.std.specs.List.Sorted.{IsStrictlySortedBy}
 use Rattle.std.specs.Map.{keys_of}
-use Rattle.std.specs.BTreeMap.{is_at}
 use Rattle.std.specs.Cmp.{eq_by_cmp_equiv}
-use Rattle.std.specs.Ordering.{is_eq}
 use Rattle.std.specs.declared.cmp.Ordering.TheVariants.{Less}
 use Rattle.std.proofs.lemmas.Bool.{cases_Bool}
 use Rattle.std.proofs.lemmas.Slice.Eq.{bytes_eq-Decides}
@@ -17,6 +15,7 @@ use Rattle.ct_frame.specs.declared.frame.TableRow.{TableRow}
 use Rattle.ct_store.specs.Map.{Pairs, Ascends, look}
 use Rattle.ct_store.proofs.Maps.{empty_ascends, write_ascends, key_total, apart}
 use Rattle.ct_register.specs.Lines.{Lines}
+use Rattle.ct_traverse.proofs.Exact.{all_apart}
 use Rattle.ct_traverse.specs.Best.{is_shown, merged, gathered, shown}
 use Rattle.ct_traverse.specs.Kept.{Batch, kept_of}
 use Rattle.ct_traverse.specs.declared.best.Best.{Best}
@@ -48,13 +47,6 @@ kept_more (c ∷ bs) b kept = kept_more bs b (gathered c.pass c.node c.rows kept
 shown_value : Option Best → Option (List ℕ)
 shown_value None = None
 shown_value (Some b) = cond (is_shown b) (Some b.value) None
-
-less_apart : (k q : List ℕ) → key_cmp k q ≡ Less → k ≢ q
-less_apart k q l e = absurd (let a : is_eq (key_cmp k k) ≡ false = ap is_eq (subst (λ (x : List ℕ). key_cmp k x ≡ Less) (sym e) l) in let b : is_eq (key_cmp k k) ≡ true = (eq_by_cmp_equiv key_total).refl k in cc)
-
-all_apart : (k : List ℕ) (qs : List (List ℕ)) → AllByRecursion (λ q. key_cmp k q ≡ Less) qs → AllByRecursion (λ q. k ≢ q) qs
-all_apart k [] h = tt
-all_apart k (q ∷ qs) h = (less_apart k q h.0, all_apart k qs h.1)
 
 -- a pair with this key, or with another, stands first
 value_own : (key : List ℕ) (p : Pair) (ps : List Pair) → p.key ≡ key → value_shown key (p ∷ ps) ≡ Some p.value

@@ -33,7 +33,8 @@ use Rattle.ct_traverse.specs.Rows.{one_row, RowsAreExact}
 less_apart : (k q : List ℕ) → key_cmp k q ≡ Less → k ≢ q
 less_apart k q l e = absurd (let a : is_eq (key_cmp k k) ≡ false = ap is_eq (subst (λ (x : List ℕ). key_cmp k x ≡ Less) (sym e) l) in let b : is_eq (key_cmp k k) ≡ true = (eq_by_cmp_equiv key_total).refl k in cc)
 
-all_apart : (k : List ℕ) (qs : List (List ℕ)) → AllByRecursion (λ q. key_cmp k q ≡ Less) qs → AllByRecursion (λ q. k ≢ q) qs
+-- a key that is below all others is none of them
+pub all_apart : (k : List ℕ) (qs : List (List ℕ)) → AllByRecursion (λ q. key_cmp k q ≡ Less) qs → AllByRecursion (λ q. k ≢ q) qs
 all_apart k [] h = tt
 all_apart k (q ∷ qs) h = (less_apart k q h.0, all_apart k qs h.1)
 
