@@ -201,7 +201,7 @@ pub(crate) fn gather(
     ensures ok { OnOk result (kept.new ≡ gathered pass node rows.now kept.old) }
     ensures err { OnErr result (kept.new ≡ kept.old) }
 {
-    let mut changes = Vec::new(alloc);
+    let mut changes = Vec::with_capacity(alloc, rows.len())?;
     let answer = keep_rows(kept, &mut changes, pass, node, rows);
     if answer.is_err() {
         take_back(kept, changes);
@@ -268,7 +268,7 @@ pub(crate) fn answer(
     ensures ok { IfOk result (λ lines. lines.items ≡ line.Shown (shown (gathered pass node rows.now kept.old)) ∷ []) }
     ensures err { OnErr result (kept.new ≡ kept.old) }
 {
-    let mut changes = Vec::new(alloc);
+    let mut changes = Vec::with_capacity(alloc, rows.len())?;
     let lines = match keep_rows(kept, &mut changes, pass, node, rows) {
         Ok(()) => shown_line(alloc, kept),
         Err(fault) => Err(fault),
