@@ -12,18 +12,78 @@ fn repeated(alloc: Global, count: usize) -> Result<Vec<u8>, Fail> {
     Ok(vec![in alloc; b'a'; count]?)
 }
 
+fn hashes_to(alloc: Global, bytes: &[u8], wanted: u32) -> Result<bool, Fail> {
+    let key = Key::new(alloc, bytes)?;
+    Ok(hash(&key) == wanted)
+}
+
 #[test]
 fn hashes(rt: HostRuntime) -> Result<(), Fail> {
     for (bytes, wanted) in [
-        (b"a", 155874025u32),
-        (b"b", 1259389268),
-        (b"c", 2362904511),
-        (b"d", 3466419754),
+        (b"a".as_slice(), 155874025u32),
+        (b"b".as_slice(), 1259389268),
+        (b"c".as_slice(), 2362904511),
+        (b"d".as_slice(), 3466419754),
     ] {
-        let key = Key::new(rt.alloc(), bytes)?;
-        assert_eq!(rt; hash(&key), wanted);
+        assert!(rt; hashes_to(rt.alloc(), bytes, wanted)?);
     }
     Ok(())
+}
+
+fn is_length(fault: BytesFault, bytes: &[u8]) -> bool {
+    fault == BytesFault::BadLength(bytes.len() as u64)
+}
+
+fn key_is_kept(key: &Key, bytes: &[u8]) -> Result<bool, Fail> {
+    let same = key.copy()? == *key;
+    Ok(same && key.bytes() == bytes)
+}
+
+fn makes_key(alloc: Global, bytes: &[u8], good: bool) -> Result<bool, Fail> {
+    match Key::new(alloc, bytes) {
+        Ok(it) => Ok(key_is_kept(&it, bytes)? && good),
+        Err(fault) => Ok(is_length(fault, bytes) && !good),
+    }
+}
+
+fn value_is_kept(value: &Value, bytes: &[u8]) -> Result<bool, Fail> {
+    let same = value.copy()? == *value;
+    Ok(same && value.bytes() == bytes)
+}
+
+fn makes_value(alloc: Global, bytes: &[u8], good: bool) -> Result<bool, Fail> {
+    match Value::new(alloc, bytes) {
+        Ok(it) => Ok(value_is_kept(&it, bytes)? && good),
+        Err(fault) => Ok(is_length(fault, bytes) && !good),
+    }
+}
+
+fn name_is_kept(name: &DbName, bytes: &[u8]) -> Result<bool, Fail> {
+    let same = name.copy()? == *name;
+    Ok(same && name.bytes() == bytes)
+}
+
+fn makes_name(alloc: Global, bytes: &[u8], good: bool) -> Result<bool, Fail> {
+    match DbName::new(alloc, bytes) {
+        Ok(it) => Ok(name_is_kept(&it, bytes)? && good),
+        Err(fault) => Ok(is_length(fault, bytes) && !good),
+    }
+}
+
+/// Do so many bytes make a key, a value and a name, or not?
+fn makes(
+    alloc: Global,
+    count: usize,
+    key: bool,
+    value: bool,
+    name: bool,
+) -> Result<[bool; 3], Fail> {
+    let bytes = repeated(alloc, count)?;
+    Ok([
+        makes_key(alloc, bytes.as_slice(), key)?,
+        makes_value(alloc, bytes.as_slice(), value)?,
+        makes_name(alloc, bytes.as_slice(), name)?,
+    ])
 }
 
 #[test]
@@ -38,22 +98,19 @@ fn lengths(rt: HostRuntime) -> Result<(), Fail> {
         (1024, false, true, false),
         (1025, false, false, false),
     ] {
-        let bytes = repeated(rt.alloc(), count)?;
-        let bad = BytesFault::BadLength(count as u64);
-        match Key::new(rt.alloc(), bytes.as_slice()) {
-            Ok(it) => assert!(rt; key && it.bytes() == bytes.as_slice() && it.copy()? == it),
-            Err(fault) => assert!(rt; !key && fault == bad, "a key of {count}"),
-        }
-        match Value::new(rt.alloc(), bytes.as_slice()) {
-            Ok(it) => assert!(rt; value && it.bytes() == bytes.as_slice() && it.copy()? == it),
-            Err(fault) => assert!(rt; !value && fault == bad, "a value of {count}"),
-        }
-        match DbName::new(rt.alloc(), bytes.as_slice()) {
-            Ok(it) => assert!(rt; name && it.bytes() == bytes.as_slice() && it.copy()? == it),
-            Err(fault) => assert!(rt; !name && fault == bad, "a name of {count}"),
-        }
+        let alike = makes(rt.alloc(), count, key, value, name)?;
+        assert!(rt; alike == [true, true, true], "of {count}");
     }
     Ok(())
+}
+
+/// Is the byte there the first that no name has? `None`: is it a name?
+fn is_bad_at(alloc: Global, bytes: &[u8], wanted: Option<u64>) -> bool {
+    match DbName::new(alloc, bytes) {
+        Ok(_) => wanted.is_none(),
+        Err(BytesFault::BadByte(at)) => wanted == Some(at),
+        Err(_) => false,
+    }
 }
 
 #[test]
@@ -66,20 +123,24 @@ fn names(rt: HostRuntime) -> Result<(), Fail> {
         (b"a b".as_slice(), Some(1)),
         (b"ab%c%".as_slice(), Some(2)),
     ] {
-        let fault = DbName::new(rt.alloc(), bytes).err();
-        assert!(rt; fault == wanted.map(BytesFault::BadByte));
+        assert!(rt; is_bad_at(rt.alloc(), bytes, wanted));
     }
     Ok(())
 }
 
+fn a_list(alloc: Global) -> Result<Items<u32>, Fail> {
+    let mut list = Items::empty(alloc);
+    list.push(3u32)?;
+    list.push(1)?;
+    list.push(2)?;
+    let mut more = [7u32, 8].to_vec(alloc)?;
+    list.append(&mut more)?;
+    Ok(list)
+}
+
 #[test]
 fn lists(rt: HostRuntime) -> Result<(), Fail> {
-    let mut list = Items::empty(rt.alloc());
-    for n in [3u32, 1, 2] {
-        list.push(n)?;
-    }
-    let mut more = [7u32, 8].to_vec(rt.alloc())?;
-    list.append(&mut more)?;
+    let mut list = a_list(rt.alloc())?;
     assert!(rt; list.as_slice() == [3, 1, 2, 7, 8].as_slice());
     assert!(rt; list.copy(rt.alloc())? == list);
     assert!(rt; list.take_first() == Some(3));

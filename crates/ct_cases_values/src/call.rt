@@ -43,6 +43,13 @@ fn both_in_turn(alloc: Global) -> Result<Rule, Fail>
     Ok(Rule::Join(Box::new(alloc, Rule::Old)?, Box::new(alloc, Rule::Arg)?))
 }
 
+fn is_answer(answer: Result<Value, CallFault>, wanted: Result<&[u8], CallFault>) -> bool {
+    match answer {
+        Ok(value) => wanted == Ok(value.bytes()),
+        Err(fault) => wanted == Err(fault),
+    }
+}
+
 /// Does a call give these bytes, or this fault?
 fn gives(
     alloc: Global,
@@ -54,14 +61,30 @@ fn gives(
 ) -> Result<bool, Fail> {
     let old = Value::new(alloc, old)?;
     let arg = Value::new(alloc, arg)?;
-    match table.apply(id, &old, &arg) {
-        Ok(value) => Ok(wanted == Ok(value.bytes())),
-        Err(fault) => Ok(wanted == Err(fault)),
-    }
+    Ok(is_answer(table.apply(id, &old, &arg), wanted))
 }
 
 /// Two threads may have it.
 fn may_be_shared<T: Send + Sync>(_table: &T) {}
+
+fn knows(table: &CallTable) -> [bool; 6] {
+    [
+        table.knows(0),
+        table.knows(1),
+        table.knows(2),
+        table.knows(3),
+        table.knows(4),
+        table.knows(9),
+    ]
+}
+
+fn has_second(table: &CallTable) -> bool {
+    matches!(table.rule_of(2), Some(Rule::Arg))
+}
+
+fn has_front(table: &CallTable) -> bool {
+    matches!(table.rule_of(9), Some(Rule::Cut(4, _)))
+}
 
 #[test]
 fn four_functions(rt: HostRuntime) -> Result<(), Fail> {
@@ -82,12 +105,8 @@ fn four_functions(rt: HostRuntime) -> Result<(), Fail> {
     assert!(rt; table.add(9, rule, front) == Ok(()));
     let again: Call = Box::new(alloc, move |old: &Value, _arg: &Value| same(alloc, old))?;
     assert!(rt; table.add(2, Rule::Old, again) == Err(AddFault::Repeated(2)));
-    assert!(rt; table.knows(1) && table.knows(2) && table.knows(3) && table.knows(9));
-    assert!(rt; !table.knows(0) && !table.knows(4));
-    assert!(rt;
-        matches!(table.rule_of(2), Some(Rule::Arg))
-            && matches!(table.rule_of(9), Some(Rule::Cut(4, _)))
-    );
+    assert!(rt; knows(&table) == [false, true, true, true, false, true]);
+    assert!(rt; has_second(&table) && has_front(&table));
     let full = [97u8; 1024];
     for (id, old, arg, wanted) in [
         (

@@ -1,5 +1,12 @@
 use ct_values::number::{parse_decimal, push_decimal};
+use std::alloc::Global;
 use std::test::Fail;
+
+fn is_written(alloc: Global, n: u64, word: &[u8]) -> Result<bool, Fail> {
+    let mut text = Vec::from_slice(alloc, b"x")?;
+    push_decimal(&mut text, n)?;
+    Ok(&text[..1] == b"x".as_slice() && &text[1..] == word)
+}
 
 #[test]
 fn writes_and_reads(rt: HostRuntime) -> Result<(), Fail> {
@@ -9,11 +16,8 @@ fn writes_and_reads(rt: HostRuntime) -> Result<(), Fail> {
         (10, b"10"),
         (18446744073709551615, b"18446744073709551615"),
     ] {
-        let mut text = Vec::from_slice(rt.alloc(), b"x")?;
-        push_decimal(&mut text, n)?;
-        assert_eq!(rt; &text[..1], b"x".as_slice());
-        assert_eq!(rt; &text[1..], word);
-        assert_eq!(rt; parse_decimal(word), Some(n));
+        assert!(rt; is_written(rt.alloc(), n, word)?);
+        assert!(rt; parse_decimal(word) == Some(n));
     }
     Ok(())
 }
@@ -30,6 +34,6 @@ fn refuses(rt: HostRuntime) {
         b"1a",
         b" 1",
     ] {
-        assert_eq!(rt; parse_decimal(word), None);
+        assert!(rt; parse_decimal(word).is_none());
     }
 }

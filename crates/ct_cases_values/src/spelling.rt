@@ -1,5 +1,20 @@
 use ct_values::spelling::{SpellFault, push_spelling, spell, unspell};
+use std::alloc::Global;
 use std::test::Fail;
+
+fn is_spelled(alloc: Global, bytes: &[u8], word: &[u8]) -> Result<bool, Fail> {
+    Ok(spell(alloc, bytes)?.as_slice() == word)
+}
+
+fn is_unspelled(alloc: Global, word: &[u8], bytes: &[u8]) -> Result<bool, Fail> {
+    Ok(unspell(alloc, word)?.as_slice() == bytes)
+}
+
+fn is_pushed(alloc: Global, bytes: &[u8], word: &[u8]) -> Result<bool, Fail> {
+    let mut text = Vec::from_slice(alloc, b"PUT")?;
+    push_spelling(&mut text, bytes)?;
+    Ok(&text[..3] == b"PUT".as_slice() && &text[3..] == word)
+}
 
 #[test]
 fn spells_and_unspells(rt: HostRuntime) -> Result<(), Fail> {
@@ -13,14 +28,15 @@ fn spells_and_unspells(rt: HostRuntime) -> Result<(), Fail> {
         (b"v1", b"v1"),
         (b"--", b"--"),
     ] {
-        assert_eq!(rt; spell(rt.alloc(), bytes)?.as_slice(), word);
-        assert_eq!(rt; unspell(rt.alloc(), word)?.as_slice(), bytes);
-        let mut text = Vec::from_slice(rt.alloc(), b"PUT")?;
-        push_spelling(&mut text, bytes)?;
-        assert_eq!(rt; &text[..3], b"PUT".as_slice());
-        assert_eq!(rt; &text[3..], word);
+        assert!(rt; is_spelled(rt.alloc(), bytes, word)?);
+        assert!(rt; is_unspelled(rt.alloc(), word, bytes)?);
+        assert!(rt; is_pushed(rt.alloc(), bytes, word)?);
     }
     Ok(())
+}
+
+fn is_refused(alloc: Global, word: &[u8]) -> bool {
+    matches!(unspell(alloc, word), Err(SpellFault::BadSpelling))
 }
 
 #[test]
@@ -37,6 +53,6 @@ fn refuses(rt: HostRuntime) {
         b"a%",
         b"%2d-",
     ] {
-        assert!(rt; matches!(unspell(rt.alloc(), word), Err(SpellFault::BadSpelling)));
+        assert!(rt; is_refused(rt.alloc(), word));
     }
 }
