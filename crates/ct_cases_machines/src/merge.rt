@@ -1,6 +1,10 @@
 //! Merges against the rules, with values worked out by hand.
+ghost use Rattle.std.specs.Prelude.{◌≡◌, true};
+ghost use Rattle.ct_merge.specs.Rule.{are_in_order};
+
 use ct_frame::frame::{Assigned, PTable, TableRow};
 use ct_frame::round::Pull;
+use ct_merge::merged::MergedAll;
 use ct_merge::merges::{merge_addresses, merge_persistent, merge_volatile};
 use ct_merge::merging::Merging;
 use ct_merge::order::{are_in_order, is_in_order};
@@ -85,39 +89,62 @@ const TABLES: &[Table] = &[(1, 4, b"y"), (3, 5, b"z")];
 
 const ASSIGNED: &[(Address, u32)] = &[(LOW, 1), (HIGH, 0), (LONG, 1)];
 
-fn rows(alloc: Global, table: &[Row]) -> Result<Items<TableRow>, Fail> {
-    let mut list = Vec::new(alloc);
-    for (db, key, rsn, value, master) in table {
-        list.push(TableRow {
-            db: *db,
-            key: Key::new(alloc, *key)?,
-            rsn: *rsn,
-            value: Value::new(alloc, *value)?,
-            master: *master,
-        })?;
+fn pair(alloc: Global, key: &[u8], value: &[u8]) -> Result<Pair, Fail> {
+    let key = Key::new(alloc, key)?;
+    let value = Value::new(alloc, value)?;
+    Ok(Pair { key, value })
+}
+
+fn add_row(alloc: Global, list: &mut Items<TableRow>, row: Row) -> Result<(), Fail> {
+    let (db, key, rsn, value, master) = row;
+    let pair = pair(alloc, key, value)?;
+    list.push(TableRow {
+        db,
+        key: pair.key,
+        rsn,
+        value: pair.value,
+        master,
+    })?;
+    Ok(())
+}
+
+fn add_rows(alloc: Global, list: &mut Items<TableRow>, table: &[Row]) -> Result<(), Fail> {
+    for row in table {
+        add_row(alloc, list, *row)?;
     }
-    Ok(Items::new(list))
+    Ok(())
+}
+
+fn rows(alloc: Global, table: &[Row]) -> Result<Items<TableRow>, Fail> {
+    let mut list = Items::empty(alloc);
+    add_rows(alloc, &mut list, table)?;
+    Ok(list)
 }
 
 fn pairs(alloc: Global, value: &[u8]) -> Result<Items<Pair>, Fail> {
-    let mut list = Vec::new(alloc);
-    list.push(Pair {
-        key: Key::new(alloc, b"k")?,
-        value: Value::new(alloc, value)?,
-    })?;
-    Ok(Items::new(list))
+    let mut list = Items::empty(alloc);
+    list.push(pair(alloc, b"k", value)?)?;
+    Ok(list)
+}
+
+fn add_table(alloc: Global, list: &mut Items<PTable>, table: Table) -> Result<(), Fail> {
+    let (db, seq, value) = table;
+    let pairs = pairs(alloc, value)?;
+    list.push(PTable { db, seq, pairs })?;
+    Ok(())
+}
+
+fn add_tables(alloc: Global, list: &mut Items<PTable>, tables: &[Table]) -> Result<(), Fail> {
+    for table in tables {
+        add_table(alloc, list, *table)?;
+    }
+    Ok(())
 }
 
 fn tables(alloc: Global, table: &[Table]) -> Result<Items<PTable>, Fail> {
-    let mut list = Vec::new(alloc);
-    for (db, seq, value) in table {
-        list.push(PTable {
-            db: *db,
-            seq: *seq,
-            pairs: pairs(alloc, *value)?,
-        })?;
-    }
-    Ok(Items::new(list))
+    let mut list = Items::empty(alloc);
+    add_tables(alloc, &mut list, table)?;
+    Ok(list)
 }
 
 fn assigned(alloc: Global, table: &[(Address, u32)]) -> Result<Items<Assigned>, Fail> {
@@ -132,72 +159,124 @@ fn assigned(alloc: Global, table: &[(Address, u32)]) -> Result<Items<Assigned>, 
 }
 
 fn pull(alloc: Global, told: Told) -> Result<Pull, Fail> {
+    let table = rows(alloc, told.rows)?;
+    let ptables = tables(alloc, told.tables)?;
+    let addresses = Items::new(Vec::from_slice(alloc, told.addresses)?);
     Ok(Pull {
         node: told.node,
         vbase: told.vbase,
         pbase: told.pbase,
-        table: rows(alloc, told.rows)?,
-        ptables: tables(alloc, told.tables)?,
-        addresses: Items::new(Vec::from_slice(alloc, told.addresses)?),
+        table,
+        ptables,
+        addresses,
     })
+}
+
+fn add_pull(alloc: Global, list: &mut Vec<Pull>, told: Told) -> Result<(), Fail> {
+    list.push(pull(alloc, told)?)?;
+    Ok(())
+}
+
+fn add_pulls(alloc: Global, list: &mut Vec<Pull>, table: &[Told]) -> Result<(), Fail> {
+    for told in table {
+        add_pull(alloc, list, *told)?;
+    }
+    Ok(())
 }
 
 fn pulls(alloc: Global, table: &[Told]) -> Result<Vec<Pull>, Fail> {
     let mut list = Vec::new(alloc);
-    for told in table {
-        list.push(pull(alloc, *told)?)?;
-    }
+    add_pulls(alloc, &mut list, table)?;
     Ok(list)
+}
+
+/// Adds what is in order.
+fn add(merging: &mut Merging, pull: Pull) -> Result<(), Fail> {
+    if !is_in_order(&pull) {
+        return Err(Fail::new("out of order"));
+    }
+    merging.add(pull)?;
+    Ok(())
 }
 
 fn gathered(alloc: Global, table: [Told; 3]) -> Result<Merging, Fail> {
     let mut merging = Merging::new(alloc);
     for told in table {
-        let pull = pull(alloc, told)?;
-        if !is_in_order(&pull) {
-            return Err(Fail::new("out of order"));
-        }
-        merging.add(pull)?;
+        add(&mut merging, pull(alloc, told)?)?;
     }
     Ok(merging)
 }
 
+fn volatile_is(alloc: Global, all: &[Pull], parent: u64, table: &[Row]) -> Result<bool, Fail>
+    requires { are_in_order all.now ≡ true }
+{
+    let merged = merge_volatile(alloc, all)?;
+    let wanted = rows(alloc, table)?;
+    Ok(merged.parent == parent && merged.table == wanted)
+}
+
+fn persistent_is(alloc: Global, all: &[Pull], parent: u64, table: &[Table]) -> Result<bool, Fail>
+    requires { are_in_order all.now ≡ true }
+{
+    let merged = merge_persistent(alloc, all)?;
+    let wanted = tables(alloc, table)?;
+    Ok(merged.parent == parent && merged.ptables == wanted)
+}
+
+fn addresses_are(alloc: Global, all: &[Pull], table: &[(Address, u32)]) -> Result<bool, Fail>
+    requires { are_in_order all.now ≡ true }
+{
+    let merged = merge_addresses(alloc, all)?;
+    Ok(merged == assigned(alloc, table)?)
+}
+
 #[test]
 fn merges_of_three(rt: HostRuntime) -> Result<(), Fail> {
-    let alloc = rt.alloc();
-    let all = pulls(alloc, &[FIRST, SECOND, THIRD])?;
+    let all = pulls(rt.alloc(), &[FIRST, SECOND, THIRD])?;
     assert!(rt; are_in_order(&all));
-    let volatile = merge_volatile(alloc, &all)?;
-    assert!(rt; volatile.parent == 3 && volatile.table == rows(alloc, ROWS)?);
-    let persistent = merge_persistent(alloc, &all)?;
-    assert!(rt; persistent.parent == 3 && persistent.ptables == tables(alloc, TABLES)?);
-    assert!(rt; merge_addresses(alloc, &all)? == assigned(alloc, ASSIGNED)?);
+    assert!(rt; volatile_is(rt.alloc(), &all, 3, ROWS)?);
+    assert!(rt; persistent_is(rt.alloc(), &all, 3, TABLES)?);
+    assert!(rt; addresses_are(rt.alloc(), &all, ASSIGNED)?);
     Ok(())
+}
+
+fn all_are(alloc: Global, all: &MergedAll) -> Result<bool, Fail> {
+    let rows = rows(alloc, ROWS)?;
+    let tables = tables(alloc, TABLES)?;
+    let assigned = assigned(alloc, ASSIGNED)?;
+    Ok(
+        all.table.parent == 3
+            && all.table.table == rows
+            && all.ptables.parent == 3
+            && all.ptables.ptables == tables
+            && all.assigned == assigned,
+    )
+}
+
+/// Does the copy of what was gathered, of five rows, give all that is wanted?
+fn finishes(alloc: Global, merging: &Merging) -> Result<bool, Fail> {
+    let copy = merging.copy()?;
+    let all = copy.finish()?;
+    Ok(merging.rows() == 5 && all_are(alloc, &all)?)
+}
+
+fn gathers(alloc: Global, order: [Told; 3]) -> Result<bool, Fail> {
+    let merging = gathered(alloc, order)?;
+    finishes(alloc, &merging)
 }
 
 #[test]
 fn any_order_of_arrival(rt: HostRuntime) -> Result<(), Fail> {
-    let alloc = rt.alloc();
-    for order in [
-        [FIRST, SECOND, THIRD],
-        [THIRD, SECOND, FIRST],
-        [SECOND, THIRD, FIRST],
-    ] {
-        let merging = gathered(alloc, order)?;
-        assert_eq!(rt; merging.rows(), 5);
-        let all = merging.copy()?.finish()?;
-        assert!(rt; all.table.parent == 3 && all.table.table == rows(alloc, ROWS)?);
-        assert!(rt; all.ptables.parent == 3 && all.ptables.ptables == tables(alloc, TABLES)?);
-        assert!(rt; all.assigned == assigned(alloc, ASSIGNED)?);
-    }
+    assert!(rt; gathers(rt.alloc(), [FIRST, SECOND, THIRD])?);
+    assert!(rt; gathers(rt.alloc(), [THIRD, SECOND, FIRST])?);
+    assert!(rt; gathers(rt.alloc(), [SECOND, THIRD, FIRST])?);
     Ok(())
 }
 
 #[test]
 fn parent_zero_has_no_rows(rt: HostRuntime) -> Result<(), Fail> {
-    let alloc = rt.alloc();
     let all = pulls(
-        alloc,
+        rt.alloc(),
         &[Told {
             vbase: 0,
             pbase: 0,
@@ -205,11 +284,25 @@ fn parent_zero_has_no_rows(rt: HostRuntime) -> Result<(), Fail> {
         }],
     )?;
     assert!(rt; are_in_order(&all));
-    let volatile = merge_volatile(alloc, &all)?;
-    assert!(rt; volatile.parent == 0 && volatile.table.is_empty());
-    let persistent = merge_persistent(alloc, &all)?;
-    assert!(rt; persistent.parent == 0 && persistent.ptables == tables(alloc, SECOND.tables)?);
+    assert!(rt; volatile_is(rt.alloc(), &all, 0, &[])?);
+    assert!(rt; persistent_is(rt.alloc(), &all, 0, SECOND.tables)?);
     Ok(())
+}
+
+fn is_ordered(
+    alloc: Global,
+    rows: &'static [Row],
+    addresses: &'static [Address],
+) -> Result<bool, Fail> {
+    let pull = pull(
+        alloc,
+        Told {
+            rows,
+            addresses,
+            ..THIRD
+        },
+    )?;
+    Ok(is_in_order(&pull))
 }
 
 #[test]
@@ -234,15 +327,7 @@ fn lists_out_of_order(rt: HostRuntime) -> Result<(), Fail> {
         (&[], &[LONG, LOW], false),
     ];
     for (rows, addresses, want) in table {
-        let pull = pull(
-            rt.alloc(),
-            Told {
-                rows,
-                addresses,
-                ..THIRD
-            },
-        )?;
-        assert_eq!(rt; is_in_order(&pull), want);
+        assert!(rt; is_ordered(rt.alloc(), rows, addresses)? == want);
     }
     Ok(())
 }

@@ -14,17 +14,26 @@ use std::test::Fail;
 type Write = (&'static str, &'static str);
 
 fn pair(alloc: Global, key: &[u8], value: &[u8]) -> Result<Pair, Fail> {
-    Ok(Pair {
-        key: Key::new(alloc, key)?,
-        value: Value::new(alloc, value)?,
-    })
+    let key = Key::new(alloc, key)?;
+    let value = Value::new(alloc, value)?;
+    Ok(Pair { key, value })
+}
+
+fn add(list: &mut Vec<Pair>, pair: Pair) -> Result<(), Fail> {
+    list.push(pair)?;
+    Ok(())
+}
+
+fn add_all(alloc: Global, list: &mut Vec<Pair>, writes: &[Write]) -> Result<(), Fail> {
+    for (key, value) in writes {
+        add(list, pair(alloc, key.as_bytes(), value.as_bytes())?)?;
+    }
+    Ok(())
 }
 
 fn pairs(alloc: Global, writes: &[Write]) -> Result<Vec<Pair>, Fail> {
     let mut all = Vec::new(alloc);
-    for (key, value) in writes {
-        all.push(pair(alloc, key.as_bytes(), value.as_bytes())?)?;
-    }
+    add_all(alloc, &mut all, writes)?;
     Ok(all)
 }
 
@@ -33,18 +42,34 @@ fn update(alloc: Global, store: &mut PStore, seq: u64, writes: &[Write]) -> Resu
     Ok(store.update(seq, writes.as_slice())?)
 }
 
-/// Has the database this number, and these keys and values in order?
-fn is_now(alloc: Global, store: &PStore, seq: u64, wanted: &str) -> Result<bool, Fail> {
-    let mut text = Vec::new(alloc);
+fn add_pairs(store: &PStore, text: &mut Vec<u8>) -> Result<(), Fail> {
     for pair in &store.pairs()? {
         text.extend_from_slice(pair.key.bytes())?;
         text.extend_from_slice(pair.value.bytes())?;
     }
+    Ok(())
+}
+
+/// Has the database this number, and these keys and values in order?
+fn is_now(alloc: Global, store: &PStore, seq: u64, wanted: &str) -> Result<bool, Fail> {
+    let mut text = Vec::new(alloc);
+    add_pairs(store, &mut text)?;
     Ok(store.seq() == seq && text.as_slice() == wanted.as_bytes())
 }
 
-#[test]
-fn updates(rt: HostRuntime) -> Result<(), Fail> {
+/// Does an update answer so, and has the database this number and these pairs then?
+fn is_updated(
+    alloc: Global,
+    store: &mut PStore,
+    update_of: (u64, &[Write]),
+    answer: Updated,
+    now: (u64, &str),
+) -> Result<bool, Fail> {
+    let answered = update(alloc, store, update_of.0, update_of.1)?;
+    Ok(is_now(alloc, store, now.0, now.1)? && answered == answer)
+}
+
+fn all_updated(alloc: Global, store: &mut PStore) -> Result<bool, Fail> {
     let k = [("k", "v")];
     let table = [
         (2, k.as_slice(), Updated::Gap, 0, ""),
@@ -76,11 +101,35 @@ fn updates(rt: HostRuntime) -> Result<(), Fail> {
         ),
         (18446744073709551615, k.as_slice(), Updated::Gap, 4, "a5c4"),
     ];
-    let mut store = PStore::new(rt.alloc());
     for (seq, writes, answer, number, wanted) in table {
-        let answered = update(rt.alloc(), &mut store, seq, writes)?;
-        let is_now = is_now(rt.alloc(), &store, number, wanted)?;
-        assert!(rt; answered == answer && is_now);
+        if !is_updated(alloc, store, (seq, writes), answer, (number, wanted))? {
+            return Ok(false);
+        }
+    }
+    Ok(true)
+}
+
+#[test]
+fn updates(rt: HostRuntime) -> Result<(), Fail> {
+    let mut store = PStore::new(rt.alloc());
+    let all = all_updated(rt.alloc(), &mut store);
+    drop(store);
+    assert!(rt; all?);
+    Ok(())
+}
+
+fn put(store: &mut PStore, seq: u64, write: Pair) -> Result<(), Fail> {
+    store.update(seq, [write].as_slice())?;
+    Ok(())
+}
+
+fn fill(alloc: Global, store: &mut PStore) -> Result<(), Fail> {
+    for i in 0..1024u32 {
+        put(
+            store,
+            i as u64 + 1,
+            pair(alloc, i.to_be_bytes().as_slice(), b"v")?,
+        )?;
     }
     Ok(())
 }
@@ -88,10 +137,7 @@ fn updates(rt: HostRuntime) -> Result<(), Fail> {
 /// 1,024 pairs, by as many updates.
 fn full(alloc: Global) -> Result<PStore, Fail> {
     let mut store = PStore::new(alloc);
-    for i in 0..1024u32 {
-        let write = pair(alloc, i.to_be_bytes().as_slice(), b"v")?;
-        store.update(i as u64 + 1, [write].as_slice())?;
-    }
+    fill(alloc, &mut store)?;
     Ok(store)
 }
 
@@ -100,51 +146,101 @@ fn fits(alloc: Global, store: &PStore, writes: &[Write]) -> Result<bool, Fail> {
     Ok(store.fits(writes.as_slice()))
 }
 
-#[test]
-fn at_most_1024_pairs(rt: HostRuntime) -> Result<(), Fail> {
-    let first = "\0\0\0\0";
-    let table = [
+const FIRST: &str = "\0\0\0\0";
+
+fn all_fit_so(alloc: Global, store: &PStore) -> Result<bool, Fail> {
+    for (writes, wanted) in [
         ([("k", "v"), ("k", "w")], false),
         ([("k", "v"), ("k", "")], true),
         ([("k", ""), ("k", "v")], false),
-        ([("k", "v"), (first, "")], true),
-        ([(first, ""), (first, "w")], true),
-    ];
-    let mut store = full(rt.alloc())?;
-    for (writes, wanted) in table {
-        let answered = fits(rt.alloc(), &store, writes.as_slice())?;
-        assert!(rt; answered == wanted);
+        ([("k", "v"), (FIRST, "")], true),
+        ([(FIRST, ""), (FIRST, "w")], true),
+    ] {
+        if fits(alloc, store, writes.as_slice())? != wanted {
+            return Ok(false);
+        }
     }
-    let gap = update(rt.alloc(), &mut store, 1025, &[("k", "v")])?;
-    let done = update(rt.alloc(), &mut store, 1025, &[("k", "v"), (first, "")])?;
-    assert!(rt; gap == Updated::Gap && done == Updated::Done && store.seq() == 1025);
+    Ok(true)
+}
+
+fn one_goes_and_one_comes(alloc: Global, store: &mut PStore) -> Result<bool, Fail> {
+    let gap = update(alloc, store, 1025, &[("k", "v")])?;
+    let done = update(alloc, store, 1025, &[("k", "v"), (FIRST, "")])?;
+    Ok(gap == Updated::Gap && done == Updated::Done && store.seq() == 1025)
+}
+
+fn is_full(alloc: Global, store: &mut PStore) -> Result<bool, Fail> {
+    Ok(all_fit_so(alloc, store)? && one_goes_and_one_comes(alloc, store)?)
+}
+
+#[test]
+fn at_most_1024_pairs(rt: HostRuntime) -> Result<(), Fail> {
+    let mut store = full(rt.alloc())?;
+    let is_full = is_full(rt.alloc(), &mut store);
+    drop(store);
+    assert!(rt; is_full?);
+    Ok(())
+}
+
+fn take(store: &mut PStore, other: &PStore) -> Result<(), Fail> {
+    let pairs = Items::new(other.pairs()?);
+    let table = PTable {
+        db: 0,
+        seq: other.seq(),
+        pairs,
+    };
+    store.replace(&table)?;
     Ok(())
 }
 
 /// A database that took the number and the pairs of another.
 fn like(alloc: Global, other: &PStore) -> Result<PStore, Fail> {
-    let table = PTable {
-        db: 0,
-        seq: other.seq(),
-        pairs: Items::new(other.pairs()?),
-    };
     let mut store = PStore::new(alloc);
     update(alloc, &mut store, 1, &[("z", "9")])?;
-    store.replace(&table)?;
+    take(&mut store, other)?;
     Ok(store)
+}
+
+fn two_pairs(alloc: Global) -> Result<PStore, Fail> {
+    let mut first = PStore::new(alloc);
+    update(alloc, &mut first, 1, &[("b", "1"), ("a", "2")])?;
+    Ok(first)
+}
+
+fn like_two_pairs(alloc: Global) -> Result<PStore, Fail> {
+    let first = two_pairs(alloc)?;
+    let second = like(alloc, &first);
+    drop(first);
+    second
+}
+
+/// Does it go on, and the other stay?
+fn goes_on(alloc: Global, store: &mut PStore, other: &PStore) -> Result<bool, Fail> {
+    update(alloc, store, 2, &[("c", "3")])?;
+    Ok(is_now(alloc, store, 2, "a2b1c3")? && is_now(alloc, other, 1, "a2b1")?)
+}
+
+/// Does it go on, and its copy stay?
+fn copy_stays(alloc: Global, store: &mut PStore) -> Result<bool, Fail> {
+    let copy = store.duplicate()?;
+    let stays = goes_on(alloc, store, &copy);
+    drop(copy);
+    stays
 }
 
 #[test]
 fn replaced(rt: HostRuntime) -> Result<(), Fail> {
-    let mut first = PStore::new(rt.alloc());
-    update(rt.alloc(), &mut first, 1, &[("b", "1"), ("a", "2")])?;
-    let mut second = like(rt.alloc(), &first)?;
-    let copy = second.duplicate()?;
-    update(rt.alloc(), &mut second, 2, &[("c", "3")])?;
-    let second_is = is_now(rt.alloc(), &second, 2, "a2b1c3")?;
-    let copy_is = is_now(rt.alloc(), &copy, 1, "a2b1")?;
-    assert!(rt; second_is && copy_is);
+    let mut second = like_two_pairs(rt.alloc())?;
+    let stays = copy_stays(rt.alloc(), &mut second);
+    drop(second);
+    assert!(rt; stays?);
     Ok(())
+}
+
+/// Is its copy of commit 7, with these nodes missing?
+fn is_copied(commit: &Commit, missing: &[u32]) -> Result<bool, Fail> {
+    let copy = commit.duplicate()?;
+    Ok(copy.seq() == 7 && copy.missing() == missing)
 }
 
 #[test]
@@ -163,9 +259,8 @@ fn acknowledgements(rt: HostRuntime) -> Result<(), Fail> {
     ];
     let mut commit = Commit::begin(rt.alloc(), 7, &all)?;
     for (node, seq, last, missing) in table {
-        let answered = commit.ack(node, seq);
-        let copy = commit.duplicate()?;
-        assert!(rt; answered == last && copy.seq() == 7 && copy.missing() == missing);
+        assert!(rt; commit.ack(node, seq) == last);
+        assert!(rt; is_copied(&commit, missing)?);
     }
     Ok(())
 }

@@ -1,6 +1,6 @@
 //! Members and leaders, call by call.
 use ct_frame::frame::TableRow;
-use ct_frame::round::{Phase, Pull, Stage};
+use ct_frame::round::{Phase, Pull, PushBody, Stage};
 use ct_lead::leader::Leader;
 use ct_lead::member::{FreezeStep, Member, PushStep};
 use ct_merge::order::is_in_order;
@@ -64,10 +64,8 @@ fn a_member(rt: HostRuntime) -> Result<(), Fail> {
         (Call::Push(6), "again", Phase::Serving(6)),
         (Call::Freeze(9), "accepted", Phase::Freezing(9)),
     ] {
-        let given = answer(&mut it, call);
-        assert_eq!(rt; given, wanted);
-        let now = it.phase();
-        assert!(rt; now == phase);
+        assert!(rt; answer(&mut it, call) == wanted);
+        assert!(rt; it.phase() == phase);
     }
     Ok(())
 }
@@ -79,24 +77,49 @@ fn what_a_member_tells(rt: HostRuntime) -> Result<(), Fail> {
     Ok(())
 }
 
+fn row(alloc: Global, rsn: u64, master: Option<u32>) -> Result<TableRow, Fail> {
+    let key = Key::new(alloc, b"b")?;
+    let value = Value::new(alloc, b"x")?;
+    Ok(TableRow {
+        db: 1,
+        key,
+        rsn,
+        value,
+        master,
+    })
+}
+
+fn rows(alloc: Global, rsn: u64, master: Option<u32>) -> Result<Items<TableRow>, Fail> {
+    let mut table = Items::empty(alloc);
+    table.push(row(alloc, rsn, master)?)?;
+    Ok(table)
+}
+
 /// What a member holds: the record `b`, with this RSN and data master.
 fn pull(alloc: Global, node: u32, vbase: u64, rsn: u64, master: Option<u32>) -> Result<Pull, Fail> {
-    let mut table = Vec::new(alloc);
-    table.push(TableRow {
-        db: 1,
-        key: Key::new(alloc, b"b")?,
-        rsn,
-        value: Value::new(alloc, b"x")?,
-        master,
-    })?;
+    let table = rows(alloc, rsn, master)?;
     Ok(Pull {
         node,
         vbase,
         pbase: 1,
-        table: Items::new(table),
+        table,
         ptables: Items::empty(alloc),
         addresses: Items::empty(alloc),
     })
+}
+
+fn first_row(body: &PushBody) -> Option<(u64, Option<u32>)> {
+    match body.table.as_slice().first() {
+        Some(row) => Some((row.rsn, row.master)),
+        None => None,
+    }
+}
+
+fn handed_out(body: Option<PushBody>) -> Option<(u64, Option<u32>)> {
+    match body {
+        Some(body) => first_row(&body),
+        None => None,
+    }
 }
 
 /// The RSN and the data master that the leader hands out, where it does.
@@ -104,13 +127,7 @@ fn pulled(leader: &mut Leader, pull: Pull) -> Result<Option<(u64, Option<u32>)>,
     if !is_in_order(&pull) {
         return Ok(None);
     }
-    let Some(body) = leader.pulled(pull)? else {
-        return Ok(None);
-    };
-    let Some(row) = body.table.as_slice().first() else {
-        return Ok(None);
-    };
-    Ok(Some((row.rsn, row.master)))
+    Ok(handed_out(leader.pulled(pull)?))
 }
 
 /// What comes to a leader.
@@ -136,6 +153,12 @@ fn completes(
         }
     };
     Ok(if ends { Some((0, None)) } else { None })
+}
+
+/// Is its copy in this stage, with these nodes missing?
+fn is_copied(it: &Leader, stage: Stage, missing: &[u32]) -> Result<bool, Fail> {
+    let copy = it.copy()?;
+    Ok(copy.stage() == stage && copy.missing() == missing)
 }
 
 #[test]
@@ -180,11 +203,8 @@ fn a_leader(rt: HostRuntime) -> Result<(), Fail> {
         ),
         (Told::Installed(2), None, Stage::Completed, [].as_slice()),
     ] {
-        let given = completes(rt.alloc(), &mut it, told)?;
-        assert!(rt; given == wanted);
-        let copy = it.copy()?;
-        assert!(rt; copy.stage() == stage);
-        assert_eq!(rt; copy.missing(), missing);
+        assert!(rt; completes(rt.alloc(), &mut it, told)? == wanted);
+        assert!(rt; is_copied(&it, stage, missing)?);
     }
     Ok(())
 }

@@ -8,73 +8,77 @@ use ct_values::key::Key;
 use ct_values::value::Value;
 use std::test::Fail;
 
-fn is_copied<T: Duplicate + PartialEq>(source: &T) -> Result<bool, Fail> {
-    Ok(source.duplicate()? == *source)
+/// Is its copy equal to it? It is let go.
+fn is_copied<T: Duplicate + PartialEq>(source: T) -> Result<bool, Fail> {
+    Ok(source.duplicate()? == source)
 }
 
 #[test]
 fn copies_of_parts(rt: HostRuntime) -> Result<(), Fail> {
-    let alloc = rt.alloc();
-    let entry = Entry {
-        holder: 1,
-        least: 2,
-        request: 3,
-        value: Value::new(alloc, b"v")?,
-    };
-    let wish = Wish {
-        call: 4,
-        request: 5,
-        op: ClientOp::Lock {
-            db: 1,
-            key: Key::new(alloc, b"k")?,
-        },
-    };
-    let place = Place {
-        me: 0,
-        lmaster: 1,
-        db: 2,
-        key: Key::new(alloc, b"k")?,
-        floor: 3,
-        readonly: true,
-    };
-    assert!(rt; is_copied(&entry)?);
-    assert!(rt; is_copied(&wish)?);
-    assert!(rt; is_copied(&place)?);
+    let value = Value::new(rt.alloc(), b"v")?;
+    assert!(rt;
+        is_copied(Entry {
+            holder: 1,
+            least: 2,
+            request: 3,
+            value,
+        })?
+    );
+    let key = Key::new(rt.alloc(), b"k")?;
+    let op = ClientOp::Lock { db: 1, key };
+    assert!(rt;
+        is_copied(Wish {
+            call: 4,
+            request: 5,
+            op,
+        })?
+    );
+    let key = Key::new(rt.alloc(), b"k")?;
+    assert!(rt;
+        is_copied(Place {
+            me: 0,
+            lmaster: 1,
+            db: 2,
+            key,
+            floor: 3,
+            readonly: true,
+        })?
+    );
     Ok(())
 }
 
 #[test]
 fn copies_of_events(rt: HostRuntime) -> Result<(), Fail> {
-    let alloc = rt.alloc();
-    let vacuum = MoveEvent::Vacuum {
-        others: Items::new(Vec::from_array(alloc, [0, 2])?),
-    };
-    let arrive = MoveEvent::Arrive {
-        sender: 1,
-        msg: Msg::Revoke {
-            db: 1,
-            key: Key::new(alloc, b"k")?,
-            rsn: 6,
-        },
-    };
-    let act = Act::Answer {
-        call: 3,
-        answer: Answer::Read(Value::new(alloc, b"v")?),
-    };
-    assert!(rt; is_copied(&vacuum)?);
-    assert!(rt; is_copied(&arrive)?);
-    assert!(rt; is_copied(&act)?);
+    let others = Items::new(Vec::from_array(rt.alloc(), [0, 2])?);
+    assert!(rt; is_copied(MoveEvent::Vacuum { others })?);
+    let key = Key::new(rt.alloc(), b"k")?;
+    let msg = Msg::Revoke { db: 1, key, rsn: 6 };
+    assert!(rt; is_copied(MoveEvent::Arrive { sender: 1, msg })?);
+    let answer = Answer::Read(Value::new(rt.alloc(), b"v")?);
+    assert!(rt; is_copied(Act::Answer { call: 3, answer })?);
     Ok(())
+}
+
+/// Is its copy locked so?
+fn is_copied_locked(state: &RecState, call: u64) -> Result<bool, Fail> {
+    let copied = state.copy()?;
+    let same = copied.locked == Some(call);
+    drop(copied);
+    Ok(same)
+}
+
+fn is_kept(state: &mut RecState) -> Result<bool, Fail> {
+    let blank = state.blank();
+    state.locked = Some(7);
+    Ok(blank && !state.blank() && is_copied_locked(state, 7)?)
 }
 
 #[test]
 fn what_is_kept(rt: HostRuntime) -> Result<(), Fail> {
     let mut state = RecState::new(rt.alloc());
-    assert!(rt; state.blank());
-    state.locked = Some(7);
-    assert!(rt; !state.blank());
-    let copied = state.copy()?;
-    assert!(rt; copied.locked == Some(7));
+    let is_kept = is_kept(&mut state);
+    drop(state);
+    assert!(rt; is_kept?);
     Ok(())
 }
 
@@ -92,7 +96,7 @@ fn copies_of_what_waits(rt: HostRuntime) -> Result<(), Fail> {
         request: 5,
         kind,
     };
-    assert!(rt; is_copied(&waiter)?);
-    assert!(rt; is_copied(&recall)?);
+    assert!(rt; is_copied(waiter)?);
+    assert!(rt; is_copied(recall)?);
     Ok(())
 }

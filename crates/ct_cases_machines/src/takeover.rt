@@ -24,49 +24,86 @@ fn placement(alloc: Global, node: u32) -> Result<Vec<Assigned>, Fail> {
     Ok(all)
 }
 
+/// Is it run 5 of two nodes and three addresses?
+fn is_begun(it: &Run) -> bool {
+    it.number() == 5
+        && it.members() == [0, 1].as_slice()
+        && it.missing() == [0, 1].as_slice()
+        && it.placement().len() == 3
+}
+
+fn shares_so(it: &Run, node: u32, wanted: &[Address]) -> Result<bool, Fail> {
+    Ok(it.share(node)?.as_slice() == wanted)
+}
+
+fn awaits_node_1(it: &mut Run) -> bool {
+    !it.acked(0, 4) && !it.acked(2, 5) && !it.acked(0, 5) && !it.acked(0, 5)
+}
+
+fn ends(it: &mut Run) -> bool {
+    it.acked(1, 5) && it.missing().is_empty() && !it.acked(1, 5)
+}
+
+fn ends_too(it: &mut Run) -> bool {
+    it.missing() == [1].as_slice() && it.acked(1, 5)
+}
+
 #[test]
 fn a_run(rt: HostRuntime) -> Result<(), Fail> {
-    let alloc = rt.alloc();
-    let mut it = Run::begin(alloc, 5, &[0, 1], placement(alloc, 0)?)?;
-    assert!(rt; it.number() == 5 && it.members() == [0, 1].as_slice());
-    assert!(rt; it.missing() == [0, 1].as_slice() && it.placement().len() == 3);
-    assert!(rt; it.share(0)?.as_slice() == [FIRST, LONG].as_slice());
-    assert!(rt; it.share(1)?.as_slice() == [SECOND].as_slice() && it.share(2)?.is_empty());
-    assert!(rt; !it.acked(0, 4) && !it.acked(2, 5) && !it.acked(0, 5) && !it.acked(0, 5));
+    let placement = placement(rt.alloc(), 0)?;
+    let mut it = Run::begin(rt.alloc(), 5, &[0, 1], placement)?;
+    assert!(rt; is_begun(&it));
+    assert!(rt; shares_so(&it, 0, &[FIRST, LONG])?);
+    assert!(rt; shares_so(&it, 1, &[SECOND])?);
+    assert!(rt; shares_so(&it, 2, &[])?);
+    assert!(rt; awaits_node_1(&mut it));
     let mut copy = it.copy()?;
-    assert!(rt; it.acked(1, 5) && it.missing().is_empty() && !it.acked(1, 5));
-    assert!(rt; copy.missing() == [1].as_slice() && copy.acked(1, 5));
+    assert!(rt; ends(&mut it));
+    assert!(rt; ends_too(&mut copy));
     Ok(())
+}
+
+fn holds(it: &Holder, held: &[Address], run: u64) -> bool {
+    it.held() == held && it.last_run() == run
+}
+
+/// Is it of a run that it obeys?
+fn releases(it: &mut Holder, run: u64, keep: &[Address]) -> Result<bool, Fail> {
+    Ok(it.release(run, keep)?.is_some())
+}
+
+const OWN: [Assigned; 2] = [
+    Assigned {
+        address: FIRST,
+        node: Some(0),
+    },
+    Assigned {
+        address: LONG,
+        node: Some(0),
+    },
+];
+
+/// Is it of a run that it obeys?
+fn takes(it: &mut Holder, run: u64) -> Result<bool, Fail> {
+    Ok(it.take(run, &OWN, 0)?.is_some())
+}
+
+fn gives_up(it: &mut Holder) -> Result<bool, Fail> {
+    let left = it.install(&[FIRST])?;
+    Ok(left.as_slice() == [LONG].as_slice())
 }
 
 #[test]
 fn a_holder(rt: HostRuntime) -> Result<(), Fail> {
     let mut it = Holder::new(rt.alloc());
-    assert!(rt; it.held().is_empty() && it.last_run() == 0);
-    let nothing = it.release(3, &[])?;
-    assert!(rt; nothing.is_some() && it.last_run() == 3);
-    let own = [
-        Assigned {
-            address: FIRST,
-            node: Some(0),
-        },
-        Assigned {
-            address: LONG,
-            node: Some(0),
-        },
-    ];
-    let dropped = it.take(2, &own, 0)?;
-    assert!(rt; dropped.is_none() && it.held().is_empty());
-    let took = it.take(3, &own, 0)?;
-    assert!(rt; took.is_some() && it.held() == [FIRST, LONG].as_slice());
+    assert!(rt; holds(&it, &[], 0));
+    assert!(rt; releases(&mut it, 3, &[])? && it.last_run() == 3);
+    assert!(rt; !takes(&mut it, 2)? && it.held().is_empty());
+    assert!(rt; takes(&mut it, 3)? && it.held() == [FIRST, LONG].as_slice());
     let copy = it.copy()?;
-    let late = it.release(2, &[FIRST])?;
-    assert!(rt; late.is_none() && it.held() == [FIRST, LONG].as_slice());
-    let given_up = it.release(4, &[SECOND, LONG])?;
-    assert!(rt; given_up.is_some() && it.held() == [LONG].as_slice() && it.last_run() == 4);
-    let left = it.install(&[FIRST])?;
-    assert!(rt; left.as_slice() == [LONG].as_slice());
-    assert!(rt; it.held().is_empty() && it.last_run() == 0);
-    assert!(rt; copy.held() == [FIRST, LONG].as_slice() && copy.last_run() == 3);
+    assert!(rt; !releases(&mut it, 2, &[FIRST])? && it.held() == [FIRST, LONG].as_slice());
+    assert!(rt; releases(&mut it, 4, &[SECOND, LONG])? && holds(&it, &[LONG], 4));
+    assert!(rt; gives_up(&mut it)? && holds(&it, &[], 0));
+    assert!(rt; holds(&copy, &[FIRST, LONG], 3));
     Ok(())
 }
