@@ -198,3 +198,35 @@ fn hashed_items(rt: HostRuntime) -> Result<(), Fail> {
     assert!(rt; hashed_keeps(rt.alloc())?);
     Ok(())
 }
+
+/// Six keys, put from the last one to the first, each with its place.
+fn puts_six(alloc: Global, store: &mut Store<u64>) -> Result<(), Fail> {
+    for place in 0..6u8 {
+        store.put(key(alloc, &[b'f' - place])?, u64::from(place))?;
+    }
+    Ok(())
+}
+
+fn is_pair(pair: (&Key, &u64), bytes: &[u8], item: u64) -> bool {
+    pair.0.bytes() == bytes && *pair.1 == item
+}
+
+fn are_even(some: &[(&Key, &u64)]) -> bool {
+    some.len() == 3
+        && is_pair(some[0], b"b", 4)
+        && is_pair(some[1], b"d", 2)
+        && is_pair(some[2], b"f", 0)
+}
+
+fn lists_even(store: &Store<u64>) -> Result<bool, Fail> {
+    let some = store.sorted_where(|item| *item % 2 == 0)?;
+    Ok(are_even(some.as_slice()))
+}
+
+#[test]
+fn items_that_pass(rt: HostRuntime) -> Result<(), Fail> {
+    let mut store = Store::new(rt.alloc());
+    puts_six(rt.alloc(), &mut store)?;
+    assert!(rt; lists_even(&store)?);
+    Ok(())
+}
