@@ -1,21 +1,26 @@
 //! The answers of boxes, links, books and seats, call by call.
+use ct_frame::frame::{Frame, Msg};
 use ct_links::book::{Book, LockStep};
 use ct_links::boxes::{Boxes, Taken};
-use ct_links::hub::{Hub, HubLink};
+use ct_links::hub::{Handed, Hub, HubLink};
 use ct_links::seats::{BookSeat, LockBook};
 use ct_outside::fault::{ReleaseFault, TakeFault};
-use ct_outside::link::{Link, Received};
 use ct_outside::lock::RecLock;
-use ct_values::items::Items;
 use ct_values::memory::NoMemory;
-use std::alloc::{AllocError, Global};
+use std::alloc::Global;
 use std::sync::Wait;
 use std::test::Fail;
 use std::thread;
 use std::thread::Threads;
 
-fn bytes(alloc: Global, list: &[u8]) -> Result<Items<u8>, AllocError> {
-    Ok(Items::new(Vec::from_slice(alloc, list)?))
+// A message, told from others by its generation.
+fn message(sender: u32, receiver: u32, generation: u64) -> Frame {
+    Frame {
+        generation,
+        receiver,
+        sender,
+        msg: Msg::Pull,
+    }
 }
 
 // What a node finds, if it has a box.
@@ -29,8 +34,8 @@ fn take(boxes: &mut Boxes, node: u32, may_wait: bool) -> Option<Taken> {
 
 // A call of boxes, with what it gives.
 enum Call {
-    Put(u32, u32, &'static [u8]),
-    Piece(u32, u32, &'static [u8]),
+    Put(u32, u32, u64),
+    Message(u32, u32, u64),
     Nothing(u32),
     Wait(u32),
     Closed(u32),
@@ -42,13 +47,13 @@ enum Call {
 fn boxes_answer(rt: HostRuntime) -> Result<(), Fail> {
     let runs: [&[Call]; 4] = [
         &[
-            Call::Put(0, 1, b"ab"),
-            Call::Put(2, 1, b"c"),
-            Call::Put(0, 3, b"lost"),
+            Call::Put(0, 1, 1),
+            Call::Put(2, 1, 2),
+            Call::Put(0, 3, 3),
             Call::Nothing(0),
             Call::Wait(0),
-            Call::Piece(1, 0, b"ab"),
-            Call::Piece(1, 2, b"c"),
+            Call::Message(1, 0, 1),
+            Call::Message(1, 2, 2),
             Call::Nothing(1),
             Call::Wait(1),
             Call::Closed(2),
@@ -59,30 +64,30 @@ fn boxes_answer(rt: HostRuntime) -> Result<(), Fail> {
             Call::Asleep(2, false),
             Call::Wait(2),
             Call::Asleep(2, true),
-            Call::Put(0, 2, b""),
+            Call::Put(0, 2, 4),
             Call::Asleep(2, false),
             Call::Leave(0),
             Call::Asleep(0, false),
             Call::Asleep(3, false),
             Call::Wait(1),
-            Call::Piece(2, 0, b""),
+            Call::Message(2, 0, 4),
             Call::Wait(1),
             Call::Closed(2),
             Call::Closed(1),
         ],
         &[
-            Call::Put(1, 0, b"kept"),
+            Call::Put(1, 0, 5),
             Call::Leave(0),
             Call::Leave(1),
             Call::Closed(2),
-            Call::Piece(0, 1, b"kept"),
+            Call::Message(0, 1, 5),
             Call::Wait(2),
         ],
         &[
-            Call::Put(1, 1, b"own"),
+            Call::Put(1, 1, 6),
             Call::Wait(0),
             Call::Wait(2),
-            Call::Piece(1, 1, b"own"),
+            Call::Message(1, 1, 6),
             Call::Closed(1),
             Call::Nothing(1),
         ],
@@ -91,15 +96,12 @@ fn boxes_answer(rt: HostRuntime) -> Result<(), Fail> {
         let mut boxes = Boxes::new(rt.alloc(), 3)?;
         for (number, call) in run.iter().enumerate() {
             match call {
-                Call::Put(sender, receiver, piece) => {
-                    let piece = Vec::from_slice(rt.alloc(), piece)?;
-                    assert_eq!(rt; boxes.put(*sender, *receiver, piece), Ok(()));
+                Call::Put(sender, receiver, generation) => {
+                    let frame = message(*sender, *receiver, *generation);
+                    assert_eq!(rt; boxes.put(frame), Ok(()));
                 }
-                Call::Piece(node, sender, piece) => {
-                    let want = Taken::Piece {
-                        sender: *sender,
-                        bytes: bytes(rt.alloc(), piece)?,
-                    };
+                Call::Message(node, sender, generation) => {
+                    let want = Taken::Message(message(*sender, *node, *generation));
                     let wait = number.is_multiple_of(2);
                     assert_eq!(rt; take(&mut boxes, *node, wait), Some(want), "call {number}");
                 }
@@ -140,21 +142,19 @@ fn a_link_hands_on_what_boxes_answer(rt: HostRuntime) -> Result<(), Fail> {
     let hub = Hub::new(&rt, rt.alloc(), 2)?;
     let mut first = hub.link(0);
     let mut second = hub.link(1);
-    for piece in [b"ab".as_slice(), b"c".as_slice()] {
-        assert!(rt; first.send(1, piece).is_ok());
+    for generation in [5, 6] {
+        assert!(rt; first.send(message(0, 1, generation)).is_ok());
     }
-    assert!(rt; first.send(2, b"lost").is_ok());
-    for want in [b"ab".as_slice(), b"c".as_slice()] {
-        match second.receive(false) {
-            Ok(Received::Piece { sender, bytes }) => {
-                assert_eq!(rt; (sender, bytes.as_slice()), (0, want));
-            }
-            _ => panic!(rt; "no piece came"),
-        }
+    assert!(rt; first.send(message(0, 2, 7)).is_ok());
+    for generation in [5, 6] {
+        assert_eq!(rt;
+            second.receive(false),
+            Handed::Message(message(0, 1, generation))
+        );
     }
-    assert!(rt; matches!(second.receive(false), Ok(Received::Nothing)));
+    assert_eq!(rt; second.receive(false), Handed::Nothing);
     drop(first);
-    assert!(rt; matches!(second.receive(true), Ok(Received::Closed)));
+    assert_eq!(rt; second.receive(true), Handed::Closed);
     Ok(())
 }
 
@@ -166,20 +166,20 @@ struct Desk<'h, 'b, 'r, R: Wait> {
     node: u32,
 }
 
-// Gives each piece back to its sender, shorter by one byte, until nothing will come any more. How many were there?
-fn echo<R: Wait, L: Link>(rt: &R, link: &mut L) -> Option<u64> {
+// Gives each message back to its sender, one generation earlier, until nothing will come any more. How many were there?
+fn echo<R: Wait>(rt: &R, link: &mut HubLink<'_, &R>) -> Option<u64> {
     let mut count = 0u64;
     for _ in rt.forever() {
         match link.receive(true) {
-            Ok(Received::Piece { sender, bytes }) => {
+            Handed::Message(frame) => {
                 count = count.saturating_add(1);
-                if bytes.len() > 1 {
-                    let rest = bytes.get(1..)?;
-                    link.send(sender, rest).ok()?;
+                if frame.generation > 1 {
+                    let back = message(frame.receiver, frame.sender, frame.generation - 1);
+                    link.send(back).ok()?;
                 }
             }
-            Ok(Received::Closed) => return Some(count),
-            _ => return None,
+            Handed::Closed => return Some(count),
+            Handed::Nothing => return None,
         }
     }
     unreachable!()
@@ -194,7 +194,7 @@ fn hold<L: RecLock>(lock: &mut L, node: u32) -> bool {
     }
 }
 
-// Two threads, of which the first begins with a piece.
+// Two threads, of which the first begins with a message.
 fn play<R: Threads + Wait + Sync>(rt: &R, alloc: Global) -> Result<Vec<Option<u64>>, NoMemory> {
     let hub = Hub::new(rt, alloc, 2)?;
     let book = LockBook::new(rt, alloc);
@@ -214,7 +214,7 @@ fn play<R: Threads + Wait + Sync>(rt: &R, alloc: Global) -> Result<Vec<Option<u6
                 mut seat,
                 node,
             } = desk;
-            if node == 0 && link.send(1, b"abcde").is_err() {
+            if node == 0 && link.send(message(0, 1, 5)).is_err() {
                 return None;
             }
             if !hold(&mut seat, node) {

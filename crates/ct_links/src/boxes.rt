@@ -1,11 +1,9 @@
-//! A box of pieces for each node.
+//! A box of messages for each node.
 ghost use Rattle.std.specs.Prelude.{◌≡◌, ◌<◌, ℕ, List, [], ◌∷◌, IfOk, OnOk, OnErr, MatchOption, length, slice_get, slice_set, Some, IsTrue, ◌↔◌};
-ghost use Rattle.ct_outside.specs.Links.{parcel};
-ghost use Rattle.ct_links.specs.Boxes.{fresh_box, fresh_boxes, all_quiet, answer_to, asleep_with, box_after, boxes_after, found, is_asleep, is_quiet, marked, marked_at, put_in, with_piece};
+ghost use Rattle.ct_links.specs.Boxes.{fresh_box, fresh_boxes, all_quiet, answer_to, asleep_with, box_after, boxes_after, found, is_asleep, is_quiet, marked, marked_at, put_in, with_frame};
 ghost use Rattle.ct_links.specs.declared.boxes.Mark.TheVariants.{Awake, Gone};
 
-use ct_outside::link::Piece;
-use ct_values::items::Items;
+use ct_frame::frame::Frame;
 use ct_values::memory::NoMemory;
 use std::alloc::Global;
 use std::collections::VecDeque;
@@ -14,9 +12,9 @@ use std::marker::Model;
 /// What a node is about.
 #[derive(Clone, Copy, Debug, PartialEq, Eq)]
 pub enum Mark {
-    /// It may put pieces.
+    /// It may put messages.
     Awake,
-    /// It found nothing when it last looked, and puts none before it finds a piece.
+    /// It found nothing when it last looked, and puts none before it finds a message.
     Waiting,
     /// It puts none any more.
     Gone,
@@ -25,7 +23,7 @@ pub enum Mark {
 /// What a node finds in its box.
 #[derive(Debug, Drop, PartialEq)]
 pub enum Taken {
-    Piece { sender: u32, bytes: Items<u8> },
+    Message(Frame),
     /// It may not wait.
     Nothing,
     /// Nothing will be put any more.
@@ -36,7 +34,7 @@ pub enum Taken {
 
 #[derive(Debug, Drop)]
 struct Slot {
-    pieces: VecDeque<Piece>,
+    frames: VecDeque<Frame>,
     mark: Mark,
 }
 
@@ -45,7 +43,7 @@ impl Model for Slot {
 
     ghost Value = { Mailbox };
 
-    ghost view = { λ a. record { pieces = a.pieces.items; mark = a.mark } };
+    ghost view = { λ a. record { frames = a.frames.items; mark = a.mark } };
 }
 
 impl Slot {
@@ -53,33 +51,30 @@ impl Slot {
         ensures { result ≡ fresh_box }
     {
         Slot {
-            pieces: VecDeque::new(alloc),
+            frames: VecDeque::new(alloc),
             mark: Mark::Awake,
         }
     }
 
-    fn append(&mut self, piece: Piece) -> Result<(), NoMemory>
-        ensures ok { OnOk result (self.new ≡ with_piece piece self.old) }
+    fn append(&mut self, frame: Frame) -> Result<(), NoMemory>
+        ensures ok { OnOk result (self.new ≡ with_frame frame self.old) }
         ensures err { OnErr result (self.new ≡ self.old) }
     {
-        match self.pieces.push_back(piece) {
+        match self.frames.push_back(frame) {
             Ok(()) => Ok(()),
             Err(_) => Err(NoMemory),
         }
     }
 
-    /// What the node finds, if it finds a piece or may not wait.
+    /// What the node finds, if it finds a message or may not wait.
     fn look(&mut self, may_wait: bool) -> Option<Taken>
-        ensures answer { result ≡ found may_wait self.old.pieces }
-        ensures after { self.new ≡ box_after may_wait self.old.pieces self.old }
+        ensures answer { result ≡ found may_wait self.old.frames }
+        ensures after { self.new ≡ box_after may_wait self.old.frames self.old }
     {
-        match self.pieces.pop_front() {
-            Some(Piece { node, bytes }) => {
+        match self.frames.pop_front() {
+            Some(frame) => {
                 self.mark = Mark::Awake;
-                Some(Taken::Piece {
-                    sender: node,
-                    bytes: Items::new(bytes),
-                })
+                Some(Taken::Message(frame))
             }
             None if may_wait => {
                 self.mark = Mark::Waiting;
@@ -96,9 +91,9 @@ impl Slot {
     }
 
     fn is_asleep(&self) -> bool
-        ensures { result ≡ asleep_with self.now.mark self.now.pieces }
+        ensures { result ≡ asleep_with self.now.mark self.now.frames }
     {
-        matches!(self.mark, Mark::Waiting) && self.pieces.is_empty()
+        matches!(self.mark, Mark::Waiting) && self.frames.is_empty()
     }
 
     fn is_quiet(&self) -> bool
@@ -106,7 +101,7 @@ impl Slot {
     {
         match self.mark {
             Mark::Awake => false,
-            Mark::Waiting => self.pieces.is_empty(),
+            Mark::Waiting => self.frames.is_empty(),
             Mark::Gone => true,
         }
     }
@@ -163,19 +158,16 @@ impl Boxes {
         }
     }
 
-    /// Puts a piece into the receiver's box. A piece for a node with no box is dropped. Without memory nothing is put.
-    pub fn put(&mut self, sender: u32, receiver: u32, bytes: Vec<u8>) -> Result<(), NoMemory>
-        ensures ok { OnOk result (self.new ≡ put_in sender receiver bytes.items self.old) }
+    /// Puts a message into its receiver's box. One for a node with no box is dropped. Without memory nothing is put.
+    pub fn put(&mut self, frame: Frame) -> Result<(), NoMemory>
+        ensures ok { OnOk result (self.new ≡ put_in frame self.old) }
         ensures err { OnErr result (self.new ≡ self.old) }
     {
+        let receiver = frame.receiver;
         if !self.has(receiver) {
             return Ok(());
         }
-        let piece = Piece {
-            node: sender,
-            bytes,
-        };
-        self.slots[receiver as usize].append(piece)
+        self.slots[receiver as usize].append(frame)
     }
 
     /// Looks into the node's box. Takes no memory.

@@ -1,25 +1,32 @@
 //! The boxes of a cluster, shared by threads.
-ghost use Rattle.std.specs.Prelude.{◌≡◌, ◌≢◌, ◌≤◌, ◌<◌, ◌+◌, ℕ, None, Ok, IfOk, OnOk, OnErr, is_ok, IsTrue, length, if◌then◌else◌};
+ghost use Rattle.std.specs.Prelude.{◌≡◌, ◌≢◌, ◌<◌, IfOk, IsTrue, length, if◌then◌else◌};
 ghost use Rattle.ct_outside.specs.Causes.{one_more};
-ghost use Rattle.ct_outside.specs.Links.{Looks, is_end, is_failure};
 ghost use Rattle.ct_outside.specs.Told.{RisesWhere};
-ghost use Rattle.ct_outside.specs.declared.link.Received.TheVariants as received;
 ghost use Rattle.ct_links.specs.Boxes.{answer_to, boxes_after};
+ghost use Rattle.ct_links.specs.Hub.{is_end};
+ghost use Rattle.ct_links.specs.declared.hub.Handed.TheVariants as handed;
 ghost use Rattle.ct_links.specs.declared.boxes.Taken.TheVariants as taken;
 
 use crate::boxes::{Boxes, Taken};
-use ct_outside::fault::LinkFault;
-use ct_outside::link::{Link, Received};
+use ct_frame::frame::Frame;
 use ct_values::memory::NoMemory;
 use std::alloc::Global;
 use std::marker::Model;
 use std::sync::{Condvar, Mutex, Wait};
 
+/// What a node's link hands on at a look.
+#[derive(Debug, Drop, PartialEq)]
+pub enum Handed {
+    Message(Frame),
+    Nothing,
+    /// Nothing will come any more.
+    Closed,
+}
+
 /// Boxes behind a lock of threads, and for each node a bell that is rung where the node may find more than before.
 #[derive(Drop)]
 pub struct Hub<R> {
     rt: R,
-    alloc: Global,
     nodes: u32,
     boxes: Mutex<Boxes>,
     bells: Vec<Condvar>,
@@ -45,7 +52,6 @@ impl<R: Drop> Hub<R> {
         }
         Ok(Hub {
             rt,
-            alloc,
             nodes,
             boxes: Mutex::new(boxes),
             bells,
@@ -70,12 +76,12 @@ impl<R> Hub<R> {
 }
 
 impl<R: Wait> Hub<R> {
-    /// Puts the piece into the receiver's box, under one hold of the lock. Is the receiver to be rung for? Where it waits and
-    /// its box was not empty, the node that put the first piece rings.
-    fn put(&self, sender: u32, receiver: u32, piece: Vec<u8>) -> Result<bool, NoMemory> {
+    /// Puts the message into its receiver's box, under one hold of the lock. Is the receiver to be rung for? Where it waits and
+    /// its box was not empty, the node that put the first message rings.
+    fn put(&self, frame: Frame) -> Result<bool, NoMemory> {
         let mut boxes = self.boxes.lock(&self.rt);
-        let asleep = boxes.is_asleep(receiver);
-        boxes.put(sender, receiver, piece)?;
+        let asleep = boxes.is_asleep(frame.receiver);
+        boxes.put(frame)?;
         Ok(asleep)
     }
 
@@ -110,7 +116,7 @@ fn look(boxes: &mut Boxes, node: u32, may_wait: bool) -> Taken
     }
 }
 
-/// One node's way to the others over a hub. It tells no pieces, since other threads put between two calls.
+/// One node's way to the others over a hub. It tells no messages, since other threads put between two calls.
 pub struct HubLink<'a, R: Wait> {
     hub: &'a Hub<R>,
     node: u32,
@@ -143,21 +149,21 @@ impl<'a, R: Wait> Drop for HubLink<'a, R> {
 }
 
 // What a node finds that has no box: nothing, and nothing will come. Every link has a box.
-fn no_box(may_wait: bool) -> Received
-    ensures waits { IsTrue may_wait → result ≢ received.Nothing }
-    ensures permitted { result ≡ received.Closed → IsTrue may_wait }
+fn no_box(may_wait: bool) -> Handed
+    ensures waits { IsTrue may_wait → result ≢ handed.Nothing }
+    ensures permitted { result ≡ handed.Closed → IsTrue may_wait }
 {
     if may_wait {
-        Received::Closed
+        Handed::Closed
     } else {
-        Received::Nothing
+        Handed::Nothing
     }
 }
 
 // Looks into the node's box until it finds something or need not wait any more.
-fn find<R: Wait>(hub: &Hub<R>, node: u32, may_wait: bool) -> Received
-    ensures waits { IsTrue may_wait → result ≢ received.Nothing }
-    ensures permitted { result ≡ received.Closed → IsTrue may_wait }
+fn find<R: Wait>(hub: &Hub<R>, node: u32, may_wait: bool) -> Handed
+    ensures waits { IsTrue may_wait → result ≢ handed.Nothing }
+    ensures permitted { result ≡ handed.Closed → IsTrue may_wait }
 {
     let Some(bell) = hub.bells.get(node as usize) else {
         return no_box(may_wait);
@@ -165,16 +171,11 @@ fn find<R: Wait>(hub: &Hub<R>, node: u32, may_wait: bool) -> Received
     let mut boxes = hub.boxes.lock(&hub.rt);
     for _ in hub.rt.forever() {
         match look(&mut boxes, node, may_wait) {
-            Taken::Piece { sender, bytes } => {
-                return Received::Piece {
-                    sender,
-                    bytes: bytes.into_vec(),
-                };
-            }
-            Taken::Nothing => return Received::Nothing,
+            Taken::Message(frame) => return Handed::Message(frame),
+            Taken::Nothing => return Handed::Nothing,
             Taken::Closed => {
                 hub.ring_all();
-                return Received::Closed;
+                return Handed::Closed;
             }
             Taken::Wait => boxes = bell.wait(&hub.rt, boxes),
         }
@@ -182,51 +183,35 @@ fn find<R: Wait>(hub: &Hub<R>, node: u32, may_wait: bool) -> Received
     unreachable!()
 }
 
-impl<'a, R: Wait> Link for HubLink<'a, R> {
-    ghost pieces = { λ _. None };
-
-    ghost faults = { λ _. 0 };
-
-    ghost endings = { λ s. s.endings };
-
-    ghost looks = { λ s. s.looks };
-
-    ghost permissions = { λ _. None };
-
-    /// Puts the piece into the receiver's box, under one hold of the hub's lock.
-    fn send(&mut self, to: u32, bytes: &[u8]) -> Result<(), LinkFault>
-        ensures cause { RisesWhere (is_failure result) 0 0 }
-        ensures endings { self.old.endings ≤ self.new.endings }
-        ensures looks { self.new.looks ≡ self.old.looks }
-        ensures counts { self.new ≡ self.old }
+impl<'a, R: Wait> HubLink<'a, R> {
+    /// Puts the message into its receiver's box, under one hold of the hub's lock. One for a node with no box is dropped.
+    pub fn send(&mut self, frame: Frame) -> Result<(), NoMemory>
+        ensures { self.new ≡ self.old }
     {
         let hub = self.hub;
-        let piece = Vec::from_slice(hub.alloc, bytes)?;
-        match hub.put(self.node, to, piece) {
-            Ok(true) => hub.ring(to),
-            Ok(false) => {}
-            Err(NoMemory) => return Err(LinkFault::NoMemory),
+        let to = frame.receiver;
+        if hub.put(frame)? {
+            hub.ring(to);
         }
         Ok(())
     }
 
-    /// Each look is one hold of the hub's lock. With permission to wait the link never answers that there is nothing.
-    fn receive(&mut self, may_wait: bool) -> Result<Received, LinkFault>
-        ensures cause { RisesWhere (is_failure result) 0 0 }
+    /// Looks for the first message that waits: each look is one hold of the hub's lock. With permission to wait the link never
+    /// answers that there is nothing, and only with it that nothing will come any more.
+    pub fn receive(&mut self, may_wait: bool) -> Handed
         ensures ended { RisesWhere (is_end result) self.old.endings self.new.endings }
-        ensures permitted { IsTrue (is_end result) → IsTrue may_wait }
-        ensures looked { Looks (is_ok result) self.old.looks self.new.looks }
-        ensures waits { IsTrue may_wait → result ≢ Ok received.Nothing }
+        ensures permitted { result ≡ handed.Closed → IsTrue may_wait }
+        ensures waits { IsTrue may_wait → result ≢ handed.Nothing }
         ensures counts { self.new ≡ record {
           endings = if is_end result then one_more self.old.endings else self.old.endings;
-          looks = if is_ok result then one_more self.old.looks else self.old.looks;
+          looks = one_more self.old.looks;
         } }
     {
         let answer = find(self.hub, self.node, may_wait);
-        if let Received::Closed = answer {
+        if let Handed::Closed = answer {
             self.endings = self.endings.saturating_add(1);
         }
         self.looks = self.looks.saturating_add(1);
-        Ok(answer)
+        answer
     }
 }

@@ -1,6 +1,6 @@
 //! Links between nodes: of threads in one program, and of TCP streams.
 //!
-//! What stands between the threads of a cluster: the boxes that carry pieces from node to node, and the book of the
+//! What stands between the threads of a cluster: the boxes that carry messages from node to node, and the book of the
 //! recovery lock, each a value of one thread, and each behind a lock that threads share.
 //!
 //! The link of a node over streams that do not block, as TCP's are: one stream for each other node, and a queue for what
