@@ -1,6 +1,7 @@
 pub mod Leaving
 pub mod Joining
 pub mod Serving
+pub mod Seating
 pub mod Settling
 pub mod Threading
 pub mod Meshing

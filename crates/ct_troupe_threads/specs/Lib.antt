@@ -1,5 +1,6 @@
 pub mod Meshed
 pub mod Meshes
+pub mod Seated
 pub mod Threaded
 pub mod Threads
 pub mod Sides

@@ -5,7 +5,7 @@ ghost use Rattle.ct_script.specs.Sound.{IsSound, script_of};
 ghost use Rattle.ct_actor_serving.specs.Serving.{of_link};
 ghost use Rattle.ct_troupe_threads.specs.Threaded.{HasServed, ServedFor};
 
-use crate::settled::MOST_ENTRIES;
+use crate::seated::serve_seated;
 use ct_actor::node::Node;
 use ct_actor_serving::fault::{ServeFault, Until};
 use ct_actor_serving::serve::serve_until;
@@ -86,22 +86,12 @@ pub fn serve_beside<R: Wait, G: Gate>(
 {
     let mut link = hub.link(node);
     let mut seat = book.seat();
-    let until = Until::Entries(MOST_ENTRIES);
     match gates.get(node as usize) {
         Some(gate) => {
             let mut gate = gate.lock(rt);
-            serve_plan(
-                alloc,
-                table,
-                plan,
-                &mut link,
-                &mut seat,
-                &mut **gate,
-                node,
-                until,
-            )
+            serve_seated(alloc, table, plan, &mut link, &mut seat, &mut **gate, node)
         }
-        None => serve_plan(
+        None => serve_seated(
             alloc,
             table,
             plan,
@@ -109,7 +99,6 @@ pub fn serve_beside<R: Wait, G: Gate>(
             &mut seat,
             &mut OpenGate,
             node,
-            until,
         ),
     }
 }

@@ -39,6 +39,7 @@ pub mod loopback;
 pub mod mesh;
 pub mod meshed;
 mod node;
+mod seated;
 pub mod settled;
 pub mod side;
 pub mod threaded;
