@@ -14,7 +14,7 @@ use Rattle.ct_promise.specs.Marked.{MarksRun, no_marks}
 use Rattle.ct_promise.specs.Promises.{Keeps}
 use Rattle.ct_register.specs.Lines as lines
 use Rattle.ct_world.specs.World.{World}
-use Rattle.ct_traverse.specs.Walk.{no_walk}
+use Rattle.ct_play.specs.Session.{start}
 use Rattle.ct_law_traverse.specs.Told.{TraversesRun}
 use Rattle.ct_play.specs.Course.{Deed, moves_of, printed, steps_of}
 use Rattle.ct_play.specs.Play.{AreMovesOf, Run, pending_text_of, played, rest}
@@ -87,7 +87,7 @@ abbrev pub KeepsPromise : Rules → Option World → List Deed → Type 0
 KeepsPromise rules None deeds = deeds ≡ []
 KeepsPromise rules (Some w) deeds = let run = ran w.config rules (opening w.config) [] (steps_of deeds) in
     IsConfig w.config × (run.cluster ≡ w.cluster) × (run.lines ≡ printed deeds) × Keeps w.config rules run × MarksRun w.config rules (opening w.config) [] (lines.opening w.config) (λ g. no_marks) (steps_of deeds) ×
-    TraversesRun w.config rules (opening w.config) [] no_walk (lines.opening w.config) (λ g. no_marks) (λ k. []) (moves_of deeds)
+    TraversesRun w.config rules (opening w.config) [] start.walker (lines.opening w.config) (λ g. no_marks) (λ k. []) (moves_of deeds)
 
 -- The bytes that were taken are a front of what the source had left. Out holds what the end says of them, and whatever the end
 -- is, their run keeps the promise, and its moves, those of traverses too, print and tell what was printed and told.

@@ -14,7 +14,7 @@ ghost use Rattle.ct_words.specs.declared.words.ChainNumbers.{ChainNumbers as Cut
 ghost use Rattle.ct_words.specs.declared.words.PlanNumbers.{PlanNumbers as Numbers};
 ghost use Rattle.ct_troupe_run.specs.Chains.{RunsColumns};
 ghost use Rattle.ct_words.specs.declared.words.Word.TheVariants as word;
-ghost use Rattle.ct_main.specs.Claims.{HasEndCause, Plays, Refuses, Reports, SoakEnds, asked, asks_bus, asks_troupe, bus_end, bus_wanted_by, cluster_message, cluster_status, cut_wanted_by, message, placed_end, status, wanted_by};
+ghost use Rattle.ct_main.specs.Claims as claims;
 ghost use Rattle.ct_main.specs.declared.player.End.{End as Ended};
 
 use crate::run::run;
@@ -55,54 +55,54 @@ pub fn answer<S: Source, K: Sink, E: Sink, T: Troupe + Columns, B: BusTroupe>(
     requires columns_ready { T.columns_ready troupe.old }
     requires bus_ready { B.ready bus.old }
     // The words behind the name say `play`: bytes that came in were played, and err and the answer say how that ended.
-    ensures play { asked (drop 1 all.now) ≡ Some word.Play → (e : Ended)
-        × Plays (rules_of table.now) e (S.left input.old) (S.left input.new) (K.held out.old) (K.held out.new)
-        × HasEndCause e (S.faults input.old) (S.faults input.new) (K.faults out.old) (K.faults out.new)
-        × Reports (message e) (status e) (exit_status result) (E.held err.old) (E.held err.new) (E.faults err.old) (E.faults err.new) }
+    ensures play { claims.asked (drop 1 all.now) ≡ Some word.Play → (e : Ended)
+        × claims.Plays (rules_of table.now) e (S.left input.old) (S.left input.new) (K.held out.old) (K.held out.new)
+        × claims.HasEndCause e (S.faults input.old) (S.faults input.new) (K.faults out.old) (K.faults out.new)
+        × claims.Reports (claims.message e) (claims.status e) (exit_status result) (E.held err.old) (E.held err.new) (E.faults err.old) (E.faults err.new) }
     // The words say `lcp2`: the input's lines were read, and the placement printed.
-    ensures lcp2 { asked (drop 1 all.now) ≡ Some word.Lcp2 → (e : PlacingEnd)
+    ensures lcp2 { claims.asked (drop 1 all.now) ≡ Some word.Lcp2 → (e : PlacingEnd)
         × Places e (S.left input.old) (S.left input.new) (K.held out.old) (K.held out.new)
-        × HasEndCause (placed_end e) (S.faults input.old) (S.faults input.new) (K.faults out.old) (K.faults out.new)
-        × Reports (message (placed_end e)) (status (placed_end e)) (exit_status result) (E.held err.old) (E.held err.new) (E.faults err.old) (E.faults err.new) }
+        × claims.HasEndCause (claims.placed_end e) (S.faults input.old) (S.faults input.new) (K.faults out.old) (K.faults out.new)
+        × claims.Reports (claims.message (claims.placed_end e)) (claims.status (claims.placed_end e)) (exit_status result) (E.held err.old) (E.held err.new) (E.faults err.old) (E.faults err.new) }
     // The words say `soak`, with a seed and a number of steps: nothing was read, and the line that counts them printed.
-    ensures soak { (seed steps : ℕ) → asked (drop 1 all.now) ≡ Some (word.Soak seed steps) → (e : Ended)
-        × SoakEnds (rules_of table.now) (seed, steps) e (K.held out.old) (K.held out.new)
-        × HasEndCause e (S.faults input.old) (S.faults input.new) (K.faults out.old) (K.faults out.new)
-        × Reports (message e) (status e) (exit_status result) (E.held err.old) (E.held err.new) (E.faults err.old) (E.faults err.new)
+    ensures soak { (seed steps : ℕ) → claims.asked (drop 1 all.now) ≡ Some (word.Soak seed steps) → (e : Ended)
+        × claims.SoakEnds (rules_of table.now) (seed, steps) e (K.held out.old) (K.held out.new)
+        × claims.HasEndCause e (S.faults input.old) (S.faults input.new) (K.faults out.old) (K.faults out.new)
+        × claims.Reports (claims.message e) (claims.status e) (exit_status result) (E.held err.old) (E.held err.new) (E.faults err.old) (E.faults err.new)
         × (input.new ≡ input.old) }
     // The words say `cluster`, with the numbers of a plan: the troupe played that plan, and the text of a schedule of its
     // journals was printed; nothing was read.
-    ensures cluster { (p : Numbers) → asked (drop 1 all.now) ≡ Some (word.Cluster p) → (e : Ran)
-        × Runs (rules_of table.now) (wanted_by false p) e (T.told troupe.new) (K.held out.old) (K.held out.new)
+    ensures cluster { (p : Numbers) → claims.asked (drop 1 all.now) ≡ Some (word.Cluster p) → (e : Ran)
+        × Runs (rules_of table.now) (claims.wanted_by false p) e (T.told troupe.new) (K.held out.old) (K.held out.new)
         × HasRunCause e (T.faults troupe.old) (T.faults troupe.new) (K.faults out.old) (K.faults out.new)
-        × Reports (cluster_message e) (cluster_status e) (exit_status result) (E.held err.old) (E.held err.new) (E.faults err.old) (E.faults err.new)
+        × claims.Reports (claims.cluster_message e) (claims.cluster_status e) (exit_status result) (E.held err.old) (E.held err.new) (E.faults err.old) (E.faults err.new)
         × (input.new ≡ input.old) }
     // The words say `loopback`: the same, with nodes that talk over sockets.
-    ensures loopback { (p : Numbers) → asked (drop 1 all.now) ≡ Some (word.Loopback p) → (e : Ran)
-        × Runs (rules_of table.now) (wanted_by true p) e (T.told troupe.new) (K.held out.old) (K.held out.new)
+    ensures loopback { (p : Numbers) → claims.asked (drop 1 all.now) ≡ Some (word.Loopback p) → (e : Ran)
+        × Runs (rules_of table.now) (claims.wanted_by true p) e (T.told troupe.new) (K.held out.old) (K.held out.new)
         × HasRunCause e (T.faults troupe.old) (T.faults troupe.new) (K.faults out.old) (K.faults out.new)
-        × Reports (cluster_message e) (cluster_status e) (exit_status result) (E.held err.old) (E.held err.new) (E.faults err.old) (E.faults err.new)
+        × claims.Reports (claims.cluster_message e) (claims.cluster_status e) (exit_status result) (E.held err.old) (E.held err.new) (E.faults err.old) (E.faults err.new)
         × (input.new ≡ input.old) }
     // The words say `chains`, with the numbers of a plan that is cut: the troupe played its columns, and the texts of schedules of
     // their journals were printed, one after the other; nothing was read.
-    ensures chains { (p : CutNumbers) → asked (drop 1 all.now) ≡ Some (word.Chains p) → (e : Ran)
-        × RunsColumns (rules_of table.now) (cut_wanted_by p) e (T.told_in troupe.new) (K.held out.old) (K.held out.new)
+    ensures chains { (p : CutNumbers) → claims.asked (drop 1 all.now) ≡ Some (word.Chains p) → (e : Ran)
+        × RunsColumns (rules_of table.now) (claims.cut_wanted_by p) e (T.told_in troupe.new) (K.held out.old) (K.held out.new)
         × HasRunCause e (T.column_faults troupe.old) (T.column_faults troupe.new) (K.faults out.old) (K.faults out.new)
-        × Reports (cluster_message e) (cluster_status e) (exit_status result) (E.held err.old) (E.held err.new) (E.faults err.old) (E.faults err.new)
+        × claims.Reports (claims.cluster_message e) (claims.cluster_status e) (exit_status result) (E.held err.old) (E.held err.new) (E.faults err.old) (E.faults err.new)
         × (input.new ≡ input.old) }
     // The words say `bus`, with the numbers of an exchange: the bus exchanged the messages that the seed makes, and the text of what
     // was handled was printed; nothing was read.
-    ensures bus { (p : Exchanged) → asked (drop 1 all.now) ≡ Some (word.Bus p) → (e : ExchangeEnd)
-        × BusEnds (handled_by handlers.now) (bus_wanted_by p) e (K.held out.old) (K.held out.new)
+    ensures bus { (p : Exchanged) → claims.asked (drop 1 all.now) ≡ Some (word.Bus p) → (e : ExchangeEnd)
+        × BusEnds (handled_by handlers.now) (claims.bus_wanted_by p) e (K.held out.old) (K.held out.new)
         × HasBusCause e (B.exchanges bus.old) (B.exchanges bus.new) (K.faults out.old) (K.faults out.new)
-        × Reports (message (bus_end e)) (status (bus_end e)) (exit_status result) (E.held err.old) (E.held err.new) (E.faults err.old) (E.faults err.new)
+        × claims.Reports (claims.message (claims.bus_end e)) (claims.status (claims.bus_end e)) (exit_status result) (E.held err.old) (E.held err.new) (E.faults err.old) (E.faults err.new)
         × (input.new ≡ input.old) }
     // For all other words the troupe plays nothing.
-    ensures aside { asks_troupe (asked (drop 1 all.now)) ≡ false → troupe.new ≡ troupe.old }
+    ensures aside { claims.asks_troupe (claims.asked (drop 1 all.now)) ≡ false → troupe.new ≡ troupe.old }
     // For all other words than `bus` the bus exchanges nothing.
-    ensures bus_aside { asks_bus (asked (drop 1 all.now)) ≡ false → bus.new ≡ bus.old }
+    ensures bus_aside { claims.asks_bus (claims.asked (drop 1 all.now)) ≡ false → bus.new ≡ bus.old }
     // The words have no reading: nothing was read or printed, and err says so, or that memory was wanting.
-    ensures usage { asked (drop 1 all.now) ≡ None → Refuses (exit_status result) (E.held err.old) (E.held err.new) (E.faults err.old) (E.faults err.new)
+    ensures usage { claims.asked (drop 1 all.now) ≡ None → claims.Refuses (exit_status result) (E.held err.old) (E.held err.new) (E.faults err.old) (E.faults err.new)
         × (input.new ≡ input.old) × (out.new ≡ out.old) }
 {
     ExitCode::from(run(

@@ -5,7 +5,7 @@ ghost use Rattle.ct_outside.specs.Causes.{AppendsPart};
 ghost use Rattle.ct_call.specs.Shown.{rules_of};
 ghost use Rattle.ct_outside.specs.Causes.{Rose};
 ghost use Rattle.ct_main.specs.Claims.{HasEndCause, Plays};
-ghost use Rattle.ct_main.specs.Feeding.{Feeds, Finishes, HasStopCause, Prints, TurnCause, Turns, end_of};
+ghost use Rattle.ct_main.specs.Feeding as feeding;
 ghost use Rattle.ct_main.specs.declared.player.End.TheVariants as ended;
 
 use ct_call::table::CallTable;
@@ -98,8 +98,8 @@ pub struct Player {
 
 /// Prints texts, each by one write where the sink takes it whole.
 fn print<K: Sink>(texts: &[Items<u8>], out: &mut K) -> Result<(), Stop>
-    ensures prints { Prints result texts.now (K.held out.old) (K.held out.new) }
-    ensures cause { HasStopCause (K.faults out.old) (K.faults out.new) result }
+    ensures prints { feeding.Prints result texts.now (K.held out.old) (K.held out.new) }
+    ensures cause { feeding.HasStopCause (K.faults out.old) (K.faults out.new) result }
 {
     for text in texts {
         if let Err(fault) = write_all(out, text.as_slice()) {
@@ -114,8 +114,8 @@ impl Player {
     fn end<K: Sink>(&mut self, alloc: Global, table: &CallTable, out: &mut K) -> Result<(), Stop>
         requires count { self.old.count + 1 < 2 ^ 64 }
         requires line { length self.old.line ≤ 65535 }
-        ensures feeds { Feeds (rules_of table.now) result self.old (10 ∷ []) self.new (K.held out.old) (K.held out.new) }
-        ensures cause { HasStopCause (K.faults out.old) (K.faults out.new) result }
+        ensures feeds { feeding.Feeds (rules_of table.now) result self.old (10 ∷ []) self.new (K.held out.old) (K.held out.new) }
+        ensures cause { feeding.HasStopCause (K.faults out.old) (K.faults out.new) result }
         ensures count { self.new.count ≤ self.old.count + 1 }
         ensures line { length self.new.line ≤ 65535 }
     {
@@ -140,8 +140,8 @@ impl Player {
     ) -> Result<(), Stop>
         requires count { self.old.count + 1 < 2 ^ 64 }
         requires line { length self.old.line ≤ 65535 }
-        ensures feeds { Feeds (rules_of table.now) result self.old (x ∷ []) self.new (K.held out.old) (K.held out.new) }
-        ensures cause { HasStopCause (K.faults out.old) (K.faults out.new) result }
+        ensures feeds { feeding.Feeds (rules_of table.now) result self.old (x ∷ []) self.new (K.held out.old) (K.held out.new) }
+        ensures cause { feeding.HasStopCause (K.faults out.old) (K.faults out.new) result }
         ensures count { self.new.count ≤ self.old.count + 1 }
         ensures line { length self.new.line ≤ 65535 }
     {
@@ -164,8 +164,8 @@ impl Player {
     ) -> Result<(), Stop>
         requires count { self.old.count + length bytes.now < 2 ^ 64 }
         requires line { length self.old.line ≤ 65535 }
-        ensures feeds { Feeds (rules_of table.now) result self.old bytes.now self.new (K.held out.old) (K.held out.new) }
-        ensures cause { HasStopCause (K.faults out.old) (K.faults out.new) result }
+        ensures feeds { feeding.Feeds (rules_of table.now) result self.old bytes.now self.new (K.held out.old) (K.held out.new) }
+        ensures cause { feeding.HasStopCause (K.faults out.old) (K.faults out.new) result }
         ensures count { self.new.count ≤ self.old.count + length bytes.now }
         ensures line { length self.new.line ≤ 65535 }
     {
@@ -181,7 +181,7 @@ impl Player {
     /// The input has no more: after a line feed the calls that wait are told.
     fn finish<K: Sink>(&self, alloc: Global, out: &mut K) -> End
         requires { self.now.count + 1 < 2 ^ 64 }
-        ensures ends { Finishes result self.now (K.held out.old) (K.held out.new) }
+        ensures ends { feeding.Finishes result self.now (K.held out.old) (K.held out.new) }
         ensures later { K.faults out.old ≤ K.faults out.new }
         ensures failed { result ≡ ended.WriteFault → Rose (K.faults out.old) (K.faults out.new) }
     {
@@ -202,7 +202,7 @@ impl Player {
 
     fn end_of(&self, stop: Stop) -> End
         requires { self.now.count + 1 < 2 ^ 64 }
-        ensures { result ≡ end_of stop self.now.count }
+        ensures { result ≡ feeding.end_of stop self.now.count }
     {
         match stop {
             Stop::Refused(what) => End::Refused {
@@ -226,8 +226,8 @@ impl Player {
         requires room { 0 < length buffer.old }
         requires count { self.old.count + length buffer.old + 1 < 2 ^ 64 }
         requires line { length self.old.line ≤ 65535 }
-        ensures turns { Turns (rules_of table.now) result (length buffer.old) self.old self.new (S.left input.old) (S.left input.new) (K.held out.old) (K.held out.new) }
-        ensures cause { TurnCause result (S.faults input.old) (S.faults input.new) (K.faults out.old) (K.faults out.new) }
+        ensures turns { feeding.Turns (rules_of table.now) result (length buffer.old) self.old self.new (S.left input.old) (S.left input.new) (K.held out.old) (K.held out.new) }
+        ensures cause { feeding.TurnCause result (S.faults input.old) (S.faults input.new) (K.faults out.old) (K.faults out.new) }
         ensures count { IfOk result (λ n. self.new.count ≤ self.old.count + n) }
         ensures line { length self.new.line ≤ 65535 }
     {

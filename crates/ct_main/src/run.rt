@@ -14,7 +14,7 @@ ghost use Rattle.ct_words.specs.declared.words.ChainNumbers.{ChainNumbers as Cut
 ghost use Rattle.ct_words.specs.declared.words.PlanNumbers.{PlanNumbers as Numbers};
 ghost use Rattle.ct_troupe_run.specs.Chains.{RunsColumns};
 ghost use Rattle.ct_words.specs.declared.words.Word.TheVariants as word;
-ghost use Rattle.ct_main.specs.Claims.{HasEndCause, Plays, Refuses, Reports, SoakEnds, asked, asks_bus, asks_troupe, bus_end, bus_wanted_by, cluster_message, cluster_status, cut_wanted_by, message, placed_end, status, wanted_by};
+ghost use Rattle.ct_main.specs.Claims as claims;
 ghost use Rattle.ct_main.specs.declared.player.End.{End as Ended};
 ghost use Rattle.ct_main.specs.declared.player.End.TheVariants as ended;
 
@@ -42,7 +42,7 @@ use std::alloc::Global;
 
 /// The line that err gets.
 fn message(alloc: Global, end: End) -> Result<Vec<u8>, NoMemory>
-    ensures { IfOk result (λ v. v.items ≡ message end) }
+    ensures { IfOk result (λ v. v.items ≡ claims.message end) }
 {
     let mut text = Vec::new(alloc);
     match end {
@@ -66,7 +66,7 @@ fn message(alloc: Global, end: End) -> Result<Vec<u8>, NoMemory>
 }
 
 fn status(end: End) -> u8
-    ensures { result ≡ status end }
+    ensures { result ≡ claims.status end }
 {
     match end {
         End::Read => 0,
@@ -80,7 +80,7 @@ fn status(end: End) -> u8
 
 /// Writes a line to err, and answers the status.
 fn say<E: Sink>(line: &[u8], wanted: u8, err: &mut E) -> u8
-    ensures { Reports line.now wanted result (E.held err.old) (E.held err.new) (E.faults err.old) (E.faults err.new) }
+    ensures { claims.Reports line.now wanted result (E.held err.old) (E.held err.new) (E.faults err.old) (E.faults err.new) }
 {
     match write_all(err, line) {
         Ok(()) => wanted,
@@ -91,7 +91,7 @@ fn say<E: Sink>(line: &[u8], wanted: u8, err: &mut E) -> u8
 
 /// Says on err how a play ended, and answers the status.
 fn report<E: Sink>(alloc: Global, end: End, err: &mut E) -> u8
-    ensures { Reports (message end) (status end) result (E.held err.old) (E.held err.new) (E.faults err.old) (E.faults err.new) }
+    ensures { claims.Reports (claims.message end) (claims.status end) result (E.held err.old) (E.held err.new) (E.faults err.old) (E.faults err.new) }
 {
     match message(alloc, end) {
         Ok(line) => say(line.as_slice(), status(end), err),
@@ -101,7 +101,7 @@ fn report<E: Sink>(alloc: Global, end: End, err: &mut E) -> u8
 
 /// The end of a placement as the program's.
 fn placed_end(end: PlacerEnd) -> End
-    ensures { result ≡ placed_end end }
+    ensures { result ≡ claims.placed_end end }
 {
     match end {
         PlacerEnd::Read => End::Read,
@@ -118,7 +118,7 @@ fn placed_end(end: PlacerEnd) -> End
 
 /// The end of an exchange as the program's.
 fn bus_end(end: BusEnd) -> End
-    ensures { result ≡ bus_end end }
+    ensures { result ≡ claims.bus_end end }
 {
     match end {
         BusEnd::Done => End::Read,
@@ -129,7 +129,7 @@ fn bus_end(end: BusEnd) -> End
 
 /// Takes the steps of a soak, and prints the line that counts them.
 fn soak_end<K: Sink>(alloc: Global, table: &CallTable, seed: u64, steps: u32, out: &mut K) -> End
-    ensures ends { SoakEnds (rules_of table.now) (seed, steps) result (K.held out.old) (K.held out.new) }
+    ensures ends { claims.SoakEnds (rules_of table.now) (seed, steps) result (K.held out.old) (K.held out.new) }
     ensures later { K.faults out.old ≤ K.faults out.new }
     ensures failed { result ≡ ended.WriteFault → Rose (K.faults out.old) (K.faults out.new) }
 {
@@ -146,7 +146,7 @@ fn soak_end<K: Sink>(alloc: Global, table: &CallTable, seed: u64, steps: u32, ou
 
 /// What is to be played, by the numbers of the words.
 fn wanted_by(net: bool, numbers: &PlanNumbers) -> Wanted
-    ensures { result ≡ wanted_by net numbers.now }
+    ensures { result ≡ claims.wanted_by net numbers.now }
 {
     Wanted {
         nodes: numbers.nodes,
@@ -158,7 +158,7 @@ fn wanted_by(net: bool, numbers: &PlanNumbers) -> Wanted
 
 /// What is to be played in columns, by the numbers of the words.
 fn cut_wanted_by(numbers: &ChainNumbers) -> CutWanted
-    ensures { result ≡ cut_wanted_by numbers.now }
+    ensures { result ≡ claims.cut_wanted_by numbers.now }
 {
     CutWanted {
         nodes: numbers.nodes,
@@ -170,7 +170,7 @@ fn cut_wanted_by(numbers: &ChainNumbers) -> CutWanted
 
 /// Says on err how a cluster ended, and answers the status.
 fn report_cluster<E: Sink>(alloc: Global, end: ClusterEnd, err: &mut E) -> u8
-    ensures { Reports (cluster_message end) (cluster_status end) result (E.held err.old) (E.held err.new) (E.faults err.old) (E.faults err.new) }
+    ensures { claims.Reports (claims.cluster_message end) (claims.cluster_status end) result (E.held err.old) (E.held err.new) (E.faults err.old) (E.faults err.new) }
 {
     match end {
         ClusterEnd::Done => report(alloc, End::Read, err),
@@ -200,54 +200,54 @@ pub fn run<S: Source, K: Sink, E: Sink, T: Troupe + Columns, B: BusTroupe>(
     requires columns_ready { T.columns_ready troupe.old }
     requires bus_ready { B.ready bus.old }
     // The words say `play`: bytes that came in were played, and err and the answer say how that ended.
-    ensures play { asked words.now ≡ Some word.Play → (e : Ended)
-        × Plays (rules_of table.now) e (S.left input.old) (S.left input.new) (K.held out.old) (K.held out.new)
-        × HasEndCause e (S.faults input.old) (S.faults input.new) (K.faults out.old) (K.faults out.new)
-        × Reports (message e) (status e) result (E.held err.old) (E.held err.new) (E.faults err.old) (E.faults err.new) }
+    ensures play { claims.asked words.now ≡ Some word.Play → (e : Ended)
+        × claims.Plays (rules_of table.now) e (S.left input.old) (S.left input.new) (K.held out.old) (K.held out.new)
+        × claims.HasEndCause e (S.faults input.old) (S.faults input.new) (K.faults out.old) (K.faults out.new)
+        × claims.Reports (claims.message e) (claims.status e) result (E.held err.old) (E.held err.new) (E.faults err.old) (E.faults err.new) }
     // The words say `lcp2`: the input's lines were read, and the placement printed.
-    ensures lcp2 { asked words.now ≡ Some word.Lcp2 → (e : PlacingEnd)
+    ensures lcp2 { claims.asked words.now ≡ Some word.Lcp2 → (e : PlacingEnd)
         × Places e (S.left input.old) (S.left input.new) (K.held out.old) (K.held out.new)
-        × HasEndCause (placed_end e) (S.faults input.old) (S.faults input.new) (K.faults out.old) (K.faults out.new)
-        × Reports (message (placed_end e)) (status (placed_end e)) result (E.held err.old) (E.held err.new) (E.faults err.old) (E.faults err.new) }
+        × claims.HasEndCause (claims.placed_end e) (S.faults input.old) (S.faults input.new) (K.faults out.old) (K.faults out.new)
+        × claims.Reports (claims.message (claims.placed_end e)) (claims.status (claims.placed_end e)) result (E.held err.old) (E.held err.new) (E.faults err.old) (E.faults err.new) }
     // The words say `soak`, with a seed and a number of steps: nothing was read, and the line that counts them printed.
-    ensures soak { (seed steps : ℕ) → asked words.now ≡ Some (word.Soak seed steps) → (e : Ended)
-        × SoakEnds (rules_of table.now) (seed, steps) e (K.held out.old) (K.held out.new)
-        × HasEndCause e (S.faults input.old) (S.faults input.new) (K.faults out.old) (K.faults out.new)
-        × Reports (message e) (status e) result (E.held err.old) (E.held err.new) (E.faults err.old) (E.faults err.new)
+    ensures soak { (seed steps : ℕ) → claims.asked words.now ≡ Some (word.Soak seed steps) → (e : Ended)
+        × claims.SoakEnds (rules_of table.now) (seed, steps) e (K.held out.old) (K.held out.new)
+        × claims.HasEndCause e (S.faults input.old) (S.faults input.new) (K.faults out.old) (K.faults out.new)
+        × claims.Reports (claims.message e) (claims.status e) result (E.held err.old) (E.held err.new) (E.faults err.old) (E.faults err.new)
         × (input.new ≡ input.old) }
     // The words say `cluster`, with the numbers of a plan: the troupe played that plan, and the text of a schedule of its
     // journals was printed; nothing was read.
-    ensures cluster { (p : Numbers) → asked words.now ≡ Some (word.Cluster p) → (e : Ran)
-        × Runs (rules_of table.now) (wanted_by false p) e (T.told troupe.new) (K.held out.old) (K.held out.new)
+    ensures cluster { (p : Numbers) → claims.asked words.now ≡ Some (word.Cluster p) → (e : Ran)
+        × Runs (rules_of table.now) (claims.wanted_by false p) e (T.told troupe.new) (K.held out.old) (K.held out.new)
         × HasRunCause e (T.faults troupe.old) (T.faults troupe.new) (K.faults out.old) (K.faults out.new)
-        × Reports (cluster_message e) (cluster_status e) result (E.held err.old) (E.held err.new) (E.faults err.old) (E.faults err.new)
+        × claims.Reports (claims.cluster_message e) (claims.cluster_status e) result (E.held err.old) (E.held err.new) (E.faults err.old) (E.faults err.new)
         × (input.new ≡ input.old) }
     // The words say `loopback`: the same, with nodes that talk over sockets.
-    ensures loopback { (p : Numbers) → asked words.now ≡ Some (word.Loopback p) → (e : Ran)
-        × Runs (rules_of table.now) (wanted_by true p) e (T.told troupe.new) (K.held out.old) (K.held out.new)
+    ensures loopback { (p : Numbers) → claims.asked words.now ≡ Some (word.Loopback p) → (e : Ran)
+        × Runs (rules_of table.now) (claims.wanted_by true p) e (T.told troupe.new) (K.held out.old) (K.held out.new)
         × HasRunCause e (T.faults troupe.old) (T.faults troupe.new) (K.faults out.old) (K.faults out.new)
-        × Reports (cluster_message e) (cluster_status e) result (E.held err.old) (E.held err.new) (E.faults err.old) (E.faults err.new)
+        × claims.Reports (claims.cluster_message e) (claims.cluster_status e) result (E.held err.old) (E.held err.new) (E.faults err.old) (E.faults err.new)
         × (input.new ≡ input.old) }
     // The words say `chains`, with the numbers of a plan that is cut: the troupe played its columns, and the texts of schedules of
     // their journals were printed, one after the other; nothing was read.
-    ensures chains { (p : CutNumbers) → asked words.now ≡ Some (word.Chains p) → (e : Ran)
-        × RunsColumns (rules_of table.now) (cut_wanted_by p) e (T.told_in troupe.new) (K.held out.old) (K.held out.new)
+    ensures chains { (p : CutNumbers) → claims.asked words.now ≡ Some (word.Chains p) → (e : Ran)
+        × RunsColumns (rules_of table.now) (claims.cut_wanted_by p) e (T.told_in troupe.new) (K.held out.old) (K.held out.new)
         × HasRunCause e (T.column_faults troupe.old) (T.column_faults troupe.new) (K.faults out.old) (K.faults out.new)
-        × Reports (cluster_message e) (cluster_status e) result (E.held err.old) (E.held err.new) (E.faults err.old) (E.faults err.new)
+        × claims.Reports (claims.cluster_message e) (claims.cluster_status e) result (E.held err.old) (E.held err.new) (E.faults err.old) (E.faults err.new)
         × (input.new ≡ input.old) }
     // The words say `bus`, with the numbers of an exchange: the bus exchanged the messages that the seed makes, and the text of what
     // was handled was printed; nothing was read.
-    ensures bus { (p : Exchanged) → asked words.now ≡ Some (word.Bus p) → (e : ExchangeEnd)
-        × BusEnds (handled_by handlers.now) (bus_wanted_by p) e (K.held out.old) (K.held out.new)
+    ensures bus { (p : Exchanged) → claims.asked words.now ≡ Some (word.Bus p) → (e : ExchangeEnd)
+        × BusEnds (handled_by handlers.now) (claims.bus_wanted_by p) e (K.held out.old) (K.held out.new)
         × HasBusCause e (B.exchanges bus.old) (B.exchanges bus.new) (K.faults out.old) (K.faults out.new)
-        × Reports (message (bus_end e)) (status (bus_end e)) result (E.held err.old) (E.held err.new) (E.faults err.old) (E.faults err.new)
+        × claims.Reports (claims.message (claims.bus_end e)) (claims.status (claims.bus_end e)) result (E.held err.old) (E.held err.new) (E.faults err.old) (E.faults err.new)
         × (input.new ≡ input.old) }
     // For all other words the troupe plays nothing.
-    ensures aside { asks_troupe (asked words.now) ≡ false → troupe.new ≡ troupe.old }
+    ensures aside { claims.asks_troupe (claims.asked words.now) ≡ false → troupe.new ≡ troupe.old }
     // For all other words than `bus` the bus exchanges nothing.
-    ensures bus_aside { asks_bus (asked words.now) ≡ false → bus.new ≡ bus.old }
+    ensures bus_aside { claims.asks_bus (claims.asked words.now) ≡ false → bus.new ≡ bus.old }
     // The words have no reading: nothing was read or printed, and err says so, or that memory was wanting.
-    ensures usage { asked words.now ≡ None → Refuses result (E.held err.old) (E.held err.new) (E.faults err.old) (E.faults err.new)
+    ensures usage { claims.asked words.now ≡ None → claims.Refuses result (E.held err.old) (E.held err.new) (E.faults err.old) (E.faults err.new)
         × (input.new ≡ input.old) × (out.new ≡ out.old) }
 {
     match read_words(alloc, words) {

@@ -19,13 +19,12 @@ use crate::line::{Pass, TFault, TLine, TPending};
 use crate::post::{Post, Posts};
 use crate::rows::{Row, Rows};
 use crate::traverse::{Traverse, without_member};
-use ct_core::machine::Core;
 use ct_frame::round::Phase;
 use ct_mail::sent::Fate;
 use ct_node_state::kinds::kind_at;
 use ct_values::items::Items;
 use ct_values::memory::NoMemory;
-use ct_world::world::World;
+use ct_world::world::{Core, World};
 use std::alloc::Global;
 use std::marker::Model;
 

@@ -13,7 +13,7 @@ ghost use Rattle.ct_world.specs.World.{Applies, AreNumbered, opened, states_of};
 
 use crate::parts::{Books, Parts};
 use ct_call::table::CallTable;
-use ct_core::machine::Core;
+pub use ct_core::machine::Core;
 use ct_frame::frame::Frame;
 use ct_mail::mail::Mail;
 use ct_node_view::pending::by_number;

@@ -7,7 +7,7 @@ use Rattle.ct_actor.proofs.Stepping.{asks, leads}
 use Rattle.ct_actor_serving.specs.declared.fault.AtLimit.TheVariants as limit
 use Rattle.ct_actor_serving.specs.Serving.{HasCause, of_lock}
 use Rattle.ct_actor_serving.proofs.Taking.{call_allowed, call_goes, call_taken, cause_of, round_goes, round_taken, round_told, sendable}
-use Rattle.ct_core.specs.Core.{Core}
+use Rattle.ct_actor.specs.Handed.{Core}
 use Rattle.ct_actor_serving.specs.declared.fault.ServeFault.TheVariants as fault
 use Rattle.ct_actor_serving.proofs.Noting.{call_at_limit, call_noted, lock_same, no_ticket, round_at_limit, round_noted, step_piece, step_refused, ticket_lost}
 use Rattle.ct_actor_serving.proofs.Telling.{serves_same}

@@ -1,6 +1,6 @@
 use Rattle.std.proofs.Common.{◌≡◌, ◌∙◌, ap, true, Ok, Result, subst}
 use Rattle.ct_call.specs.Shown.{rules_of}
-use Rattle.ct_core.specs.Core.{Core}
+use Rattle.ct_actor.specs.Handed.{Core}
 use Rattle.ct_wire_link.specs.declared.arrived.Arrived.{Arrived}
 use Rattle.ct_actor_serving.specs.Serving.{HasCause}
 use Rattle.ct_actor_serving.proofs.Hearing.{Gives}

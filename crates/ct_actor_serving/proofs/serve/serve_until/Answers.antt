@@ -1,6 +1,6 @@
 use Rattle.std.proofs.Common.{◌≡◌, ◌∙◌, ℕ, ◌+◌, List, [], ◌∷◌, length, arith, ap, subst, None, Some, true, false}
 use Rattle.ct_call.specs.Shown.{rules_of}
-use Rattle.ct_core.specs.Core.{Core}
+use Rattle.ct_actor.specs.Handed.{Core}
 use Rattle.ct_outside.specs.Told.{Lists}
 use Rattle.ct_script.specs.Cues.{first_cue, next_item}
 use Rattle.ct_journal.specs.declared.journal.JournalEntry.{JournalEntry}
