@@ -65,7 +65,9 @@ impl Node {
         if self.entries.reserve(1).is_err() {
             return Err(CoreFault::NoMemory);
         }
-        let outs = self.core.step(table, &event)?;
+        let mut outs = self.core.step(table, &event)?;
+        // A journal grows long, and most steps do one thing.
+        outs.shrink_to_fit();
         self.entries.push_reserved(JournalEntry {
             event,
             outs: Items::new(outs),
