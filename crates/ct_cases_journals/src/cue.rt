@@ -21,50 +21,80 @@ enum Given {
     Message,
 }
 
+fn read(alloc: Global, letter: &[u8]) -> Result<ClientOp, Fail> {
+    let key = Key::new(alloc, letter)?;
+    Ok(ClientOp::Read { db: 1, key })
+}
+
 fn event(alloc: Global, given: Given) -> Result<Event, Fail> {
-    Ok(match given {
-        Given::Call(call) => Event::Client {
-            call,
-            op: ClientOp::Read {
-                db: 1,
-                key: Key::new(alloc, b"k")?,
-            },
-        },
-        Given::Round => Event::BeginRound {
+    match given {
+        Given::Call(call) => {
+            let op = read(alloc, b"k")?;
+            Ok(Event::Client { call, op })
+        }
+        Given::Round => Ok(Event::BeginRound {
             ticket: 2,
             members: Items::empty(alloc),
-        },
-        Given::Message => Event::Arrive(Frame {
+        }),
+        Given::Message => Ok(Event::Arrive(Frame {
             generation: 1,
             sender: 1,
             receiver: 0,
             msg: Msg::FreezeAck,
-        }),
-    })
+        })),
+    }
 }
 
-// It answers the calls of these numbers.
-fn answers(alloc: Global, calls: &[u64]) -> Result<Vec<Out>, NoMemory> {
-    let mut outs = Vec::new(alloc);
+fn add_answers(outs: &mut Vec<Out>, calls: &[u64]) -> Result<(), NoMemory> {
     for call in calls {
         outs.push(Out::Answer {
             call: *call,
             answer: Answer::Written,
         })?;
     }
+    Ok(())
+}
+
+// It answers the calls of these numbers.
+fn answers(alloc: Global, calls: &[u64]) -> Result<Vec<Out>, NoMemory> {
+    let mut outs = Vec::new(alloc);
+    add_answers(&mut outs, calls)?;
     Ok(outs)
+}
+
+fn add(items: &mut Vec<PlanItem>, item: PlanItem) -> Result<(), Fail> {
+    items.push(item)?;
+    Ok(())
 }
 
 fn script(alloc: Global) -> Result<Vec<PlanItem>, Fail> {
     let mut items = Vec::new(alloc);
-    for letter in [b"a", b"b"] {
-        items.push(PlanItem::Call(ClientOp::Read {
-            db: 1,
-            key: Key::new(alloc, letter)?,
-        }))?;
-    }
-    items.push(PlanItem::Round(Items::empty(alloc)))?;
+    add(&mut items, PlanItem::Call(read(alloc, b"a")?))?;
+    add(&mut items, PlanItem::Call(read(alloc, b"b")?))?;
+    add(&mut items, PlanItem::Round(Items::empty(alloc)))?;
     Ok(items)
+}
+
+fn add_call(alloc: Global, entries: &mut Vec<JournalEntry>, call: u64) -> Result<(), Fail> {
+    let event = event(alloc, Given::Call(call))?;
+    entries.push(JournalEntry {
+        event,
+        outs: Items::empty(alloc),
+    })?;
+    Ok(())
+}
+
+/// The entries of calls 6 and 3.
+fn before(alloc: Global) -> Result<Vec<JournalEntry>, Fail> {
+    let mut entries = Vec::new(alloc);
+    add_call(alloc, &mut entries, 6)?;
+    add_call(alloc, &mut entries, 3)?;
+    Ok(entries)
+}
+
+fn first(alloc: Global) -> Result<Cue, Fail> {
+    let before = before(alloc)?;
+    Ok(Cue::first(before.as_slice()))
 }
 
 // An event comes to a node that has taken few items.
@@ -73,6 +103,25 @@ fn follow(cue: &mut Cue, event: &Event, outs: &[Out])
     requires { cue.old.taken < 10 }
 {
     cue.follow(event, outs);
+}
+
+/// It comes, and these calls are answered.
+fn comes(alloc: Global, cue: &mut Cue, given: Given, answered: &[u64]) -> Result<(), Fail>
+    requires { cue.old.taken < 10 }
+{
+    let outs = answers(alloc, answered)?;
+    let event = event(alloc, given)?;
+    follow(cue, &event, outs.as_slice());
+    drop(event);
+    Ok(())
+}
+
+fn is_next(cue: &Cue, script: &[PlanItem], place: Option<usize>) -> bool {
+    let item = match place {
+        Some(place) => script.get(place),
+        None => None,
+    };
+    cue.next(script) == item
 }
 
 // What comes, which calls are answered then, and the cue afterwards, with the place of the item that may be taken then.
@@ -90,25 +139,13 @@ const TABLE: [(Given, &[u64], (usize, u64, Option<u64>), Option<usize>); 7] = [
 fn a_node_follows_its_script(rt: HostRuntime) -> Result<(), Fail> {
     let alloc = rt.alloc();
     let script = script(alloc)?;
-    let mut before = Vec::new(alloc);
-    for call in [6, 3] {
-        before.push(JournalEntry {
-            event: event(alloc, Given::Call(call))?,
-            outs: Items::empty(alloc),
-        })?;
-    }
-    let mut cue = Cue::first(before.as_slice());
+    let mut cue = first(alloc)?;
     for (given, answered, (taken, calls, waits), place) in TABLE {
         if cue.taken < 10 {
-            let outs = answers(alloc, answered)?;
-            follow(&mut cue, &event(alloc, given)?, outs.as_slice());
+            comes(alloc, &mut cue, given, answered)?;
         }
         assert!(rt; cue.taken == taken && cue.calls == calls && cue.waits == waits);
-        let item = match place {
-            Some(place) => script.get(place),
-            None => None,
-        };
-        assert!(rt; cue.next(script.as_slice()) == item);
+        assert!(rt; is_next(&cue, script.as_slice(), place));
     }
     Ok(())
 }

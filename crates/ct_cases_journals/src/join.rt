@@ -1,5 +1,5 @@
 //! The steps of two journals, one after the other.
-ghost use Rattle.std.specs.Prelude.{◌≤◌, ◌<◌, ◌+◌, ◌^◌, length, IfOk};
+ghost use Rattle.std.specs.Prelude.{◌≡◌, ◌≤◌, ◌<◌, ◌+◌, ◌^◌, ◌++◌, ◌∷◌, [], length, IfOk, OnOk};
 ghost use Rattle.ct_journal.specs.Order.{all_entries, count_sent, frames_in};
 
 use ct_frame::event::{Event, Out};
@@ -59,13 +59,13 @@ fn sends(alloc: Global, node: u32, receiver: u32, count: usize) -> Result<Items<
 
 fn event(alloc: Global, comes: Comes) -> Result<Event, Fail> {
     match comes {
-        Comes::Call => Ok(Event::Client {
-            call: 1,
-            op: ClientOp::Read {
-                db: 1,
-                key: Key::new(alloc, b"a")?,
-            },
-        }),
+        Comes::Call => {
+            let key = Key::new(alloc, b"a")?;
+            Ok(Event::Client {
+                call: 1,
+                op: ClientOp::Read { db: 1, key },
+            })
+        }
         Comes::Message { sender, receiver } => Ok(Event::Arrive(frame(sender, receiver))),
         Comes::Round(ticket) => Ok(Event::BeginRound {
             ticket,
@@ -84,10 +84,16 @@ fn entry(
 ) -> Result<JournalEntry, Fail>
     ensures { IfOk result (λ x. length (frames_in x.outs) ≤ 2) }
 {
-    Ok(JournalEntry {
-        event: event(alloc, comes)?,
-        outs: sends(alloc, node, receiver, count)?,
-    })
+    let outs = sends(alloc, node, receiver, count)?;
+    let event = event(alloc, comes)?;
+    Ok(JournalEntry { event, outs })
+}
+
+fn add(entries: &mut Items<JournalEntry>, entry: JournalEntry) -> Result<(), Fail>
+    ensures { OnOk result (entries.new ≡ entries.old ++ entry ∷ []) }
+{
+    entries.push(entry)?;
+    Ok(())
 }
 
 /// A journal of three entries.
@@ -104,14 +110,18 @@ fn journal(
     requires three { length (frames_in three.outs) ≤ 2 }
     ensures { IfOk result (λ j. length j.entries + count_sent j.entries ≤ 9) }
 {
-    let mut entries = Vec::new(alloc);
-    entries.push(one)?;
-    entries.push(two)?;
-    entries.push(three)?;
-    Ok(Journal {
-        node,
-        entries: Items::new(entries),
-    })
+    let mut entries = Items::empty(alloc);
+    if let Err(fail) = add(&mut entries, one) {
+        drop(two);
+        drop(three);
+        return Err(fail);
+    }
+    if let Err(fail) = add(&mut entries, two) {
+        drop(three);
+        return Err(fail);
+    }
+    add(&mut entries, three)?;
+    Ok(Journal { node, entries })
 }
 
 #[tactic(auto, using(crate::proofs::Pairs::both_few))]
@@ -141,12 +151,25 @@ fn first_journal(alloc: Global) -> Result<Journal, Fail>
     ensures { IfOk result (λ j. length j.entries + count_sent j.entries ≤ 9) }
 {
     let called = entry(alloc, Comes::Call, 0, 1, 2)?;
-    let leads = entry(alloc, Comes::Round(3), 0, 1, 1)?;
+    let leads = match entry(alloc, Comes::Round(3), 0, 1, 1) {
+        Ok(leads) => leads,
+        Err(fail) => {
+            drop(called);
+            return Err(fail);
+        }
+    };
     let answer = Comes::Message {
         sender: 1,
         receiver: 0,
     };
-    let answered = entry(alloc, answer, 0, 0, 0)?;
+    let answered = match entry(alloc, answer, 0, 0, 0) {
+        Ok(answered) => answered,
+        Err(fail) => {
+            drop(called);
+            drop(leads);
+            return Err(fail);
+        }
+    };
     journal(alloc, 0, called, leads, answered)
 }
 
@@ -159,15 +182,44 @@ fn second_journal(alloc: Global) -> Result<Journal, Fail>
         sender: 0,
         receiver: 1,
     };
-    let one = entry(alloc, message, 1, 0, 0)?;
-    let two = entry(alloc, message, 1, 0, 0)?;
+    let one = match entry(alloc, message, 1, 0, 0) {
+        Ok(one) => one,
+        Err(fail) => {
+            drop(leads);
+            return Err(fail);
+        }
+    };
+    let two = match entry(alloc, message, 1, 0, 0) {
+        Ok(two) => two,
+        Err(fail) => {
+            drop(leads);
+            drop(one);
+            return Err(fail);
+        }
+    };
     journal(alloc, 1, leads, one, two)
+}
+
+fn are_told(steps: &[Step], wanted: &[Told]) -> bool {
+    let mut same = steps.len() == wanted.len();
+    for (step, told) in steps.iter().zip(wanted) {
+        same = same && told_by(step) == *told;
+    }
+    same
+}
+
+fn both_journals(alloc: Global) -> Result<Vec<Journal>, Fail>
+    ensures { IfOk result (λ js. length (all_entries js.items) + count_sent (all_entries js.items) < 2 ^ 61) }
+{
+    let first = first_journal(alloc)?;
+    let second = second_journal(alloc)?;
+    both(alloc, first, second)
 }
 
 #[test]
 fn two_rounds(rt: HostRuntime) -> Result<(), Fail> {
     let alloc = rt.alloc();
-    let journals = both(alloc, first_journal(alloc)?, second_journal(alloc)?)?;
+    let journals = both_journals(alloc)?;
     let steps = schedule(alloc, journals.as_slice(), &[0, 1, 1, 0, 0, 1, 1])?;
     let wanted = [
         Told::Asks(0),
@@ -178,9 +230,6 @@ fn two_rounds(rt: HostRuntime) -> Result<(), Fail> {
         Told::Delivers(3),
         Told::Delivers(2),
     ];
-    assert!(rt; steps.len() == wanted.len());
-    for i in 0..wanted.len() {
-        assert!(rt; told_by(&steps.as_slice()[i]) == wanted[i]);
-    }
+    assert!(rt; are_told(steps.as_slice(), &wanted));
     Ok(())
 }

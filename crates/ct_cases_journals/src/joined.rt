@@ -113,16 +113,26 @@ fn writes(alloc: Global, call: u64, key: Key, value: &[u8]) -> Result<Event, Fai
     })
 }
 
+fn one(alloc: Global, does: Out) -> Result<Items<Out>, Fail>
+    ensures { IfOk result (λ xs. xs ≡ does ∷ []) }
+{
+    let mut outs = Items::empty(alloc);
+    outs.push(does)?;
+    Ok(outs)
+}
+
 /// An entry of a node that does one thing.
 fn noted(alloc: Global, event: Event, does: Out) -> Result<JournalEntry, Fail>
     ensures { IfOk result (λ x. x ≡ worked.noted event does) }
 {
-    let mut outs = Vec::new(alloc);
-    outs.push(does)?;
-    Ok(JournalEntry {
-        event,
-        outs: Items::new(outs),
-    })
+    let outs = match one(alloc, does) {
+        Ok(outs) => outs,
+        Err(fail) => {
+            drop(event);
+            return Err(fail);
+        }
+    };
+    Ok(JournalEntry { event, outs })
 }
 
 /// The journals of two nodes.
@@ -163,10 +173,25 @@ fn d(alloc: Global) -> Result<Key, Fail>
 fn asked_b(alloc: Global) -> Result<JournalEntry, Fail>
     ensures { IfOk result (λ x. x ≡ worked.noted (event.Arrive worked.asks) (out.Send worked.recalls)) }
 {
+    let key = b(alloc)?;
+    let again = b(alloc)?;
     noted(
         alloc,
-        Event::Arrive(asks(b(alloc)?, 1)),
-        Out::Send(recalls(b(alloc)?, 1)),
+        Event::Arrive(asks(key, 1)),
+        Out::Send(recalls(again, 1)),
+    )
+}
+
+/// Node 0 is asked for the record of `d`.
+fn asked_d(alloc: Global) -> Result<JournalEntry, Fail>
+    ensures { IfOk result (λ x. x ≡ worked.noted (event.Arrive crossed.asks_too) (out.Send crossed.recalls_too)) }
+{
+    let key = d(alloc)?;
+    let again = d(alloc)?;
+    noted(
+        alloc,
+        Event::Arrive(asks(key, 2)),
+        Out::Send(recalls(again, 2)),
     )
 }
 
@@ -174,22 +199,20 @@ fn asked_b(alloc: Global) -> Result<JournalEntry, Fail>
 fn writes_b(alloc: Global) -> Result<JournalEntry, Fail>
     ensures { IfOk result (λ x. x ≡ worked.noted (event.Client 1 (op.Write 1 (codes "b") (codes "y"))) (out.Send worked.asks)) }
 {
-    noted(
-        alloc,
-        writes(alloc, 1, b(alloc)?, b"y")?,
-        Out::Send(asks(b(alloc)?, 1)),
-    )
+    let key = b(alloc)?;
+    let again = b(alloc)?;
+    let event = writes(alloc, 1, key, b"y")?;
+    noted(alloc, event, Out::Send(asks(again, 1)))
 }
 
 /// A client of node 1 writes the record of `d`.
 fn writes_d(alloc: Global) -> Result<JournalEntry, Fail>
     ensures { IfOk result (λ x. x ≡ worked.noted (event.Client 2 (op.Write 1 (codes "d") (codes "z"))) (out.Send crossed.asks_too)) }
 {
-    noted(
-        alloc,
-        writes(alloc, 2, d(alloc)?, b"z")?,
-        Out::Send(asks(d(alloc)?, 2)),
-    )
+    let key = d(alloc)?;
+    let again = d(alloc)?;
+    let event = writes(alloc, 2, key, b"z")?;
+    noted(alloc, event, Out::Send(asks(again, 2)))
 }
 
 fn straight(alloc: Global) -> Result<Vec<Journal>, Fail>
@@ -217,11 +240,7 @@ fn crossed(alloc: Global) -> Result<Vec<Journal>, Fail>
     ensures { IfOk result (λ js. js.items ≡ crossed_journals) }
 {
     let mut first = Vec::new(alloc);
-    first.push(noted(
-        alloc,
-        Event::Arrive(asks(d(alloc)?, 2)),
-        Out::Send(recalls(d(alloc)?, 2)),
-    )?)?;
+    first.push(asked_d(alloc)?)?;
     first.push(asked_b(alloc)?)?;
     first.push(asked_b(alloc)?)?;
     let mut second = Vec::new(alloc);

@@ -32,12 +32,17 @@ fn frame(sender: u32, receiver: u32, number: u64) -> Frame {
     }
 }
 
-fn sends(alloc: Global, node: u32, sent: &[(u32, u64)]) -> Result<Items<Out>, NoMemory> {
-    let mut outs = Vec::new(alloc);
+fn add_sent(outs: &mut Items<Out>, node: u32, sent: &[(u32, u64)]) -> Result<(), NoMemory> {
     for (receiver, number) in sent {
         outs.push(Out::Send(frame(node, *receiver, *number)))?;
     }
-    Ok(Items::new(outs))
+    Ok(())
+}
+
+fn sends(alloc: Global, node: u32, sent: &[(u32, u64)]) -> Result<Items<Out>, NoMemory> {
+    let mut outs = Items::empty(alloc);
+    add_sent(&mut outs, node, sent)?;
+    Ok(outs)
 }
 
 fn event(alloc: Global, node: u32, given: Given) -> Result<Event, NoMemory> {
@@ -75,15 +80,32 @@ fn entry(alloc: Global, node: u32, given: Given) -> Result<JournalEntry, NoMemor
     }
 }
 
-fn journal(alloc: Global, node: u32, given: &[Given]) -> Result<Journal, NoMemory> {
-    let mut entries = Vec::new(alloc);
+fn add_entry(
+    alloc: Global,
+    entries: &mut Items<JournalEntry>,
+    node: u32,
+    given: Given,
+) -> Result<(), NoMemory> {
+    entries.push(entry(alloc, node, given)?)?;
+    Ok(())
+}
+
+fn add_entries(
+    alloc: Global,
+    entries: &mut Items<JournalEntry>,
+    node: u32,
+    given: &[Given],
+) -> Result<(), NoMemory> {
     for one in given {
-        entries.push(entry(alloc, node, *one)?)?;
+        add_entry(alloc, entries, node, *one)?;
     }
-    Ok(Journal {
-        node,
-        entries: Items::new(entries),
-    })
+    Ok(())
+}
+
+fn journal(alloc: Global, node: u32, given: &[Given]) -> Result<Journal, NoMemory> {
+    let mut entries = Items::empty(alloc);
+    add_entries(alloc, &mut entries, node, given)?;
+    Ok(Journal { node, entries })
 }
 
 fn journals(alloc: Global, first: &[Given], second: &[Given]) -> Result<Vec<Journal>, NoMemory>
@@ -110,8 +132,8 @@ fn two_clients_write_the_same_record(rt: HostRuntime) -> Result<(), Fail> {
         Given::Came(0, 3, &[(1, 4)]),
     ];
     let second = [Given::Call(1, &[(0, 1)]), Given::Came(0, 4, &[])];
-    assert_eq!(rt; answer(rt.alloc(), &first, &second)?, Some(0));
-    assert_eq!(rt; answer(rt.alloc(), &second, &first)?, None);
+    assert!(rt; answer(rt.alloc(), &first, &second)? == Some(0));
+    assert!(rt; answer(rt.alloc(), &second, &first)? == None);
     Ok(())
 }
 
@@ -120,11 +142,11 @@ fn messages_arrive_as_they_were_sent(rt: HostRuntime) -> Result<(), Fail> {
     let two = [Given::Call(1, &[(1, 1), (1, 2)])];
     let one = [Given::Came(0, 1, &[])];
     let turned = [Given::Came(0, 2, &[]), Given::Came(0, 1, &[])];
-    assert_eq!(rt; answer(rt.alloc(), &two, &one)?, Some(1));
-    assert_eq!(rt; answer(rt.alloc(), &two, &turned)?, None);
+    assert!(rt; answer(rt.alloc(), &two, &one)? == Some(1));
+    assert!(rt; answer(rt.alloc(), &two, &turned)? == None);
     let early = [Given::Came(1, 1, &[(1, 2)])];
     let late = [Given::Came(0, 2, &[(0, 1)])];
-    assert_eq!(rt; answer(rt.alloc(), &early, &late)?, None);
+    assert!(rt; answer(rt.alloc(), &early, &late)? == None);
     Ok(())
 }
 
@@ -134,25 +156,35 @@ fn tickets_and_calls_rise(rt: HostRuntime) -> Result<(), Fail> {
     let second = [Given::Round(2, &[1], &[])];
     let twice = [Given::Call(1, &[]), Given::Call(1, &[])];
     let retry = [Given::Retry];
-    assert_eq!(rt; answer(rt.alloc(), &third, &second)?, Some(0));
-    assert_eq!(rt; answer(rt.alloc(), &second, &third)?, None);
-    assert_eq!(rt; answer(rt.alloc(), &twice, &[])?, None);
-    assert_eq!(rt; answer(rt.alloc(), &retry, &[])?, None);
+    assert!(rt; answer(rt.alloc(), &third, &second)? == Some(0));
+    assert!(rt; answer(rt.alloc(), &second, &third)? == None);
+    assert!(rt; answer(rt.alloc(), &twice, &[])? == None);
+    assert!(rt; answer(rt.alloc(), &retry, &[])? == None);
     Ok(())
+}
+
+fn is_order(order: Option<Vec<u32>>, wanted: Option<&[u32]>) -> bool {
+    match order {
+        Some(nodes) => wanted == Some(nodes.as_slice()),
+        None => wanted.is_none(),
+    }
+}
+
+fn stand(
+    alloc: Global,
+    first: &[Given],
+    second: &[Given],
+    wanted: Option<&[u32]>,
+) -> Result<bool, Fail> {
+    let these = journals(alloc, first, second)?;
+    Ok(is_order(order_of(alloc, these.as_slice())?, wanted))
 }
 
 #[test]
 fn entries_stand_in_the_order_that_is_answered(rt: HostRuntime) -> Result<(), Fail> {
     let third = [Given::Round(3, &[0, 1], &[])];
     let second = [Given::Round(2, &[1], &[])];
-    let these = journals(rt.alloc(), &third, &second)?;
-    let order = order_of(rt.alloc(), these.as_slice())?;
-    let those = journals(rt.alloc(), &second, &third)?;
-    let none = order_of(rt.alloc(), those.as_slice())?;
-    assert!(rt; none.is_none());
-    match order {
-        Some(nodes) => assert_eq!(rt; nodes.as_slice(), [1, 0].as_slice()),
-        None => assert!(rt; false),
-    }
+    assert!(rt; stand(rt.alloc(), &third, &second, Some(&[1, 0]))?);
+    assert!(rt; stand(rt.alloc(), &second, &third, None)?);
     Ok(())
 }

@@ -1,8 +1,9 @@
 //! Scripts of plans, against a program that makes them in another language.
-use ct_frame::plan::PlanItem;
+use ct_frame::plan::{Plan, PlanItem};
 use ct_script::scripts::cluster_plan;
-use ct_values::client::ClientOp;
+use ct_values::client::{ClientOp, Pair};
 use ct_values::items::Items;
+use ct_values::key::Key;
 use ct_values::number::push_decimal;
 use std::alloc::Global;
 use std::test::Fail;
@@ -19,22 +20,28 @@ fn push_number(text: &mut Vec<u8>, number: u32) -> Result<(), Fail> {
     Ok(())
 }
 
+fn push_named(text: &mut Vec<u8>, word: &[u8], db: u32, key: &Key) -> Result<(), Fail> {
+    push(text, &[word])?;
+    push_number(text, db)?;
+    push(text, &[b" ", key.bytes()])
+}
+
+fn push_commit(text: &mut Vec<u8>, db: u32, writes: &[Pair]) -> Result<(), Fail> {
+    push(text, &[b"commit "])?;
+    push_number(text, db)?;
+    for pair in writes {
+        push(text, &[b" ", pair.key.bytes(), b"=", pair.value.bytes()])?;
+    }
+    Ok(())
+}
+
 fn push_op(text: &mut Vec<u8>, op: &ClientOp) -> Result<(), Fail> {
     match op {
-        ClientOp::Lock { db, key } => {
-            push(text, &[b"lock "])?;
-            push_number(text, *db)?;
-            push(text, &[b" ", key.bytes()])
-        }
-        ClientOp::Read { db, key } => {
-            push(text, &[b"read "])?;
-            push_number(text, *db)?;
-            push(text, &[b" ", key.bytes()])
-        }
+        ClientOp::Lock { db, key } => push_named(text, b"lock ", *db, key),
+        ClientOp::Read { db, key } => push_named(text, b"read ", *db, key),
         ClientOp::Write { db, key, value } => {
-            push(text, &[b"write "])?;
-            push_number(text, *db)?;
-            push(text, &[b" ", key.bytes(), b" ", value.bytes()])
+            push_named(text, b"write ", *db, key)?;
+            push(text, &[b" ", value.bytes()])
         }
         ClientOp::Apply {
             db,
@@ -42,57 +49,89 @@ fn push_op(text: &mut Vec<u8>, op: &ClientOp) -> Result<(), Fail> {
             function,
             arg,
         } => {
-            push(text, &[b"apply "])?;
-            push_number(text, *db)?;
-            push(text, &[b" ", key.bytes(), b" "])?;
+            push_named(text, b"apply ", *db, key)?;
+            push(text, &[b" "])?;
             push_number(text, *function)?;
             push(text, &[b" ", arg.bytes()])
         }
         ClientOp::Store { .. } => push(text, &[b"store"]),
-        ClientOp::Unlock { db, key } => {
-            push(text, &[b"unlock "])?;
-            push_number(text, *db)?;
-            push(text, &[b" ", key.bytes()])
-        }
-        ClientOp::Commit { db, writes } => {
-            push(text, &[b"commit "])?;
-            push_number(text, *db)?;
-            for pair in writes.as_slice() {
-                push(text, &[b" ", pair.key.bytes(), b"=", pair.value.bytes()])?;
-            }
-            Ok(())
-        }
+        ClientOp::Unlock { db, key } => push_named(text, b"unlock ", *db, key),
+        ClientOp::Commit { db, writes } => push_commit(text, *db, writes.as_slice()),
     }
 }
 
-/// So many items from this place on, in words, each with its end.
-fn text_from(
+fn push_round(text: &mut Vec<u8>, members: &[u32]) -> Result<(), Fail> {
+    push(text, &[b"round"])?;
+    for member in members {
+        push(text, &[b" "])?;
+        push_number(text, *member)?;
+    }
+    Ok(())
+}
+
+fn push_item(text: &mut Vec<u8>, item: &PlanItem) -> Result<(), Fail> {
+    match item {
+        PlanItem::Call(op) => push_op(text, op)?,
+        PlanItem::Round(members) => push_round(text, members.as_slice())?,
+    }
+    push(text, &[b"; "])
+}
+
+fn push_items(
+    text: &mut Vec<u8>,
+    script: &Items<PlanItem>,
+    from: usize,
+    count: usize,
+) -> Result<(), Fail> {
+    for item in script.as_slice().iter().skip(from).take(count) {
+        push_item(text, item)?;
+    }
+    Ok(())
+}
+
+/// Are these so many items from this place on, in words, each with its end?
+fn is_text_from(
     alloc: Global,
     script: &Items<PlanItem>,
     from: usize,
     count: usize,
-) -> Result<Vec<u8>, Fail> {
+    wanted: &str,
+) -> Result<bool, Fail> {
     let mut text = Vec::new(alloc);
-    for item in script.as_slice().iter().skip(from).take(count) {
-        match item {
-            PlanItem::Call(op) => push_op(&mut text, op)?,
-            PlanItem::Round(members) => {
-                push(&mut text, &[b"round"])?;
-                for member in members.as_slice() {
-                    push(&mut text, &[b" "])?;
-                    push_number(&mut text, *member)?;
-                }
-            }
-        }
-        push(&mut text, &[b"; "])?;
+    push_items(&mut text, script, from, count)?;
+    Ok(text.as_slice() == wanted.as_bytes())
+}
+
+fn has_script(
+    alloc: Global,
+    plan: &Plan,
+    node: usize,
+    from: usize,
+    count: usize,
+    wanted: &str,
+) -> Result<bool, Fail> {
+    match plan.scripts.as_slice().get(node) {
+        Some(script) => is_text_from(alloc, script, from, count, wanted),
+        None => Err(Fail::new("no script")),
     }
-    Ok(text)
+}
+
+/// The nodes, the calls, the seed, a node, the place of an item, a count of items, and their text.
+type Case = (u32, u32, u64, usize, usize, usize, &'static str);
+
+fn is_planned(alloc: Global, case: Case) -> Result<bool, Fail> {
+    let (nodes, calls, seed, node, from, count, wanted) = case;
+    if nodes < 1 || nodes > 8 || calls < 1 || calls > 1000 {
+        return Err(Fail::new("no such plan"));
+    }
+    let plan = cluster_plan(alloc, nodes, calls, seed)?;
+    has_script(alloc, &plan, node, from, count, wanted)
 }
 
 #[test]
 fn scripts(rt: HostRuntime) -> Result<(), Fail> {
     let alloc = rt.alloc();
-    let cases: [(u32, u32, u64, usize, usize, usize, &str); 10] = [
+    let cases: [Case; 10] = [
         (1, 1, 1, 0, 0, 99, "round 0; read 1 c; "),
         (
             2,
@@ -144,13 +183,8 @@ fn scripts(rt: HostRuntime) -> Result<(), Fail> {
         (8, 1000, 0, 3, 1259, 99, "apply 2 d 1 826; "),
         (8, 1000, 0, 7, 1245, 99, "read 1 b; "),
     ];
-    for (nodes, calls, seed, node, from, count, wanted) in cases {
-        let plan = cluster_plan(alloc, nodes, calls, seed)?;
-        let Some(script) = plan.scripts.as_slice().get(node) else {
-            return Err(Fail::new("no script"));
-        };
-        let text = text_from(alloc, script, from, count)?;
-        assert_eq!(rt; text.as_slice(), wanted.as_bytes(), "{wanted}");
+    for case in cases {
+        assert!(rt; is_planned(alloc, case)?, "{}", case.6);
     }
     Ok(())
 }
