@@ -64,7 +64,7 @@ fn message_of(alloc: Global, place: u64, word: u32) -> Result<Message, NoMemory>
 {
     let mut text = Vec::new(alloc);
     push_decimal(&mut text, u64::from(word / 4 % 1000))?;
-    let Some(body) = Value::from_vec(text) else {
+    let Some(body) = Value::from_vec(text)? else {
         unreachable!()
     };
     Ok(Message {

@@ -126,8 +126,9 @@ impl CallTable {
         };
         let length = bytes.len() as u64;
         match Value::from_vec(bytes) {
-            Some(value) => Ok(value),
-            None => Err(CallFault::TooLong(length)),
+            Ok(Some(value)) => Ok(value),
+            Ok(None) => Err(CallFault::TooLong(length)),
+            Err(_) => Err(CallFault::NoMemory),
         }
     }
 }

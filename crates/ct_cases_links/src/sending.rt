@@ -7,6 +7,7 @@ use ct_frame::event::{Note, Out};
 use ct_frame::fields::well_formed;
 use ct_frame::frame::{CallKind, Frame, Msg, TableRow};
 use ct_outside::memory_link::MemLink;
+use ct_values::boxed::BoxedItems;
 use ct_values::client::Answer;
 use ct_values::items::Items;
 use ct_values::key::Key;
@@ -51,9 +52,9 @@ fn reply(alloc: Global, receiver: u32) -> Result<Frame, Fail> {
         msg: Msg::PullReply {
             vbase: 1,
             pbase: 1,
-            table: Items::new(table),
-            ptables: Items::empty(alloc),
-            addresses: Items::empty(alloc),
+            table: BoxedItems::new(Items::new(table))?,
+            ptables: BoxedItems::new(Items::empty(alloc))?,
+            addresses: BoxedItems::new(Items::empty(alloc))?,
         },
     })
 }

@@ -10,6 +10,7 @@ use ct_frame::frame::{Assigned, Frame, Msg, PTable, TableRow};
 use ct_frame::header::{Header, RecCopy};
 use ct_rules_cluster::step::PendingCall;
 use ct_values::address::Address;
+use ct_values::boxed::BoxedItems;
 use ct_values::client::{Answer, ClientOp, Pair};
 use ct_values::config::{Config, DbDecl};
 use ct_values::items::Items;
@@ -250,15 +251,15 @@ fn recovers(alloc: Global, says: Says) -> Result<Option<Msg>, Fail> {
         Says::PullReply(vbase, pbase, table, ptables, held) => Ok(Some(Msg::PullReply {
             vbase,
             pbase,
-            table: told(alloc, table)?,
-            ptables: stored(alloc, ptables)?,
-            addresses: Items::new(addresses(alloc, held)?),
+            table: BoxedItems::new(told(alloc, table)?)?,
+            ptables: BoxedItems::new(stored(alloc, ptables)?)?,
+            addresses: BoxedItems::new(Items::new(addresses(alloc, held)?))?,
         })),
         Says::Push(members, table, ptables, places) => Ok(Some(Msg::Push {
-            members: numbers(alloc, members)?,
-            table: told(alloc, table)?,
-            ptables: stored(alloc, ptables)?,
-            assigned: assigned(alloc, places)?,
+            members: BoxedItems::new(numbers(alloc, members)?)?,
+            table: BoxedItems::new(told(alloc, table)?)?,
+            ptables: BoxedItems::new(stored(alloc, ptables)?)?,
+            assigned: BoxedItems::new(assigned(alloc, places)?)?,
         })),
         Says::PushAck => Ok(Some(Msg::PushAck)),
         Says::Thaw => Ok(Some(Msg::Thaw)),

@@ -6,6 +6,7 @@ use ct_text::line::{line_text, pending_text};
 use ct_traverse::line::{Pass, TLine, TPending};
 use ct_traverse::text::{pending_traverse_text, push_traverse};
 use ct_values::address::Address;
+use ct_values::boxed::BoxedItems;
 use ct_values::client::{Answer, ClientOp, Pair, Why};
 use ct_values::config::{Config, DbDecl, DbKind};
 use ct_values::items::Items;
@@ -179,8 +180,8 @@ fn rounds(rt: HostRuntime) -> Result<(), Fail> {
     msgs.push(Msg::PullReply {
         vbase: 1,
         pbase: 2,
-        table: Items::empty(alloc),
-        ptables: Items::new(Vec::from_array(
+        table: BoxedItems::new(Items::empty(alloc))?,
+        ptables: BoxedItems::new(Items::new(Vec::from_array(
             alloc,
             [
                 PTable {
@@ -194,12 +195,12 @@ fn rounds(rt: HostRuntime) -> Result<(), Fail> {
                     pairs: Items::new(Vec::from_array(alloc, [pair(alloc)?])?),
                 },
             ],
-        )?),
-        addresses: Items::empty(alloc),
+        )?))?,
+        addresses: BoxedItems::new(Items::empty(alloc))?,
     })?;
     msgs.push(Msg::Push {
-        members: Items::new(Vec::from_array(alloc, [2])?),
-        table: Items::new(Vec::from_array(
+        members: BoxedItems::new(Items::new(Vec::from_array(alloc, [2])?))?,
+        table: BoxedItems::new(Items::new(Vec::from_array(
             alloc,
             [TableRow {
                 db: 1,
@@ -208,9 +209,9 @@ fn rounds(rt: HostRuntime) -> Result<(), Fail> {
                 value: Value::new(alloc, b"v")?,
                 master: None,
             }],
-        )?),
-        ptables: Items::empty(alloc),
-        assigned: Items::new(Vec::from_array(
+        )?))?,
+        ptables: BoxedItems::new(Items::empty(alloc))?,
+        assigned: BoxedItems::new(Items::new(Vec::from_array(
             alloc,
             [
                 Assigned {
@@ -222,7 +223,7 @@ fn rounds(rt: HostRuntime) -> Result<(), Fail> {
                     node: Some(2),
                 },
             ],
-        )?),
+        )?))?,
     })?;
     msgs.push(Msg::PushAck)?;
     msgs.push(Msg::Thaw)?;

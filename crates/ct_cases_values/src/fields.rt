@@ -2,6 +2,7 @@ use ct_frame::fields::well_formed;
 use ct_frame::frame::{Assigned, CallKind, Frame, Msg, PTable, TableRow};
 use ct_frame::header::LIMIT;
 use ct_values::address::Address;
+use ct_values::boxed::BoxedItems;
 use ct_values::client::Pair;
 use ct_values::items::Items;
 use ct_values::key::Key;
@@ -78,14 +79,14 @@ fn rows(alloc: Global, table: &[Row]) -> Result<Items<TableRow>, Fail> {
     Ok(list)
 }
 
-fn reply(alloc: Global, table: Items<TableRow>, ptables: Items<PTable>) -> Msg {
-    Msg::PullReply {
+fn reply(alloc: Global, table: Items<TableRow>, ptables: Items<PTable>) -> Result<Msg, Fail> {
+    Ok(Msg::PullReply {
         vbase: 1,
         pbase: 0,
-        table,
-        ptables,
-        addresses: Items::empty(alloc),
-    }
+        table: BoxedItems::new(table)?,
+        ptables: BoxedItems::new(ptables)?,
+        addresses: BoxedItems::new(Items::empty(alloc))?,
+    })
 }
 
 #[test]
@@ -222,7 +223,7 @@ fn writes(rt: HostRuntime) -> Result<(), Fail> {
 /// Is a reply of node 1 with these rows well formed?
 fn is_reply_formed(alloc: Global, list: &[Row]) -> Result<bool, Fail> {
     let table = rows(alloc, list)?;
-    Ok(is_formed_from_one(reply(alloc, table, Items::empty(alloc))))
+    Ok(is_formed_from_one(reply(alloc, table, Items::empty(alloc))?))
 }
 
 #[test]
@@ -250,10 +251,10 @@ fn is_push_formed(alloc: Global, master: Option<u32>) -> Result<bool, Fail> {
     let members = Items::new(vec![in alloc; 0, 2]?);
     let table = rows(alloc, &[(1, b"b", 1, master)])?;
     Ok(is_formed_from_one(Msg::Push {
-        members,
-        table,
-        ptables: Items::empty(alloc),
-        assigned: Items::empty(alloc),
+        members: BoxedItems::new(members)?,
+        table: BoxedItems::new(table)?,
+        ptables: BoxedItems::new(Items::empty(alloc))?,
+        assigned: BoxedItems::new(Items::empty(alloc))?,
     }))
 }
 
@@ -298,7 +299,7 @@ fn is_second_formed(
     let mut ptables = Items::empty(alloc);
     add_database(alloc, &mut ptables, 1, 1, &[])?;
     add_database(alloc, &mut ptables, db, seq, table)?;
-    Ok(is_formed_from_one(reply(alloc, Items::empty(alloc), ptables)))
+    Ok(is_formed_from_one(reply(alloc, Items::empty(alloc), ptables)?))
 }
 
 #[test]

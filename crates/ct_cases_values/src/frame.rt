@@ -4,6 +4,7 @@ use ct_frame::header::{BEING_REVOKED, HAS_DELEGATIONS, Header, NONE, RecCopy};
 use ct_frame::plan::{Plan, PlanItem};
 use ct_frame::round::{Phase, Pull, PushBody, Stage};
 use ct_values::address::Address;
+use ct_values::boxed::BoxedItems;
 use ct_values::client::{Answer, ClientOp, Pair, Why};
 use ct_values::config::{Config, ConfigFault, DbDecl, DbKind};
 use ct_values::copies::Duplicate;
@@ -243,9 +244,9 @@ fn a_reply(alloc: Global) -> Result<Msg, Fail> {
     Ok(Msg::PullReply {
         vbase: 1,
         pbase: 2,
-        table,
-        ptables,
-        addresses,
+        table: BoxedItems::new(table)?,
+        ptables: BoxedItems::new(ptables)?,
+        addresses: BoxedItems::new(addresses)?,
     })
 }
 
@@ -255,10 +256,10 @@ fn a_push(alloc: Global) -> Result<Msg, Fail> {
     let ptables = one_ptable(alloc)?;
     let assigned = two_assigned(alloc)?;
     Ok(Msg::Push {
-        members,
-        table,
-        ptables,
-        assigned,
+        members: BoxedItems::new(members)?,
+        table: BoxedItems::new(table)?,
+        ptables: BoxedItems::new(ptables)?,
+        assigned: BoxedItems::new(assigned)?,
     })
 }
 

@@ -20,6 +20,7 @@ use ct_node_state::node::Node;
 use ct_node_state::turn::CoreFault;
 use ct_node_view::sound::is_sound;
 use ct_values::address::Address;
+use ct_values::boxed::BoxedItems;
 use ct_values::config::Config;
 use ct_values::copies::Duplicate;
 use ct_values::items::Items;
@@ -80,9 +81,9 @@ fn told(
     node: u32,
     vbase: u64,
     pbase: u64,
-    table: &Items<TableRow>,
-    ptables: &Items<PTable>,
-    addresses: &Items<Address>,
+    table: &BoxedItems<TableRow>,
+    ptables: &BoxedItems<PTable>,
+    addresses: &BoxedItems<Address>,
 ) -> Result<Pull, NoMemory>
     ensures { IfOk result (λ p. p ≡ record { node = node; vbase = vbase; pbase = pbase; table = table.now; ptables = ptables.now; addresses = addresses.now }) }
 {
@@ -90,9 +91,9 @@ fn told(
         node,
         vbase,
         pbase,
-        table: table.duplicate()?,
-        ptables: ptables.duplicate()?,
-        addresses: addresses.duplicate()?,
+        table: table.items()?,
+        ptables: ptables.items()?,
+        addresses: addresses.items()?,
     })
 }
 
@@ -104,9 +105,9 @@ pub(crate) fn pullreply(
     frame: &Frame,
     vbase: u64,
     pbase: u64,
-    table: &Items<TableRow>,
-    ptables: &Items<PTable>,
-    addresses: &Items<Address>,
+    table: &BoxedItems<TableRow>,
+    ptables: &BoxedItems<PTable>,
+    addresses: &BoxedItems<Address>,
     node: &Node,
 ) -> Result<Planned, CoreFault>
     requires { is_message frame.now.sender (message.PullReply vbase pbase table.now ptables.now addresses.now) ≡ true }

@@ -2,6 +2,7 @@
 ghost use Rattle.std.specs.Prelude.{◌≡◌, IfOk};
 
 use ct_values::address::Address;
+use ct_values::boxed::BoxedItems;
 use ct_values::client::Pair;
 use ct_values::copies::Duplicate;
 use ct_values::items::Items;
@@ -219,16 +220,16 @@ pub enum Msg {
     PullReply {
         vbase: u64,
         pbase: u64,
-        table: Items<TableRow>,
-        ptables: Items<PTable>,
-        addresses: Items<Address>,
+        table: BoxedItems<TableRow>,
+        ptables: BoxedItems<PTable>,
+        addresses: BoxedItems<Address>,
     },
     /// All that every member is to hold.
     Push {
-        members: Items<u32>,
-        table: Items<TableRow>,
-        ptables: Items<PTable>,
-        assigned: Items<Assigned>,
+        members: BoxedItems<u32>,
+        table: BoxedItems<TableRow>,
+        ptables: BoxedItems<PTable>,
+        assigned: BoxedItems<Assigned>,
     },
     PushAck,
     /// The recovery is over.

@@ -11,6 +11,7 @@ use crate::leader::Leader;
 use crate::run::Run;
 use ct_frame::frame::{Assigned, Msg};
 use ct_frame::round::{PushBody, Stage};
+use ct_values::boxed::BoxedItems;
 use ct_values::copies::Duplicate;
 use ct_values::items::Items;
 use ct_values::memory::NoMemory;
@@ -33,10 +34,10 @@ fn push_of(body: &PushBody) -> Result<Msg, NoMemory>
     ensures { IfOk result (λ m. m ≡ push_of body.now) }
 {
     Ok(Msg::Push {
-        members: body.members.duplicate()?,
-        table: body.table.duplicate()?,
-        ptables: body.ptables.duplicate()?,
-        assigned: body.assigned.duplicate()?,
+        members: BoxedItems::new(body.members.duplicate()?)?,
+        table: BoxedItems::new(body.table.duplicate()?)?,
+        ptables: BoxedItems::new(body.ptables.duplicate()?)?,
+        assigned: BoxedItems::new(body.assigned.duplicate()?)?,
     })
 }
 

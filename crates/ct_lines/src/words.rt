@@ -98,8 +98,9 @@ pub fn key_word(alloc: Global, word: &[u8]) -> Result<Key, WordFault>
     ensures { Reads result (key_word word.now) }
 {
     match Key::from_vec(unspelled(alloc, word)?) {
-        Some(key) => Ok(key),
-        None => Err(WordFault::NoForm),
+        Ok(Some(key)) => Ok(key),
+        Ok(None) => Err(WordFault::NoForm),
+        Err(_) => Err(WordFault::NoMemory),
     }
 }
 
@@ -107,8 +108,9 @@ pub fn value_word(alloc: Global, word: &[u8]) -> Result<Value, WordFault>
     ensures { Reads result (value_word word.now) }
 {
     match Value::from_vec(unspelled(alloc, word)?) {
-        Some(value) => Ok(value),
-        None => Err(WordFault::NoForm),
+        Ok(Some(value)) => Ok(value),
+        Ok(None) => Err(WordFault::NoForm),
+        Err(_) => Err(WordFault::NoMemory),
     }
 }
 

@@ -100,6 +100,16 @@ tidy_forgotten keys m k s b d h = record {
   worth = written_worth m k s b h.worth;
 }
 
+-- with its key noted still
+pub after_kept : (keys : List (List ℕ)) (m n : Pairs RecState) (k : List ℕ) (s : RecState) → n ≡ write k s m → is_blank s ≡ false → is_deleted s.copy ≡ false → IsTidy keys m → IsTidy keys n
+unfolding or_nothing
+after_kept keys m n k s i b d h = subst (λ (x : Pairs RecState). IsTidy keys x) (sym i) (record {
+  noted = everywhere (λ (q : List ℕ). is_deleted (or_nothing (look q (write k s m))).copy ≡ true → is_noted q keys ≡ true) k
+      (λ e. absurd (let h = ap (λ (x : Option RecState). is_deleted (or_nothing x).copy) (sym (written m k s)) ∙ e in cc))
+      (λ q n e. h.noted q (ap (λ (x : Option RecState). is_deleted (or_nothing x).copy) (sym (not_written m k q s n)) ∙ e));
+  worth = written_worth m k s b h.worth;
+})
+
 -- a key that is not there is forgotten
 pub tidy_absent : (keys : List (List ℕ)) (m : Pairs RecState) (k : List ℕ) → look k m ≡ None → IsTidy keys m → IsTidy (forgotten k keys) m
 unfolding or_nothing is_deleted

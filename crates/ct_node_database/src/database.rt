@@ -20,6 +20,7 @@ use ct_rules::state::RecState;
 use ct_store::hashed::Store;
 use ct_tracking::candidates::Candidates;
 use ct_tracking::tracking::Tracking;
+use ct_values::boxed::Boxed;
 use ct_values::client::Pair;
 use ct_values::copies::Duplicate;
 use ct_values::items::Items;
@@ -82,7 +83,7 @@ impl Duplicate for Committing {
 #[derive(Drop)]
 pub struct Database {
     alloc: Global,
-    records: Store<RecState>,
+    records: Store<Boxed<RecState>>,
     noted: Candidates,
     floor: u64,
     store: PStore,
@@ -114,8 +115,23 @@ fn is_deleted(copy: &Option<RecCopy>) -> bool
     }
 }
 
+/// Is it the state of a deleted record?
+#[tactic(auto, unfolding(crate::specs::Noted::is_deleted, ct_rules_node::specs::Node::or_nothing))]
+fn was_deleted(state: &Option<Boxed<RecState>>) -> bool
+    ensures { result ≡ is_deleted (or_nothing state.now).copy }
+{
+    match state {
+        Some(state) => is_deleted(&state.as_ref().copy),
+        None => false,
+    }
+}
+
 /// Puts a state at a key.
-fn put(records: &mut Store<RecState>, key: Key, state: RecState) -> Result<(), NoMemory>
+fn put(
+    records: &mut Store<Boxed<RecState>>,
+    key: Key,
+    state: Boxed<RecState>,
+) -> Result<(), NoMemory>
     ensures ok { OnOk result (records.new ≡ write key state records.old) }
     ensures err { OnErr result (records.new ≡ records.old) }
     ensures absent { OnErr result (look key records.old ≡ None) }
@@ -125,7 +141,7 @@ fn put(records: &mut Store<RecState>, key: Key, state: RecState) -> Result<(), N
 }
 
 /// Puts another state at a key that has one. It takes no memory.
-fn overwrite(records: &mut Store<RecState>, key: Key, state: RecState)
+fn overwrite(records: &mut Store<Boxed<RecState>>, key: Key, state: Boxed<RecState>)
     requires { look key records.old ≢ None }
     ensures { records.new ≡ write key state records.old }
 {
@@ -136,14 +152,14 @@ fn overwrite(records: &mut Store<RecState>, key: Key, state: RecState)
 }
 
 /// The states stand in the order of their keys: the store says so beside its length. It changes nothing.
-fn are_in_order(records: &Store<RecState>)
+fn are_in_order(records: &Store<Boxed<RecState>>)
     ensures { Ascends records.now }
 {
     let _ = records.len();
 }
 
 /// Takes the state of a key out.
-fn take_out(records: &mut Store<RecState>, key: &Key)
+fn take_out(records: &mut Store<Boxed<RecState>>, key: &Key)
     ensures after { records.new ≡ erase key.now records.old }
     ensures ascends { Ascends records.old }
 {
@@ -198,7 +214,7 @@ impl Database {
     }
 
     /// The states by key. None is blank.
-    pub fn records(&self) -> &Store<RecState>
+    pub fn records(&self) -> &Store<Boxed<RecState>>
         ensures states { result.now ≡ self.now.records }
         ensures worth { (key : List ℕ) → is_worth (look key self.now.records) ≡ true }
     {
@@ -240,7 +256,7 @@ impl Database {
         ensures { IfOk result (λ s. s ≡ or_nothing (look key.now self.now.records)) }
     {
         match self.records.get(key) {
-            Some(state) => state.copy(),
+            Some(state) => state.as_ref().copy(),
             None => Ok(RecState::new(self.alloc)),
         }
     }
@@ -254,7 +270,7 @@ impl Database {
     }
 
     /// A key has the state of a deleted record. Without memory nothing changes.
-    fn write_deleted(&mut self, key: Key, state: RecState) -> Result<(), NoMemory>
+    fn write_deleted(&mut self, key: Key, state: Boxed<RecState>) -> Result<(), NoMemory>
         requires { is_blank state ≡ false }
         ensures ok { OnOk result (self.new ≡ record self.old { records = write key state self.old.records }) }
         ensures err { OnErr result (self.new ≡ self.old) }
@@ -264,36 +280,49 @@ impl Database {
     }
 
     /// A key has the state of a record that is not deleted. Without memory nothing changes.
-    fn write_other(&mut self, key: Key, state: RecState) -> Result<(), NoMemory>
+    fn write_other(&mut self, key: Key, state: Boxed<RecState>) -> Result<(), NoMemory>
         requires worth { is_blank state ≡ false }
         requires other { is_deleted state.copy ≡ false }
         ensures ok { OnOk result (self.new ≡ record self.old { records = write key state self.old.records }) }
         ensures err { OnErr result (self.new ≡ self.old) }
     {
-        self.noted.forget(&key);
-        put(&mut self.records, key, state)
+        let name = key.copy()?;
+        let before = self.records.put(key, state)?;
+        if was_deleted(&before) {
+            self.noted.forget(&name);
+        }
+        Ok(())
     }
 
     /// A key has another state; a blank one is removed. Without memory nothing changes.
     #[tactic(auto, unfolding(ct_rules_node::specs::Records::kept))]
-    pub fn keep(&mut self, key: Key, state: RecState) -> Result<(), NoMemory>
+    pub fn keep_boxed(&mut self, key: Key, state: Boxed<RecState>) -> Result<(), NoMemory>
         ensures ok { OnOk result (self.new ≡ record self.old { records = kept key state self.old.records }) }
         ensures err { OnErr result (self.new ≡ self.old) }
     {
-        if state.blank() {
+        if state.as_ref().blank() {
             self.erase(&key);
             return Ok(());
         }
-        if is_deleted(&state.copy) {
+        if is_deleted(&state.as_ref().copy) {
             self.write_deleted(key, state)
         } else {
             self.write_other(key, state)
         }
     }
 
+    /// A key has another state; a blank one is removed. Without memory nothing changes.
+    pub fn keep(&mut self, key: Key, state: RecState) -> Result<(), NoMemory>
+        ensures ok { OnOk result (self.new ≡ record self.old { records = kept key state self.old.records }) }
+        ensures err { OnErr result (self.new ≡ self.old) }
+    {
+        let state = Boxed::new(self.alloc, state)?;
+        self.keep_boxed(key, state)
+    }
+
     /// A key has the state of a deleted record, as it had before. It takes no memory.
     #[tactic(auto, using(crate::proofs::Noting::deleted_is_there))]
-    fn overwrite_deleted(&mut self, key: Key, state: RecState)
+    fn overwrite_deleted(&mut self, key: Key, state: Boxed<RecState>)
         requires worth { is_blank state ≡ false }
         requires deleted { is_deleted (or_nothing (look key self.old.records)).copy ≡ true }
         ensures { self.new ≡ record self.old { records = write key state self.old.records } }
@@ -303,7 +332,7 @@ impl Database {
 
     /// A key has the state of a record that is not deleted, as it was before. It takes no memory.
     #[tactic(auto, using(crate::proofs::Noting::deleted_is_there))]
-    fn overwrite_other(&mut self, key: Key, state: RecState)
+    fn overwrite_other(&mut self, key: Key, state: Boxed<RecState>)
         requires worth { is_blank state ≡ false }
         requires other { is_deleted state.copy ≡ false }
         requires deleted { is_deleted (or_nothing (look key self.old.records)).copy ≡ true }
@@ -315,15 +344,15 @@ impl Database {
 
     /// A key that has the state of a deleted record has another state; a blank one is removed. It takes no memory.
     #[tactic(auto, unfolding(ct_rules_node::specs::Records::kept))]
-    pub fn keep_deleted(&mut self, key: Key, state: RecState)
+    pub fn keep_deleted(&mut self, key: Key, state: Boxed<RecState>)
         requires { is_deleted (or_nothing (look key self.old.records)).copy ≡ true }
         ensures { self.new ≡ record self.old { records = kept key state self.old.records } }
     {
-        if state.blank() {
+        if state.as_ref().blank() {
             self.erase(&key);
             return;
         }
-        if is_deleted(&state.copy) {
+        if is_deleted(&state.as_ref().copy) {
             self.overwrite_deleted(key, state)
         } else {
             self.overwrite_other(key, state)
@@ -392,13 +421,13 @@ impl Database {
     }
 
     /// Takes all of these states, each changed so; a blank one is left out.
-    fn fill(&mut self, sweep: Sweep, records: &Store<RecState>) -> Result<(), NoMemory>
+    fn fill(&mut self, sweep: Sweep, records: &Store<Boxed<RecState>>) -> Result<(), NoMemory>
         requires { self.old.records ≡ [] }
         ensures { OnOk result (self.new ≡ record self.old { records = changed (swept sweep) records.now }) }
     {
         are_in_order(records);
         for (key, state) in records.sorted()? {
-            let state = swept(self.alloc, sweep, state)?;
+            let state = swept(self.alloc, sweep, state.as_ref())?;
             self.add(key.copy()?, state)?;
         }
         Ok(())

@@ -6,6 +6,7 @@ use ct_lead::lead::Lead;
 use ct_node_database::database::Committing;
 use ct_node_state::node::Node;
 use ct_rules::state::RecState;
+use ct_values::boxed::Boxed;
 use ct_values::client::Pair;
 use ct_values::items::Items;
 use ct_values::key::Key;
@@ -14,7 +15,7 @@ use ct_values::key::Key;
 #[derive(Drop)]
 pub struct Left {
     pub key: Key,
-    pub state: RecState,
+    pub state: Boxed<RecState>,
     pub next: u64,
     pub floor: u64,
 }
@@ -27,7 +28,7 @@ pub enum Change {
     Record {
         db: u32,
         key: Key,
-        state: RecState,
+        state: Boxed<RecState>,
         next: u64,
         floor: u64,
     },
@@ -55,7 +56,7 @@ pub enum Change {
         left: Items<Left>,
     },
     /// The node leads this.
-    Lead(Lead),
+    Lead(Boxed<Lead>),
     /// It holds these addresses, and this was the last takeover run that it followed.
     Hold(Holder),
     /// So it is, and it knows the addresses to be there.
@@ -64,9 +65,9 @@ pub enum Change {
         holder: Holder,
     },
     /// All but the databases becomes this.
-    Beside(Node),
+    Beside(Boxed<Node>),
     /// The node becomes this.
-    Whole(Node),
+    Whole(Boxed<Node>),
 }
 
 /// What a step changes, and what it does, in order.

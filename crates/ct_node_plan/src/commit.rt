@@ -103,7 +103,7 @@ pub fn commit(node: &mut Node, change: Change) -> Result<(), NoMemory>
             Ok(())
         }
         Change::Lead(led) => {
-            lead(node, led);
+            lead(node, led.into_inner());
             Ok(())
         }
         Change::Hold(holder) => {
@@ -116,11 +116,11 @@ pub fn commit(node: &mut Node, change: Change) -> Result<(), NoMemory>
             Ok(())
         }
         Change::Beside(other) => {
-            take_beside(node, other);
+            take_beside(node, other.into_inner());
             Ok(())
         }
         Change::Whole(other) => {
-            *node = other;
+            *node = other.into_inner();
             Ok(())
         }
     }

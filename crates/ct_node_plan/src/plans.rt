@@ -1,5 +1,5 @@
 //! Plans that send, by what they change: nothing, all but the databases, or all of a node.
-ghost use Rattle.std.specs.Prelude.{◌≡◌, ◌++◌, ◌∷◌, [], OnOk};
+ghost use Rattle.std.specs.Prelude.{◌≡◌, ◌++◌, ◌∷◌, [], OnOk, IfOk};
 ghost use Rattle.ct_rules_node.specs.Turn.{begins, notes, posts, posts_all, with_lead};
 ghost use Rattle.ct_node_plan.specs.Changes.{IsPlanned, Plans};
 ghost use Rattle.ct_node_plan.specs.declared.change.Change.TheVariants as change;
@@ -10,6 +10,7 @@ use ct_frame::frame::{Frame, Msg};
 use ct_lead::lead::Lead;
 use ct_node_state::node::Node;
 use ct_node_state::turn::{CoreFault, Turn};
+use ct_values::boxed::Boxed;
 use ct_values::items::Items;
 use ct_values::memory::NoMemory;
 
@@ -50,24 +51,26 @@ pub fn posts(
 
 /// What a step makes of the node, and what it does.
 #[tactic(auto, unfolding(crate::specs::Changes::changed_by))]
-pub fn whole(turn: Turn, node: &Node) -> Planned
-    ensures { IsPlanned result turn node.now }
+pub fn whole(turn: Turn, node: &Node) -> Result<Planned, NoMemory>
+    ensures { IfOk result (λ r. IsPlanned r turn node.now) }
 {
-    let _next = node.next;
-    Planned {
-        change: Change::Whole(turn.node),
+    let change = Change::Whole(Boxed::new(node.alloc, turn.node)?);
+    Ok(Planned {
+        change,
         outs: turn.outs,
-    }
+    })
 }
 
 /// What a step makes of all but the databases, and what it does.
-pub fn beside(turn: Turn) -> Planned
-    ensures { result ≡ record { change = change.Beside turn.node; outs = turn.outs } }
+pub fn beside(turn: Turn) -> Result<Planned, NoMemory>
+    ensures { IfOk result (λ r. r ≡ record { change = change.Beside turn.node; outs = turn.outs }) }
 {
-    Planned {
-        change: Change::Beside(turn.node),
+    let alloc = turn.node.alloc;
+    let change = Change::Beside(Boxed::new(alloc, turn.node)?);
+    Ok(Planned {
+        change,
         outs: turn.outs,
-    }
+    })
 }
 
 /// The node leads this from now on.
@@ -76,7 +79,7 @@ pub fn leads(node: &Node, lead: Lead) -> Result<Planned, CoreFault>
     ensures { Plans result (with_lead lead (begins node.now)) node.now }
 {
     let turn = Turn::begins(node.leading(lead)?);
-    Ok(beside(turn))
+    Ok(beside(turn)?)
 }
 
 /// The node leads this from now on, and the same message of a generation is sent to several nodes, in order.
@@ -92,7 +95,7 @@ pub fn leads_and_posts(
 {
     let mut turn = Turn::begins(node.leading(lead)?);
     turn.posts_all(generation, me, nodes, msg)?;
-    Ok(beside(turn))
+    Ok(beside(turn)?)
 }
 
 /// The node leads this from now on and notes something, and the same message of a generation is sent to several nodes, in
@@ -111,5 +114,5 @@ pub fn leads_notes_and_posts(
     let mut turn = Turn::begins(node.leading(lead)?);
     turn.notes(note)?;
     turn.posts_all(generation, me, nodes, msg)?;
-    Ok(beside(turn))
+    Ok(beside(turn)?)
 }

@@ -150,7 +150,7 @@ fn follows(
     }
     let mut turn = installs(config, me, push, shared, node)?;
     turn.posts(push.generation, me, push.sender, Msg::PushAck)?;
-    Ok(whole(turn, node))
+    Ok(whole(turn, node)?)
 }
 
 /// Push: a node that is Frozen for this generation installs it, and one that is present in it acknowledges again. The

@@ -53,7 +53,7 @@ fn frozen(
     ensures { Plans result (frozen_if_unlocked me generation leader turn) node.now }
 {
     turn.frozen_if_unlocked(me, generation, leader)?;
-    Ok(whole(turn, node))
+    Ok(whole(turn, node)?)
 }
 
 /// A lock ends at a Freezing node, which is Frozen where it was the last one.

@@ -14,6 +14,7 @@ use ct_node_plan::still::nothing;
 use ct_node_state::node::Node;
 use ct_node_state::turn::{CoreFault, Turn};
 use ct_node_view::rows::{ptables, table};
+use ct_values::boxed::BoxedItems;
 use ct_values::config::Config;
 use ct_values::copies::Duplicate;
 use ct_values::items::Items;
@@ -77,7 +78,7 @@ fn follows(
     let mut turn = freezes(generation, sender, node)?;
     ends_commits(&mut turn, config, node.dbs.as_slice())?;
     turn.frozen_if_unlocked(me, generation, sender)?;
-    Ok(whole(turn, node))
+    Ok(whole(turn, node)?)
 }
 
 /// Freeze: above the promise it is followed, and a node that is Frozen for it acknowledges again. The configuration has a
@@ -111,9 +112,9 @@ fn reply(config: &Config, me: u32, node: &Node) -> Result<Msg, NoMemory>
     Ok(Msg::PullReply {
         vbase: node.member.generation(),
         pbase: node.pbase,
-        table: table(me, node)?,
-        ptables: ptables(config, node)?,
-        addresses: Items::new(Vec::from_slice(node.alloc, node.holder.held())?),
+        table: BoxedItems::new(table(me, node)?)?,
+        ptables: BoxedItems::new(ptables(config, node)?)?,
+        addresses: BoxedItems::new(Items::new(Vec::from_slice(node.alloc, node.holder.held())?))?,
     })
 }
 

@@ -21,6 +21,7 @@ use ct_node_plan::still::nothing;
 use ct_node_state::node::Node;
 use ct_node_state::placing::assigned_all;
 use ct_node_state::turn::CoreFault;
+use ct_values::boxed::BoxedItems;
 use ct_values::config::Config;
 use ct_values::items::Items;
 use ct_values::memory::NoMemory;
@@ -89,10 +90,10 @@ pub fn push_of(body: &PushBody) -> Result<Msg, NoMemory>
         ..
     } = body.copy()?;
     Ok(Msg::Push {
-        members,
-        table,
-        ptables,
-        assigned,
+        members: BoxedItems::new(members)?,
+        table: BoxedItems::new(table)?,
+        ptables: BoxedItems::new(ptables)?,
+        assigned: BoxedItems::new(assigned)?,
     })
 }
 

@@ -127,5 +127,5 @@ pub fn on_thaw(
     }
     let mut turn = serves(generation, node)?;
     want_pending(&mut turn, config, table, me, node)?;
-    Ok(whole(turn, node))
+    Ok(whole(turn, node)?)
 }

@@ -20,6 +20,7 @@ use ct_node_plan::posts::{post_all, post_releases, take};
 use ct_node_state::node::Node;
 use ct_node_state::phases::is_serving;
 use ct_node_state::turn::CoreFault;
+use ct_values::boxed::Boxed;
 use ct_values::config::Config;
 use ct_values::items::Items;
 use ct_values::memory::NoMemory;
@@ -117,7 +118,7 @@ pub fn begin_takeover(
     )?;
     let lead = node.lead.begin_run(number, placement)?;
     Ok(Planned {
-        change: Change::Lead(lead),
+        change: Change::Lead(Boxed::new(node.alloc, lead)?),
         outs,
     })
 }
@@ -160,12 +161,12 @@ pub fn on_releaseack(
         Some(placement) => {
             let outs = takes(node.alloc, generation, me, number, members, placement)?;
             Ok(Planned {
-                change: Change::Lead(lead),
+                change: Change::Lead(Boxed::new(node.alloc, lead)?),
                 outs,
             })
         }
         None => Ok(Planned {
-            change: Change::Lead(lead),
+            change: Change::Lead(Boxed::new(node.alloc, lead)?),
             outs: Items::empty(node.alloc),
         }),
     }

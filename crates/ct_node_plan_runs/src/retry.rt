@@ -25,6 +25,7 @@ use ct_rules::event::Place;
 use ct_rules::state::{RecState, Wish};
 use ct_store::hashed::Store;
 use ct_tracking::tracking::Tracking;
+use ct_values::boxed::Boxed;
 use ct_values::config::Config;
 use ct_values::copies::Duplicate;
 use ct_values::items::Items;
@@ -128,12 +129,17 @@ fn revokes_of(
     generation: u64,
     me: u32,
     db: u32,
-    records: &Store<RecState>,
+    records: &Store<Boxed<RecState>>,
 ) -> Result<(), NoMemory>
     ensures { OnOk result (outs.new ≡ outs.old ++ revoked_in generation me db records.now) }
 {
-    for (key, state) in records.sorted_where(|state| state.tracking.revoking().is_some())? {
-        revoke_again(outs, generation, me, db, key, &state.tracking)?;
+    for (key, state) in records.sorted_where(|state| state
+        .as_ref()
+        .tracking
+        .revoking()
+        .is_some())?
+    {
+        revoke_again(outs, generation, me, db, key, &state.as_ref().tracking)?;
     }
     Ok(())
 }

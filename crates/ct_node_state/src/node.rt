@@ -19,6 +19,7 @@ use ct_node_database::database::{Committing, Database};
 use ct_record_parts::draft::Draft;
 use ct_rules::event::Place;
 use ct_rules::state::RecState;
+use ct_values::boxed::Boxed;
 use ct_values::client::Pair;
 use ct_values::config::{Config, DbDecl};
 use ct_values::copies::Duplicate;
@@ -77,7 +78,7 @@ fn put_at(
     dbs: &mut Items<Database>,
     db: usize,
     key: Key,
-    state: RecState,
+    state: Boxed<RecState>,
     floor: u64,
 ) -> Result<(), NoMemory>
     requires { db < length dbs.old }
@@ -85,14 +86,20 @@ fn put_at(
     ensures err { OnErr result (dbs.new ≡ dbs.old) }
 {
     let database = dbs.get_mut(db);
-    database.keep(key, state)?;
+    database.keep_boxed(key, state)?;
     database.set_floor(floor);
     Ok(())
 }
 
 /// One database has another state of a key, which had the state of a deleted record, and another floor. It takes no memory.
 #[tactic(auto, unfolding(ct_rules_node::specs::Node::or_untouched))]
-fn put_deleted_at(dbs: &mut Items<Database>, db: usize, key: Key, state: RecState, floor: u64)
+fn put_deleted_at(
+    dbs: &mut Items<Database>,
+    db: usize,
+    key: Key,
+    state: Boxed<RecState>,
+    floor: u64,
+)
     requires there { db < length dbs.old }
     requires deleted { is_deleted (or_nothing (look key (or_untouched (slice_get dbs.old db)).records)).copy ≡ true }
     ensures { dbs.new ≡ slice_set dbs.old db (record (or_untouched (slice_get dbs.old db)) { records = kept key state (or_untouched (slice_get dbs.old db)).records; floor = floor }) }
@@ -249,7 +256,10 @@ impl Node {
         ensures { or_nothing (option_copied result) ≡ state_at db key.now self.now }
     {
         match self.database(db) {
-            Some(database) => database.records().get(key),
+            Some(database) => match database.records().get(key) {
+                Some(state) => Some(state.as_ref()),
+                None => None,
+            },
             None => None,
         }
     }
@@ -291,7 +301,7 @@ impl Node {
         &mut self,
         db: u32,
         key: Key,
-        state: RecState,
+        state: Boxed<RecState>,
         next: u64,
         floor: u64,
     ) -> Result<(), NoMemory>
@@ -306,7 +316,7 @@ impl Node {
 
     /// What the rule of a record makes of the node where the record is a deleted one. It takes no memory.
     #[tactic(auto, unfolding(ct_rules_node::specs::Records::put_back, ct_rules_node::specs::Node::with_db, ct_rules_node::specs::Node::db_at, ct_rules_node::specs::Node::state_at))]
-    pub fn put_deleted(&mut self, db: u32, key: Key, state: RecState, next: u64, floor: u64)
+    pub fn put_deleted(&mut self, db: u32, key: Key, state: Boxed<RecState>, next: u64, floor: u64)
         requires there { db < length self.old.dbs }
         requires deleted { is_deleted (state_at db key self.old).copy ≡ true }
         ensures { self.new ≡ put_back db key (left_as state next floor) self.old }

@@ -14,6 +14,7 @@ use ct_frame::event::{Note, Out};
 use ct_frame::frame::{Frame, Msg};
 use ct_record_parts::draft::Draft;
 use ct_values::address::Address;
+use ct_values::boxed::Boxed;
 use ct_values::client::Answer;
 use ct_values::items::Items;
 use ct_values::key::Key;
@@ -158,6 +159,7 @@ impl Turn {
         } = draft;
         let outs = outs_of(alloc, self.node.member.generation(), me, db, key, acts)?;
         self.outs.append(&mut outs.into_vec())?;
+        let state = Boxed::new(alloc, state)?;
         self.node.put_back(db, key.copy()?, state, next, floor)?;
         Ok(())
     }

@@ -9,6 +9,7 @@ use ct_frame::header::RecCopy;
 use ct_node_state::node::Node;
 use ct_rules::state::{Entry, RecState};
 use ct_store::hashed::Store;
+use ct_values::boxed::Boxed;
 use ct_values::key::Key;
 use ct_values::memory::NoMemory;
 use std::alloc::Global;
@@ -28,11 +29,15 @@ fn entry_row(db: u32, key: &Key, entry: &Entry) -> Result<TableRow, NoMemory>
 
 /// Puts a row for each entry behind these, by key.
 #[tactic(auto, unfolding(ct_rules_node::specs::Rounds::with_row))]
-fn add_entries(rows: &mut Vec<TableRow>, db: u32, records: &Store<RecState>) -> Result<(), NoMemory>
+fn add_entries(
+    rows: &mut Vec<TableRow>,
+    db: u32,
+    records: &Store<Boxed<RecState>>,
+) -> Result<(), NoMemory>
     ensures { OnOk result (rows.new.items ≡ rows.old.items ++ entries_of db records.now) }
 {
-    for (key, state) in records.sorted_where(|state| state.entry.is_some())? {
-        if let Some(entry) = &state.entry {
+    for (key, state) in records.sorted_where(|state| state.as_ref().entry.is_some())? {
+        if let Some(entry) = &state.as_ref().entry {
             rows.push(entry_row(db, key, entry)?)?;
         }
     }
@@ -52,12 +57,15 @@ pub fn entries(db: u32, node: &Node) -> Result<Vec<TableRow>, NoMemory>
 }
 
 /// The copies that a map has, by key.
-fn copies_of(alloc: Global, records: &Store<RecState>) -> Result<Vec<(&Key, &RecCopy)>, NoMemory>
+fn copies_of(
+    alloc: Global,
+    records: &Store<Boxed<RecState>>,
+) -> Result<Vec<(&Key, &RecCopy)>, NoMemory>
     ensures { IfOk result (λ copies. map deref_pair copies.items ≡ copies_of records.now) }
 {
     let mut copies = Vec::new(alloc);
-    for (key, state) in records.sorted_where(|state| state.copy.is_some())? {
-        if let Some(copy) = &state.copy {
+    for (key, state) in records.sorted_where(|state| state.as_ref().copy.is_some())? {
+        if let Some(copy) = &state.as_ref().copy {
             copies.push((key, copy))?;
         }
     }

@@ -88,7 +88,8 @@ pub fn members_in(msg: &Msg) -> Option<&[u32]>
     ensures { MatchOption result (members_in msg.now ≡ None) (λ ns. members_in msg.now ≡ Some ns.now) }
 {
     match msg {
-        Msg::Freeze { members } | Msg::Push { members, .. } => Some(members.as_slice()),
+        Msg::Freeze { members } => Some(members.as_slice()),
+        Msg::Push { members, .. } => Some(members.as_slice()),
         _ => None,
     }
 }

@@ -8,6 +8,7 @@ use ct_node_state::node::Node;
 use ct_rules::state::{RecState, Wish};
 use ct_rules_cluster::step::PendingCall;
 use ct_store::hashed::Store;
+use ct_values::boxed::Boxed;
 use ct_values::client::ClientOp;
 use ct_values::copies::Duplicate;
 use ct_values::memory::NoMemory;
@@ -31,12 +32,12 @@ fn of_wish(node: u32, wish: &Wish) -> Result<PendingCall, NoMemory>
 fn add_wished(
     calls: &mut Vec<PendingCall>,
     node: u32,
-    records: &Store<RecState>,
+    records: &Store<Boxed<RecState>>,
 ) -> Result<(), NoMemory>
     ensures { OnOk result (calls.new.items ≡ calls.old.items ++ wished_in node records.now) }
 {
-    for (_key, state) in records.sorted_where(|state| state.wish.is_some())? {
-        if let Some(wish) = &state.wish {
+    for (_key, state) in records.sorted_where(|state| state.as_ref().wish.is_some())? {
+        if let Some(wish) = &state.as_ref().wish {
             calls.push(of_wish(node, wish)?)?;
         }
     }

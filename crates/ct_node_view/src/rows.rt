@@ -11,6 +11,7 @@ use ct_node_state::kinds::{is_persistent, kind_at};
 use ct_node_state::node::Node;
 use ct_rules::state::RecState;
 use ct_store::hashed::Store;
+use ct_values::boxed::Boxed;
 use ct_values::config::Config;
 use ct_values::items::Items;
 use ct_values::key::Key;
@@ -49,12 +50,12 @@ fn add_rows(
     rows: &mut Vec<TableRow>,
     me: u32,
     db: u32,
-    records: &Store<RecState>,
+    records: &Store<Boxed<RecState>>,
 ) -> Result<(), NoMemory>
     ensures { OnOk result (rows.new.items ≡ rows.old.items ++ rows_of me db records.now) }
 {
-    for (key, state) in records.sorted_where(|state| state.copy.is_some())? {
-        if let Some(copy) = &state.copy {
+    for (key, state) in records.sorted_where(|state| state.as_ref().copy.is_some())? {
+        if let Some(copy) = &state.as_ref().copy {
             rows.push(row_of(me, db, key, copy)?)?;
         }
     }

@@ -166,9 +166,8 @@ fn names_addresses(config: &Config, msg: &Msg) -> bool
 {
     match msg {
         Msg::PullReply { addresses, .. } => are_addresses(config, addresses.as_slice()),
-        Msg::Push { assigned, .. } | Msg::Take { assigned, .. } => {
-            assign_addresses(config, assigned.as_slice())
-        }
+        Msg::Push { assigned, .. } => assign_addresses(config, assigned.as_slice()),
+        Msg::Take { assigned, .. } => assign_addresses(config, assigned.as_slice()),
         Msg::Release { keep, .. } => are_addresses(config, keep.as_slice()),
         _ => true,
     }

@@ -7,6 +7,7 @@ use ct_node_database::database::Database;
 use ct_node_state::node::Node;
 use ct_rules::state::RecState;
 use ct_store::hashed::Store;
+use ct_values::boxed::Boxed;
 use ct_values::key::Key;
 use ct_values::memory::NoMemory;
 use std::alloc::Global;
@@ -33,11 +34,15 @@ impl Model for Called {
 
 /// Puts the calls that wait in a database behind these, by key.
 #[tactic(auto, unfolding(ct_rules_node::specs::Rounds::calls_of, ct_rules_node::specs::Rounds::called_of))]
-fn add_calls(calls: &mut Vec<Called>, db: u32, records: &Store<RecState>) -> Result<(), NoMemory>
+fn add_calls(
+    calls: &mut Vec<Called>,
+    db: u32,
+    records: &Store<Boxed<RecState>>,
+) -> Result<(), NoMemory>
     ensures { OnOk result (calls.new.items ≡ calls.old.items ++ calls_of db records.now) }
 {
-    for (key, state) in records.sorted_where(|state| state.wish.is_some())? {
-        if let Some(wish) = &state.wish {
+    for (key, state) in records.sorted_where(|state| state.as_ref().wish.is_some())? {
+        if let Some(wish) = &state.as_ref().wish {
             calls.push(Called {
                 call: wish.call,
                 db,

@@ -65,7 +65,7 @@ fn one_letter(alloc: Global, letter: u8) -> Result<Key, NoMemory>
 {
     let mut bytes = Vec::new(alloc);
     bytes.push(letter)?;
-    match Key::from_vec(bytes) {
+    match Key::from_vec(bytes)? {
         Some(key) => Ok(key),
         None => unreachable!(),
     }
@@ -83,7 +83,7 @@ fn asked_value(alloc: Global, word: u32) -> Result<Value, NoMemory>
 {
     let mut text = Vec::new(alloc);
     push_decimal(&mut text, u64::from(asked_number(word)))?;
-    match Value::from_vec(text) {
+    match Value::from_vec(text)? {
         Some(value) => Ok(value),
         None => unreachable!(),
     }

@@ -80,7 +80,7 @@ fn key_in(alloc: Global, word: u32) -> Result<Key, NoMemory>
 {
     let mut bytes = Vec::new(alloc);
     bytes.push(letter_in(word))?;
-    match Key::from_vec(bytes) {
+    match Key::from_vec(bytes)? {
         Some(key) => Ok(key),
         None => unreachable!(),
     }
@@ -92,7 +92,7 @@ fn value_in(alloc: Global, word: u32) -> Result<Value, NoMemory>
 {
     let mut text = Vec::new(alloc);
     push_decimal(&mut text, u64::from(number_in(word)))?;
-    match Value::from_vec(text) {
+    match Value::from_vec(text)? {
         Some(value) => Ok(value),
         None => unreachable!(),
     }
@@ -259,7 +259,7 @@ fn database_key(alloc: Global) -> Result<Key, NoMemory>
 {
     let mut bytes = Vec::new(alloc);
     bytes.push(b'p')?;
-    match Key::from_vec(bytes) {
+    match Key::from_vec(bytes)? {
         Some(key) => Ok(key),
         None => unreachable!(),
     }

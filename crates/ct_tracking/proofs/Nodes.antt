@@ -11,7 +11,7 @@ use Rattle.std.proofs.lemmas.List.Elements.{All-contains, All-filter, All-contai
 use Rattle.std.proofs.lemmas.List.Kept.{IsStrictlyIncreasing-filter}
 use Rattle.std.proofs.lemmas.Map.Keys.{sorted_from_strictly_increasing, IsStrictlyIncreasing-from_sorted}
 use Rattle.ct_values.specs.Words.{is_nil, others}
-use Rattle.ct_tracking.specs.Awaited.{AreAsked, including, below, is_last}
+use Rattle.ct_tracking.specs.Awaited.{AreAsked, Awaited, asking, below, including, is_last}
 use Rattle.ct_tracking.specs.Tracked.{AreMissing, missing_of, revocation, rsn_of}
 
 -- all of these nodes are above this one
@@ -105,6 +105,16 @@ asked_once_more asked missing again a is = asked_all asked asked again a.asked_a
 
 pub asked_nobody : (asked missing : List ℕ) → asked ≡ [] → missing ≡ [] → AreAsked asked missing
 asked_nobody asked missing e f = asked_all [] asked missing (IsStrictlyIncreasing-from_sorted [] sorted_none) e f
+
+-- where nobody is asked, nobody is missing
+pub missing_nobody : (asked missing : List ℕ) → AreAsked asked missing → asked ≡ [] → missing ≡ []
+missing_nobody asked [] a e = refl
+missing_nobody asked (n ∷ ns) a e = let found : Contains [] n = subst (λ l. Contains l n) e (a.among n (0, omega arith, refl)) in absurd (omega (arith, found.1))
+
+pub nobody_same : (asked missing : List ℕ) → AreAsked asked missing → asked ≡ [] → asking [] ≡ record { asked = asked; missing = missing }
+nobody_same asked missing a e =
+    let same : List ℕ → List ℕ → Awaited = λ l m. record { asked = l; missing = m } in
+    ap (λ l. same l []) (sym e) ∙ ap (λ m. same asked m) (sym (missing_nobody asked missing a e))
 
 -- where somebody is missing, a node is the last one where it leaves nobody missing
 pub last_of_some : (node : ℕ) (missing : List ℕ) → missing ≢ [] → is_last node missing ≡ is_nil (others node missing)

@@ -196,11 +196,14 @@ impl Awaited {
         is_among(self.missing.as_slice(), node)
     }
 
-    /// A copy that equals it.
+    /// A copy that equals it. It takes no memory where nobody is asked.
     pub fn copy(&self) -> Result<Awaited, NoMemory>
         ensures { IfOk result (λ a. a ≡ self.now) }
     {
         let alloc = *self.asked.allocator();
+        if self.asked.is_empty() {
+            return Ok(Awaited::nobody(alloc));
+        }
         Ok(Awaited {
             asked: Vec::from_slice(alloc, self.asked.as_slice())?,
             missing: with_room(alloc, self.missing.as_slice(), self.asked.len())?,

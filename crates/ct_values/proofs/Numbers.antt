@@ -26,11 +26,6 @@ value_front n i ds h =
 pub value_end : (n i : ℕ) (ds : List ℕ) → length ds ≤ i → value_after n (drop i ds) ≡ n
 value_end n i ds h = ap (value_after n) (drop_all i ds h)
 
--- the last digit comes behind those of the tenth part
-pub push_last : (old mid new : List ℕ) (n : ℕ) → 10 ≤ n → n < 2 ^ 64 → mid ≡ old ++ decimal (n / 10) → new ≡ mid ++ ((48 + n % 10) ∷ []) → new ≡ old ++ decimal n
-push_last old mid new n h k front last =
-    last ∙ ap (λ t. t ++ ((48 + n % 10) ∷ [])) front ∙ append_assoc old (decimal (n / 10)) ((48 + n % 10) ∷ []) ∙ ap (λ t. old ++ t) (sym (decimal_step n h k))
-
 chosen_some : (b : Bool) (x n : ℕ) → cond b (Some x) None ≡ Some n → (b ≡ true) × (x ≡ n)
 chosen_some true x n h = (refl, cc)
 chosen_some false x n h = cc

@@ -116,6 +116,17 @@ impl<T> Items<T> {
     }
 }
 
+impl<T: Copy> Items<T> {
+    /// Puts all of `more` behind the others. Without memory nothing changes.
+    pub fn extend_from_slice(&mut self, more: &[T]) -> Result<(), NoMemory>
+        ensures ok { OnOk result (self.new ≡ self.old ++ more.now) }
+        ensures err { OnErr result (self.new ≡ self.old) }
+    {
+        self.list.extend_from_slice(more)?;
+        Ok(())
+    }
+}
+
 impl<T: Drop> Items<T> {
     /// Keeps the first items alone.
     pub fn truncate(&mut self, count: usize)

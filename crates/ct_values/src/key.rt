@@ -9,15 +9,17 @@ ghost use Rattle.ct_values.specs.Key.{key_cmp};
 
 use crate::copies::Duplicate;
 use crate::memory::{BytesFault, NoMemory};
+use crate::same::same_bytes;
 use std::alloc::Global;
 use std::cmp::Ordering;
 use std::hash::{Hash, Hasher};
 use std::marker::Model;
+use std::sync::Arc;
 
 /// A key: 1 to 255 bytes, in the order of its bytes.
 #[derive(Debug, Drop)]
 pub struct Key {
-    list: Vec<u8>,
+    list: Arc<Vec<u8>>,
 }
 
 impl Model for Key {
@@ -25,9 +27,9 @@ impl Model for Key {
 
     ghost Value = { List ℕ };
 
-    ghost view = { λ a. a.list.items };
+    ghost view = { λ a. a.list.value.items };
 
-    ghost invariant = { λ a. (1 ≤ length a.list.items) × (length a.list.items ≤ 255) };
+    ghost invariant = { λ a. (1 ≤ length a.list.value.items) × (length a.list.value.items ≤ 255) };
 }
 
 impl PartialEq for Key {
@@ -36,7 +38,7 @@ impl PartialEq for Key {
     ghost laws = { partial_equiv_from_equiv nat_list_eq_equiv };
 
     fn eq(&self, other: &Key) -> bool {
-        self.list == other.list
+        same_bytes(self.list.as_slice(), other.list.as_slice())
     }
 }
 
@@ -91,17 +93,21 @@ impl Key {
             return Err(BytesFault::BadLength(bytes.len() as u64));
         }
         let list = Vec::from_slice(alloc, bytes)?;
-        Ok(Key { list })
+        match Arc::new(alloc, list) {
+            Ok(list) => Ok(Key { list }),
+            Err(_) => Err(BytesFault::NoMemory),
+        }
     }
 
-    /// The key whose bytes these are, which takes no memory. None exactly where there are none or more than 255.
-    pub fn from_vec(list: Vec<u8>) -> Option<Key>
-        ensures { SomeIff result ((1 ≤ length list.items) × (length list.items ≤ 255)) list.items }
+    /// The key whose bytes these are. None exactly where there are none or more than 255.
+    pub fn from_vec(list: Vec<u8>) -> Result<Option<Key>, NoMemory>
+        ensures { IfOk result (λ o. SomeIff o ((1 ≤ length list.items) × (length list.items ≤ 255)) list.items) }
     {
         if list.is_empty() || list.len() > 255 {
-            return None;
+            return Ok(None);
         }
-        Some(Key { list })
+        let list = Arc::new(*list.allocator(), list)?;
+        Ok(Some(Key { list }))
     }
 
     /// Its bytes.
@@ -116,7 +122,7 @@ impl Key {
     pub fn copy(&self) -> Result<Key, NoMemory>
         ensures { IfOk result (λ x. x ≡ self.now) }
     {
-        let list = self.list.clone()?;
+        let list = Arc::try_clone(&self.list)?;
         Ok(Key { list })
     }
 }

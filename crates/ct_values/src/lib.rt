@@ -8,6 +8,7 @@
 #![tactic(auto)]
 
 pub mod address;
+pub mod boxed;
 pub mod client;
 pub mod config;
 pub mod copies;
@@ -20,5 +21,6 @@ pub mod memory;
 pub mod name;
 pub mod nodes;
 pub mod number;
+mod same;
 pub mod spelling;
 pub mod value;

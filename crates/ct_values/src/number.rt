@@ -5,26 +5,16 @@ ghost use Rattle.std.specs.Fmt.{decimal};
 ghost use Rattle.ct_values.specs.Number.{IsDigit, is_digit, is_number, value_after, number_of};
 
 use crate::memory::NoMemory;
+use itoa::Buffer;
 
 /// Writes the number at the end of the text. Without memory the text stays as it is.
-#[tactic(auto, using(std::proofs::lemmas::Fmt::decimal_digit))]
 pub fn push_decimal(text: &mut Vec<u8>, n: u64) -> Result<(), NoMemory>
     ensures ok { OnOk result (text.new.items ≡ text.old.items ++ decimal n) }
     ensures err { OnErr result (text.new.items ≡ text.old.items) }
 {
-    if n < 10 {
-        text.push(b'0' + n as u8)?;
-        return Ok(());
-    }
-    let before = text.len();
-    push_decimal(text, n / 10)?;
-    match text.push(b'0' + (n % 10) as u8) {
-        Ok(()) => Ok(()),
-        Err(_) => {
-            text.truncate(before);
-            Err(NoMemory)
-        }
-    }
+    let mut buffer = Buffer::new();
+    text.extend_from_slice(buffer.format(n).as_bytes())?;
+    Ok(())
 }
 
 fn is_digit(d: u8) -> bool

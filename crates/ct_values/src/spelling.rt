@@ -47,7 +47,12 @@ fn is_plain(b: u8) -> bool
 fn is_all_plain(bytes: &[u8]) -> bool
     ensures { result ≡ list_all is_plain bytes.now }
 {
-    bytes.iter().all(|b| is_plain(*b))
+    for b in bytes {
+        if !is_plain(*b) {
+            return false;
+        }
+    }
+    true
 }
 
 fn is_dash(bytes: &[u8]) -> bool

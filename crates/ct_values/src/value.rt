@@ -9,25 +9,28 @@ ghost use Rattle.std.proofs.Common.{refl, rules};
 
 use crate::copies::Duplicate;
 use crate::memory::{BytesFault, NoMemory};
+use crate::same::same_bytes;
 use std::alloc::Global;
 use std::cmp::Ordering;
 use std::hash::{Hash, Hasher};
 use std::marker::Model;
+use std::sync::Arc;
 
 /// A value: 0 to 1,024 bytes, in the order of its bytes. The empty value is that of a deleted record.
 #[derive(Debug, Drop)]
 pub struct Value {
-    list: Vec<u8>,
+    list: Option<Arc<Vec<u8>>>,
 }
 
 impl Model for Value {
-    ghost use Rattle.std.specs.Prelude.{List, ℕ, length, ◌≤◌};
+    ghost use Rattle.std.specs.Prelude.{List, [], ℕ, length, ◌≤◌};
+    ghost use Rattle.std.specs.Option.{option_map_or};
 
     ghost Value = { List ℕ };
 
-    ghost view = { λ a. a.list.items };
+    ghost view = { λ a. option_map_or (λ v. v.value.items) a.list [] };
 
-    ghost invariant = { λ a. length a.list.items ≤ 1024 };
+    ghost invariant = { λ a. length (option_map_or (λ v. v.value.items) a.list []) ≤ 1024 };
 }
 
 impl PartialEq for Value {
@@ -36,7 +39,7 @@ impl PartialEq for Value {
     ghost laws = { partial_equiv_from_equiv nat_list_eq_equiv };
 
     fn eq(&self, other: &Value) -> bool {
-        self.list == other.list
+        same_bytes(self.bytes(), other.bytes())
     }
 }
 
@@ -64,7 +67,7 @@ impl Ord for Value {
     ghost matches_eq = { texts_ties };
 
     fn cmp(&self, other: &Value) -> Ordering {
-        self.list.as_slice().cmp(&other.list.as_slice())
+        self.bytes().cmp(&other.bytes())
     }
 }
 
@@ -74,7 +77,7 @@ impl Hash for Value {
     ghost respects_eq = { Prim.search (hashing, rules) };
 
     fn hash<H: Hasher>(&self, state: &mut H) {
-        self.list.as_slice().hash(state);
+        self.bytes().hash(state);
     }
 }
 
@@ -83,9 +86,8 @@ impl Value {
     pub fn empty(alloc: Global) -> Value
         ensures { result ≡ [] }
     {
-        Value {
-            list: Vec::new(alloc),
-        }
+        let _ = alloc;
+        Value { list: None }
     }
 
     /// The value of these bytes. `BadLength` comes exactly where there are more than 1,024.
@@ -99,18 +101,25 @@ impl Value {
         if bytes.len() > 1024 {
             return Err(BytesFault::BadLength(bytes.len() as u64));
         }
+        if bytes.is_empty() {
+            return Ok(Value { list: None });
+        }
         let list = Vec::from_slice(alloc, bytes)?;
-        Ok(Value { list })
+        match Arc::new(alloc, list) {
+            Ok(list) => Ok(Value { list: Some(list) }),
+            Err(_) => Err(BytesFault::NoMemory),
+        }
     }
 
-    /// The value whose bytes these are, which takes no memory. None exactly where there are more than 1,024.
-    pub fn from_vec(list: Vec<u8>) -> Option<Value>
-        ensures { SomeIff result (length list.items ≤ 1024) list.items }
+    /// The value whose bytes these are. None exactly where there are more than 1,024.
+    pub fn from_vec(list: Vec<u8>) -> Result<Option<Value>, NoMemory>
+        ensures { IfOk result (λ o. SomeIff o (length list.items ≤ 1024) list.items) }
     {
         if list.len() > 1024 {
-            return None;
+            return Ok(None);
         }
-        Some(Value { list })
+        let list = Arc::new(*list.allocator(), list)?;
+        Ok(Some(Value { list: Some(list) }))
     }
 
     /// Its bytes.
@@ -118,15 +127,23 @@ impl Value {
         ensures bytes { result.now ≡ self.now }
         ensures in_range { length self.now ≤ 1024 }
     {
-        self.list.as_slice()
+        match &self.list {
+            Some(list) => list.as_slice(),
+            None => &[],
+        }
     }
 
     /// A copy that equals it.
     pub fn copy(&self) -> Result<Value, NoMemory>
         ensures { IfOk result (λ x. x ≡ self.now) }
     {
-        let list = self.list.clone()?;
-        Ok(Value { list })
+        match &self.list {
+            Some(list) => {
+                let list = Arc::try_clone(list)?;
+                Ok(Value { list: Some(list) })
+            }
+            None => Ok(Value { list: None }),
+        }
     }
 }
 

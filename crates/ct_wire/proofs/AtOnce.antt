@@ -1,6 +1,6 @@
 -- What is read at once leads to what its fields lead to, one after the other.
-use Rattle.std.proofs.Common.{◌&&◌, ◌≡◌, ◌∙◌, ℕ, ◌+◌, ◌<◌, ◌≤◌, true, List, [], ◌∷◌, ◌++◌, length, Option, None, Some, refl, sym, ap, arith}
-use Rattle.std.specs.Prelude.{nat_lt}
+use Rattle.std.proofs.Common.{◌&&◌, ◌≡◌, ◌∙◌, ℕ, ◌+◌, ◌<◌, ◌≤◌, true, List, [], ◌∷◌, ◌++◌, length, Option, None, Some, refl, sym, ap, subst, arith}
+use Rattle.std.specs.Prelude.{nat_lt, SomeIff}
 use Rattle.std.proofs.lemmas.Bool.{eq-eqb, le-leb, lt-ltb, ne_eqb}
 use Rattle.ct_frame.specs.Fields.{is_below_limit, is_db, is_from_one, is_node}
 use Rattle.ct_frame.specs.declared.frame.CallKind.{CallKind}
@@ -33,6 +33,10 @@ use Rattle.ct_wire.specs.Cursor.{arrive, field_read, is_text_length, number_of, 
 use Rattle.ct_wire.specs.Decoding.{End, after_field, eaten}
 use Rattle.ct_wire.specs.Whole.{at_number, first_place, front_head, gives_copy, headed, is_common, kind_number, CopyStands, KeyStands}
 use Rattle.ct_wire.proofs.Eaten.{eaten_whole}
+
+-- what an option holds, where it holds something exactly under a condition
+pub held : {A : Type 0} (o : Option A) (P : Type 0) (v x : A) → o ≡ Some x → SomeIff o P v → x ≡ v
+held o P v x is when = (subst (λ (it : Option _). SomeIff it P v) is when).1
 
 -- a field that leads on
 field_leads : (c d : Cursor) (field rest : List ℕ) → length field ≡ width c → 0 < length field → field_read c field ≡ outcome.More d → eaten c [] (field ++ rest) ≡ eaten d [] rest

@@ -60,10 +60,10 @@ impl Cursor {
         let Some(end) = master_at(self.reading.draft.head.length, self.at, size) else {
             return Ok(bytes);
         };
-        let Some(key) = Key::from_vec(Vec::from_slice(alloc, fields.key)?) else {
+        let Some(key) = Key::from_vec(Vec::from_slice(alloc, fields.key)?)? else {
             return Ok(bytes);
         };
-        let Some(value) = Value::from_vec(Vec::from_slice(alloc, fields.value)?) else {
+        let Some(value) = Value::from_vec(Vec::from_slice(alloc, fields.value)?)? else {
             return Ok(bytes);
         };
         if !follows_row(self.reading.draft.table.as_slice(), fields.db, &key) {

@@ -259,10 +259,10 @@ fn copy_frame(alloc: Global, head: Head, bytes: &[u8]) -> Result<Option<WholeFra
     if (fields.key.len() + fields.value.len()) as u64 + 55 != u64::from(head.length) {
         return Ok(None);
     }
-    let Some(key) = Key::from_vec(Vec::from_slice(alloc, fields.key)?) else {
+    let Some(key) = Key::from_vec(Vec::from_slice(alloc, fields.key)?)? else {
         return Ok(None);
     };
-    let Some(value) = Value::from_vec(Vec::from_slice(alloc, fields.value)?) else {
+    let Some(value) = Value::from_vec(Vec::from_slice(alloc, fields.value)?)? else {
         return Ok(None);
     };
     let frame = Frame {
@@ -330,7 +330,7 @@ fn call_frame(alloc: Global, head: Head, bytes: &[u8]) -> Result<Option<WholeFra
     let Some(kind) = kind_of(number_of(kind_field)) else {
         return Ok(None);
     };
-    let Some(key) = Key::from_vec(Vec::from_slice(alloc, fields.key)?) else {
+    let Some(key) = Key::from_vec(Vec::from_slice(alloc, fields.key)?)? else {
         return Ok(None);
     };
     let frame = Frame {
@@ -374,7 +374,7 @@ fn recall_frame(alloc: Global, head: Head, bytes: &[u8]) -> Result<Option<WholeF
     let Some(kind) = kind_of(number_of(kind_field)) else {
         return Ok(None);
     };
-    let Some(key) = Key::from_vec(Vec::from_slice(alloc, fields.key)?) else {
+    let Some(key) = Key::from_vec(Vec::from_slice(alloc, fields.key)?)? else {
         return Ok(None);
     };
     let frame = Frame {

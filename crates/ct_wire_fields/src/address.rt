@@ -7,6 +7,8 @@ use crate::draft::{Draft, Led, taken, to_address, to_number, whole};
 use crate::place::{AddressPlace, NumberPlace, Operation};
 use ct_frame::frame::{Assigned, Msg};
 use ct_values::address::Address;
+use ct_values::boxed::BoxedItems;
+use ct_values::items::Items;
 use ct_values::memory::NoMemory;
 use std::alloc::Global;
 
@@ -31,37 +33,37 @@ impl Draft {
         self.after_run()
     }
 
-    fn addresses_whole(&mut self, alloc: Global) -> Led
-        ensures { step_of result self.new ≡ addresses_whole self.old self.old.head.operation }
+    fn addresses_whole(&mut self, alloc: Global) -> Result<Led, NoMemory>
+        ensures { IfOk result (λ led. step_of led self.new ≡ addresses_whole self.old self.old.head.operation) }
     {
         let addresses = taken(alloc, &mut self.addresses);
         match self.head.operation {
-            Operation::Release => whole(
+            Operation::Release => Ok(whole(
                 self.head,
                 Msg::Release {
                     run: self.run,
                     keep: addresses,
                 },
-            ),
-            _ => whole(
+            )),
+            _ => Ok(whole(
                 self.head,
                 Msg::PullReply {
                     vbase: self.vbase,
                     pbase: self.pbase,
-                    table: taken(alloc, &mut self.table),
-                    ptables: taken(alloc, &mut self.ptables),
-                    addresses,
+                    table: BoxedItems::new(taken(alloc, &mut self.table))?,
+                    ptables: BoxedItems::new(taken(alloc, &mut self.ptables))?,
+                    addresses: BoxedItems::new(addresses)?,
                 },
-            ),
+            )),
         }
     }
 
     /// The next address, where `left` are to come.
-    pub(crate) fn addresses_left(&mut self, alloc: Global, left: u64) -> Led
-        ensures { step_of result self.new ≡ addresses_left self.old left }
+    pub(crate) fn addresses_left(&mut self, alloc: Global, left: u64) -> Result<Led, NoMemory>
+        ensures { IfOk result (λ led. step_of led self.new ≡ addresses_left self.old left) }
     {
         if left > 0 {
-            to_address(AddressPlace::Held { left })
+            Ok(to_address(AddressPlace::Held { left }))
         } else {
             self.addresses_whole(alloc)
         }
@@ -80,39 +82,39 @@ impl Draft {
             return Ok(Led::Broken(at));
         }
         self.addresses.push(address)?;
-        Ok(self.addresses_left(alloc, left.saturating_sub(1)))
+        self.addresses_left(alloc, left.saturating_sub(1))
     }
 
-    fn assigned_whole(&mut self, alloc: Global) -> Led
-        ensures { step_of result self.new ≡ assigned_whole self.old self.old.head.operation }
+    fn assigned_whole(&mut self, alloc: Global) -> Result<Led, NoMemory>
+        ensures { IfOk result (λ led. step_of led self.new ≡ assigned_whole self.old self.old.head.operation) }
     {
         let assigned = taken(alloc, &mut self.assigned);
         match self.head.operation {
-            Operation::Take => whole(
+            Operation::Take => Ok(whole(
                 self.head,
                 Msg::Take {
                     run: self.run,
                     assigned,
                 },
-            ),
-            _ => whole(
+            )),
+            _ => Ok(whole(
                 self.head,
                 Msg::Push {
-                    members: taken(alloc, &mut self.nodes),
-                    table: taken(alloc, &mut self.table),
-                    ptables: taken(alloc, &mut self.ptables),
-                    assigned,
+                    members: BoxedItems::new(taken(alloc, &mut self.nodes))?,
+                    table: BoxedItems::new(taken(alloc, &mut self.table))?,
+                    ptables: BoxedItems::new(taken(alloc, &mut self.ptables))?,
+                    assigned: BoxedItems::new(assigned)?,
                 },
-            ),
+            )),
         }
     }
 
     /// The next address that is given to a node, where `left` are to come.
-    pub(crate) fn assigned_left(&mut self, alloc: Global, left: u64) -> Led
-        ensures { step_of result self.new ≡ assigned_left self.old left }
+    pub(crate) fn assigned_left(&mut self, alloc: Global, left: u64) -> Result<Led, NoMemory>
+        ensures { IfOk result (λ led. step_of led self.new ≡ assigned_left self.old left) }
     {
         if left > 0 {
-            to_address(AddressPlace::Assigned { left })
+            Ok(to_address(AddressPlace::Assigned { left }))
         } else {
             self.assigned_whole(alloc)
         }
@@ -142,6 +144,6 @@ impl Draft {
         }
         let node = Some(number as u32);
         self.assigned.push(Assigned { address, node })?;
-        Ok(self.assigned_left(alloc, left.saturating_sub(1)))
+        self.assigned_left(alloc, left.saturating_sub(1))
     }
 }

@@ -1,5 +1,5 @@
 //! Tests of single fields, and of an item against the one before it.
-ghost use Rattle.std.specs.Prelude.{◌≡◌, IfSome, SomeIff};
+ghost use Rattle.std.specs.Prelude.{◌≡◌, IfOk, IfSome, SomeIff};
 ghost use Rattle.ct_frame.specs.Fields.{is_below_limit, is_from_one, is_node, is_db};
 ghost use Rattle.ct_wire_fields.specs.Check.{is_count, last_of, key_of, value_of, follows_node, follows_db, follows_row, follows_pair, follows_ptable, follows_address, follows_assigned};
 
@@ -8,6 +8,7 @@ use ct_frame::header::LIMIT;
 use ct_values::address::Address;
 use ct_values::client::Pair;
 use ct_values::key::Key;
+use ct_values::memory::NoMemory;
 use ct_values::value::Value;
 
 pub fn is_below_limit(number: u64) -> bool
@@ -42,15 +43,15 @@ pub fn is_count(number: u64) -> bool
 }
 
 /// The key of these bytes, if their number is that of a key.
-pub fn key_of(text: Vec<u8>) -> Option<Key>
-    ensures { result ≡ key_of text.items }
+pub fn key_of(text: Vec<u8>) -> Result<Option<Key>, NoMemory>
+    ensures { IfOk result (λ o. o ≡ key_of text.items) }
 {
     Key::from_vec(text)
 }
 
 /// The value of these bytes, if their number is that of a value.
-pub fn value_of(text: Vec<u8>) -> Option<Value>
-    ensures { result ≡ value_of text.items }
+pub fn value_of(text: Vec<u8>) -> Result<Option<Value>, NoMemory>
+    ensures { IfOk result (λ o. o ≡ value_of text.items) }
 {
     Value::from_vec(text)
 }

@@ -47,8 +47,8 @@ impl Draft {
             NumberPlace::PTableDb { left } => self.ptable_db_read(at, left, number),
             NumberPlace::PTableSeq { left } => self.ptable_seq_read(at, left, number),
             NumberPlace::PairCount { left } => self.pairs_left(alloc, left, number)?,
-            NumberPlace::AddressCount => self.addresses_left(alloc, number),
-            NumberPlace::AssignedCount => self.assigned_left(alloc, number),
+            NumberPlace::AddressCount => self.addresses_left(alloc, number)?,
+            NumberPlace::AssignedCount => self.assigned_left(alloc, number)?,
             NumberPlace::AssignedNode { left, address } => {
                 self.assigned_node_read(alloc, at, left, address, number)?
             }
@@ -71,15 +71,15 @@ impl Draft {
         ensures { IfOk result (λ led. step_of led self.new ≡ text_read self.old at text.items place) }
     {
         let led = match place {
-            TextPlace::Key => self.key_read(at, text),
-            TextPlace::Value { key } => self.value_read(at, key, text),
-            TextPlace::RowKey { left, start } => self.row_key_read(at, left, start, text),
+            TextPlace::Key => self.key_read(at, text)?,
+            TextPlace::Value { key } => self.value_read(at, key, text)?,
+            TextPlace::RowKey { left, start } => self.row_key_read(at, left, start, text)?,
             TextPlace::RowValue { left, key } => self.row_value_read(at, left, key, text)?,
-            TextPlace::PairKey { left, more } => self.pair_key_read(at, left, more, text),
+            TextPlace::PairKey { left, more } => self.pair_key_read(at, left, more, text)?,
             TextPlace::PairValue { left, more, key } => {
                 self.pair_value_read(alloc, at, left, more, key, text)?
             }
-            TextPlace::WriteKey { left } => self.write_key_read(at, left, text),
+            TextPlace::WriteKey { left } => self.write_key_read(at, left, text)?,
             TextPlace::WriteValue { left, key } => {
                 self.write_value_read(alloc, at, left, key, text)?
             }

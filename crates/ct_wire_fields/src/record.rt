@@ -44,12 +44,12 @@ impl Draft {
         }
     }
 
-    pub(crate) fn key_read(&self, at: u64, text: Vec<u8>) -> Led
-        ensures { step_of result self.now ≡ key_found self.now at (key_of text.items) }
+    pub(crate) fn key_read(&self, at: u64, text: Vec<u8>) -> Result<Led, NoMemory>
+        ensures { IfOk result (λ led. step_of led self.now ≡ key_found self.now at (key_of text.items)) }
     {
-        match key_of(text) {
-            None => Led::Broken(at),
-            Some(key) => self.after_key(key),
+        match key_of(text)? {
+            None => Ok(Led::Broken(at)),
+            Some(key) => Ok(self.after_key(key)),
         }
     }
 
@@ -205,12 +205,12 @@ impl Draft {
         }
     }
 
-    pub(crate) fn value_read(&self, at: u64, key: Key, text: Vec<u8>) -> Led
-        ensures { step_of result self.now ≡ value_found self.now at key (value_of text.items) }
+    pub(crate) fn value_read(&self, at: u64, key: Key, text: Vec<u8>) -> Result<Led, NoMemory>
+        ensures { IfOk result (λ led. step_of led self.now ≡ value_found self.now at key (value_of text.items)) }
     {
-        match value_of(text) {
-            None => Led::Broken(at),
-            Some(value) => self.after_value(key, value),
+        match value_of(text)? {
+            None => Ok(Led::Broken(at)),
+            Some(value) => Ok(self.after_value(key, value)),
         }
     }
 
@@ -248,12 +248,12 @@ impl Draft {
         to_text(TextPlace::WriteKey { left: number })
     }
 
-    pub(crate) fn write_key_read(&self, at: u64, left: u64, text: Vec<u8>) -> Led
-        ensures { step_of result self.now ≡ write_key_found self.now at left (key_of text.items) }
+    pub(crate) fn write_key_read(&self, at: u64, left: u64, text: Vec<u8>) -> Result<Led, NoMemory>
+        ensures { IfOk result (λ led. step_of led self.now ≡ write_key_found self.now at left (key_of text.items)) }
     {
-        match key_of(text) {
-            None => Led::Broken(at),
-            Some(key) => to_text(TextPlace::WriteValue { left, key }),
+        match key_of(text)? {
+            None => Ok(Led::Broken(at)),
+            Some(key) => Ok(to_text(TextPlace::WriteValue { left, key })),
         }
     }
 
@@ -285,7 +285,7 @@ impl Draft {
     ) -> Result<Led, NoMemory>
         ensures { IfOk result (λ led. step_of led self.new ≡ write_value_found self.old at left key (value_of text.items)) }
     {
-        let Some(value) = value_of(text) else {
+        let Some(value) = value_of(text)? else {
             return Ok(Led::Broken(at));
         };
         self.pairs.push(Pair { key, value })?;

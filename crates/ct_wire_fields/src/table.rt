@@ -122,16 +122,22 @@ impl Draft {
         to_text(TextPlace::RowKey { left, start: at })
     }
 
-    pub(crate) fn row_key_read(&self, at: u64, left: u64, start: u64, text: Vec<u8>) -> Led
-        ensures { step_of result self.now ≡ row_key_found self.now at left start (key_of text.items) }
+    pub(crate) fn row_key_read(
+        &self,
+        at: u64,
+        left: u64,
+        start: u64,
+        text: Vec<u8>,
+    ) -> Result<Led, NoMemory>
+        ensures { IfOk result (λ led. step_of led self.now ≡ row_key_found self.now at left start (key_of text.items)) }
     {
-        let Some(key) = key_of(text) else {
-            return Led::Broken(at);
+        let Some(key) = key_of(text)? else {
+            return Ok(Led::Broken(at));
         };
         if !follows_row(self.table.as_slice(), self.db, &key) {
-            return Led::Broken(start);
+            return Ok(Led::Broken(start));
         }
-        to_number(NumberPlace::RowRsn { left, key })
+        Ok(to_number(NumberPlace::RowRsn { left, key }))
     }
 
     pub(crate) fn row_rsn_read(&mut self, at: u64, left: u64, key: Key, number: u64) -> Led
@@ -177,7 +183,7 @@ impl Draft {
     ) -> Result<Led, NoMemory>
         ensures { IfOk result (λ led. step_of led self.new ≡ row_value_found self.old at left key (value_of text.items)) }
     {
-        let Some(value) = value_of(text) else {
+        let Some(value) = value_of(text)? else {
             return Ok(Led::Broken(at));
         };
         if self.head.version.names_masters() {
@@ -290,16 +296,22 @@ impl Draft {
         Ok(self.ptables_left(left.saturating_sub(1)))
     }
 
-    pub(crate) fn pair_key_read(&self, at: u64, left: u64, more: u64, text: Vec<u8>) -> Led
-        ensures { step_of result self.now ≡ pair_key_found self.now at left more (key_of text.items) }
+    pub(crate) fn pair_key_read(
+        &self,
+        at: u64,
+        left: u64,
+        more: u64,
+        text: Vec<u8>,
+    ) -> Result<Led, NoMemory>
+        ensures { IfOk result (λ led. step_of led self.now ≡ pair_key_found self.now at left more (key_of text.items)) }
     {
-        let Some(key) = key_of(text) else {
-            return Led::Broken(at);
+        let Some(key) = key_of(text)? else {
+            return Ok(Led::Broken(at));
         };
         if !follows_pair(self.pairs.as_slice(), &key) {
-            return Led::Broken(at);
+            return Ok(Led::Broken(at));
         }
-        to_text(TextPlace::PairValue { left, more, key })
+        Ok(to_text(TextPlace::PairValue { left, more, key }))
     }
 
     pub(crate) fn pair_value_read(
@@ -313,7 +325,7 @@ impl Draft {
     ) -> Result<Led, NoMemory>
         ensures { IfOk result (λ led. step_of led self.new ≡ pair_value_found self.old at left more key (value_of text.items)) }
     {
-        let Some(value) = value_of(text) else {
+        let Some(value) = value_of(text)? else {
             return Ok(Led::Broken(at));
         };
         if value.bytes().is_empty() {

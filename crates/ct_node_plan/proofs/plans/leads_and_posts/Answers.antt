@@ -2,4 +2,4 @@ use Rattle.ct_node_plan.proofs.Beside.{posted_plan}
 use Rattle.ct_node_plan.proofs.plans.leads_and_posts.Goals as goal
 
 pub returns : goal.returns
-returns c = posted_plan _ _ _ _ _ _ _ _ _ _ c.in_ok-leading.ensures c.begins-turn.ensures c.in_ok-posts_all.ensures c.beside.ensures
+returns c = posted_plan _ _ _ _ _ _ _ _ _ _ c.in_ok-leading.ensures c.begins-turn.ensures c.in_ok-posts_all.ensures c.in_ok-beside.ensures

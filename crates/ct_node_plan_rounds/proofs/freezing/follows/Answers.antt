@@ -12,5 +12,5 @@ frozen_if_unlocked-requires c = c.in_ok-ends_commits.ensures.phase ∙ freezes_p
 
 pub returns : goal.returns
 returns c =
-    planned_freeze c.args.config.now c.args.me c.args.sender c.args.generation c.args.node.now c.in_ok-turn.turn c.ends_commits.new.turn c.frozen_if_unlocked.new.self c.whole.result
-    c.requires.above c.in_ok-turn.ensures (search rules) c.in_ok-frozen_if_unlocked.ensures c.whole.ensures
+    planned_freeze c.args.config.now c.args.me c.args.sender c.args.generation c.args.node.now c.in_ok-turn.turn c.ends_commits.new.turn c.frozen_if_unlocked.new.self _
+    c.requires.above c.in_ok-turn.ensures (search rules) c.in_ok-frozen_if_unlocked.ensures c.in_ok-whole.ensures

@@ -11,5 +11,5 @@ want_pending-requires-clause-next g c = subst (λ (n : ℕ). n < 2 ^ 62) (sym (s
 
 pub returns : goal.returns
 returns g c =
-    planned_thaw c.args.config.now (rules_of c.args.table.now) c.args.me c.args.generation c.args.node.now c.in_ok-turn.turn c.want_pending.new.turn c.whole.result
-    (search rules) c.in_ok-turn.ensures c.in_ok-want_pending.ensures c.whole.ensures
+    planned_thaw c.args.config.now (rules_of c.args.table.now) c.args.me c.args.generation c.args.node.now c.in_ok-turn.turn c.want_pending.new.turn _
+    (search rules) c.in_ok-turn.ensures c.in_ok-want_pending.ensures c.in_ok-whole.ensures

@@ -1,7 +1,7 @@
 use Rattle.std.proofs.Common.{◌≡◌, ◌∙◌, ◌+◌, rules}
 use Rattle.std.specs.List.{filter}
 use Rattle.ct_lcp2.specs.Placing.{placed}
-use Rattle.ct_lead.specs.Runs.{asked_again, led_takeover}
+use Rattle.ct_lead.specs.Runs.{asked_again, led_running, led_takeover}
 use Rattle.ct_rules_node.specs.Node.{is_among}
 use Rattle.ct_rules_node.specs.Turn.{begins}
 use Rattle.ct_node_plan_runs.proofs.Begins.{takeover_spent}
@@ -22,5 +22,6 @@ pub returns : goal.returns
 returns c =
     let members : c.asked_again-members.result.now ≡ asked_again c.args.node.now.lead = search rules in
     let made : c.made.result.now ≡ (led_takeover c.args.node.now.lead).made = search rules in
-    planned_begin c.args.me (c.number-last.result + 1) c.args.able.now c.in_ok-placement.placement.items c.args.node.now c.in_ok-lead.lead c.post_releases.new.outs (search rules) (search rules) (search rules) (search rules)
-    (c.in_ok-placement.ensures ∙ (λ i. placed (filter (λ m. is_among m (members i)) c.args.able.now) (made i))) (search rules) (search rules)
+    let led : c.in_ok-lead.lead ≡ led_running (c.number-last.result + 1) c.in_ok-placement.placement.items c.args.node.now.lead = search rules in
+    planned_begin c.args.me (c.number-last.result + 1) c.args.able.now c.in_ok-placement.placement.items c.args.node.now c.in_ok-new.field-0 c.post_releases.new.outs (search rules) (search rules) (search rules) (search rules)
+    (c.in_ok-placement.ensures ∙ (λ i. placed (filter (λ m. is_among m (members i)) c.args.able.now) (made i))) (c.in_ok-new.ensures ∙ led) (search rules)

@@ -1,4 +1,4 @@
-use Rattle.std.proofs.Common.{◌∙◌, rules, sym}
+use Rattle.std.proofs.Common.{◌∙◌, ap, rules, sym}
 use Rattle.std.proofs.lemmas.List.{nil_from_length}
 use Rattle.std.specs.Map.Iter.{deref_pair}
 use Rattle.ct_rules_node.specs.Rounds.{changed}
@@ -10,7 +10,7 @@ pub loop-key-preserved : goal.loop-key-preserved
 loop-key-preserved c =
     let f = swept c.args.sweep in
     fills deref_pair f c.args.self.now (changed f c.args.records.now) c.loop-key.self c.add.new.self (c.in-Some.key, c.in-Some.state) c.in_ok-copy.field-0 c.in_ok-state.state
-    c.loop-key.key-iterator.rest.items c.next.new.self.rest.items (search rules) (swept_ascends f c.args.records.now c.are_in_order.ensures) c.loop-key.invariant c.in_ok-copy.ensures c.in_ok-state.ensures
+    c.loop-key.key-iterator.rest.items c.next.new.self.rest.items (search rules) (swept_ascends f c.args.records.now c.are_in_order.ensures) c.loop-key.invariant c.in_ok-copy.ensures (c.in_ok-state.ensures ∙ ap f c.as_ref.ensures)
     c.in_ok-add.ensures.blank c.in_ok-add.ensures.worth
 
 pub returns : goal.returns
