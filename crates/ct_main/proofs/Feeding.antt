@@ -1,8 +1,10 @@
 -- Bytes that are played piece by piece.
-use Rattle.std.proofs.Common.{◌≡◌, ℕ, ◌+◌, ◌<◌, ◌≤◌, List, [], ◌∷◌, ◌++◌, length, take, drop, get_or, true, false, cond, nat_eq, Option, None, Some, Result, Ok, Err, refl, sym, ap, subst, ◌∙◌, append_assoc, length-append, arith}
+use Rattle.std.proofs.Common.{◌≡◌, ◌≢◌, ℕ, ◌+◌, ◌<◌, ◌≤◌, List, [], ◌∷◌, ◌++◌, length, take, drop, get_or, true, false, cond, nat_eq, Option, None, Some, Result, Ok, Err, refl, sym, ap, subst, ◌∙◌, append_assoc, append-nil, length-append, arith}
+use Rattle.std.specs.List.{All}
 use Rattle.std.specs.Io.KnownBytes.{Appends}
 use Rattle.std.proofs.KnownBytes.{Appends-nil, Appends-trans}
-use Rattle.std.proofs.lemmas.Bool.{lt-ltb}
+use Rattle.std.proofs.lemmas.Bool.{lt-ltb, ne_eqb}
+use Rattle.std.proofs.lemmas.List.Elements.{All-head, All-tail}
 use Rattle.ct_call.specs.Rules.{Rules}
 use Rattle.ct_lines.specs.Grammar.{line_of}
 use Rattle.ct_lines.specs.declared.line.LineKind.TheVariants.{Long}
@@ -121,17 +123,33 @@ byte_played rules r p bs i q s a b c h f g = subst (λ ys. Feeds rules r p ys s 
 pub byte_stops : (rules : Rules) (e : Stop) (p : Player) (bs : List ℕ) (i : ℕ) (q s : Player) (a b c : Option (List ℕ)) → i < length bs → Fed rules p q (take i bs) a b → Feeds rules (Err e) q (get_or bs i 0 ∷ []) s b c → Feeds rules (Err e) p bs s a c
 byte_stops rules e p bs i q s a b c h f g = subst (λ ys. Feeds rules (Err e) p ys s a c) (take-append-drop (i + 1) bs) (feeds_more rules e p (take (i + 1) bs) (drop (i + 1) bs) s a c (byte_played rules (Err e) p bs i q s a b c h f g))
 
--- a byte that is no line feed
-pub byte_kept : (rules : Rules) (p q : Player) (x : ℕ) (a : Option (List ℕ)) → nat_eq x 10 ≡ false → q ≡ record p { line = p.line ++ x ∷ [] } → Fed rules p q (x ∷ []) a a
-byte_kept rules p q x a e h = record {
+-- bytes without a line feed go behind the line
+kept_on : (rules : Rules) (s : Session) (line bs later : List ℕ) → All (λ x. x ≢ 10) bs → run_from rules s line (bs ++ later) ≡ run_from rules s (line ++ bs) later
+kept_on rules s line [] later h = ap (λ l. run_from rules s l later) (sym (append-nil line))
+kept_on rules s line (x ∷ xs) later h =
+    at_byte rules s line x (xs ++ later) (ne_eqb x 10 (All-head (λ y. y ≢ 10) x xs h)) ∙ kept_on rules s (line ++ x ∷ []) xs later (All-tail (λ y. y ≢ 10) x xs h)
+    ∙ ap (λ l. run_from rules s l later) (append_assoc line (x ∷ []) xs)
+
+rest_kept : (line bs later : List ℕ) → All (λ x. x ≢ 10) bs → rest_after line (bs ++ later) ≡ rest_after (line ++ bs) later
+rest_kept line [] later h = ap (λ l. rest_after l later) (sym (append-nil line))
+rest_kept line (x ∷ xs) later h =
+    ap (λ b. cond b (rest_after [] (xs ++ later)) (rest_after (line ++ x ∷ []) (xs ++ later))) (ne_eqb x 10 (All-head (λ y. y ≢ 10) x xs h))
+    ∙ rest_kept (line ++ x ∷ []) xs later (All-tail (λ y. y ≢ 10) x xs h) ∙ ap (λ l. rest_after l later) (append_assoc line (x ∷ []) xs)
+
+pub bytes_kept : (rules : Rules) (p q : Player) (bs : List ℕ) (a : Option (List ℕ)) → All (λ x. x ≢ 10) bs → q ≡ record p { line = p.line ++ bs } → Fed rules p q bs a a
+bytes_kept rules p q bs a h e = record {
   text = [];
   deeds = [];
   count = 0;
   wrote = Appends-nil a;
-  counted = ap (λ r. r.count) h ∙ omega arith;
-  rests = λ later. ap (λ b. cond b (rest_after [] later) (rest_after (p.line ++ x ∷ []) later)) e ∙ ap (λ r. rest_after r.line later) (sym h);
-  goes_on = λ later. at_byte rules p.session p.line x later e ∙ ap (λ r. run_on rules r later) (sym h) ∙ sym (told_nothing (run_on rules q later));
+  counted = ap (λ r. r.count) e ∙ omega arith;
+  rests = λ later. rest_kept p.line bs later h ∙ ap (λ r. rest_after r.line later) (sym e);
+  goes_on = λ later. kept_on rules p.session p.line bs later h ∙ ap (λ r. run_on rules r later) (sym e) ∙ sym (told_nothing (run_on rules q later));
 }
+
+-- a stop at a front of the bytes is one at all of them
+pub front_stops : (rules : Rules) (e : Stop) (p : Player) (bs : List ℕ) (n : ℕ) (q : Player) (a c : Option (List ℕ)) → Feeds rules (Err e) p (take n bs) q a c → Feeds rules (Err e) p bs q a c
+front_stops rules e p bs n q a c f = subst (λ ys. Feeds rules (Err e) p ys q a c) (take-append-drop n bs) (feeds_more rules e p (take n bs) (drop n bs) q a c f)
 
 -- nothing was played on: memory ran out
 pub stopped : (rules : Rules) (p : Player) (bs : List ℕ) (a : Option (List ℕ)) → FedPart rules p bs a a
@@ -162,12 +180,12 @@ line_ends rules p q what a e n = record {
 }
 
 -- a line that is too long is refused before it ends
-pub long_ends : (rules : Rules) (p : Player) (x : ℕ) (a : Option (List ℕ)) → nat_eq x 10 ≡ false → longest ≤ length p.line → FedRefused rules p p (Line Long) (x ∷ []) a a
-long_ends rules p x a e h = record {
+pub long_ends : (rules : Rules) (p : Player) (bs : List ℕ) (a : Option (List ℕ)) → All (λ x. x ≢ 10) bs → longest < length p.line + length bs → FedRefused rules p p (Line Long) bs a a
+long_ends rules p bs a h n = record {
   text = [];
   wrote = Appends-nil a;
   ends = λ later.
-      let f : run_on rules p (x ∷ later) ≡ ended (Some (Line Long)) p.session = at_byte rules p.session p.line x later e ∙ too_long rules p.session (p.line ++ x ∷ []) later (omega (arith, length-append p.line (x ∷ []))) in
+      let f : run_on rules p (bs ++ later) ≡ ended (Some (Line Long)) p.session = kept_on rules p.session p.line bs later h ∙ too_long rules p.session (p.line ++ bs) later (omega (arith, n, length-append p.line bs)) in
       (ap (λ r. r.text) f, ap (λ r. r.refusal) f, ap (λ r. p.count + r.count) f ∙ omega arith);
 }
 

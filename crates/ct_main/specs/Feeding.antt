@@ -1,5 +1,5 @@
 -- Bytes that are played piece by piece, from one moment of a run to another.
-use Rattle.std.specs.Prelude.{◌≡◌, ◌≢◌, ◌≤◌, ◌<◌, ◌+◌, ℕ, List, [], ◌++◌, length, Option, None, Some, Result, Ok, Err, IsErrOf}
+use Rattle.std.specs.Prelude.{◌≡◌, ◌≢◌, ◌≤◌, ◌<◌, ◌+◌, ℕ, List, [], ◌++◌, length, take, Option, None, Some, Result, Ok, Err, IsErrOf}
 use Rattle.std.specs.Io.KnownBytes.{Appends, Consumes, IsAtEnd}
 use Rattle.ct_outside.specs.Causes.{AppendsPart, Rose}
 use Rattle.ct_outside.specs.declared.fault.SinkFault.{SinkFault}
@@ -51,6 +51,11 @@ Feeds rules (Ok u) p bytes q before now = Fed rules p q bytes before now
 Feeds rules (Err (Refused what)) p bytes q before now = FedRefused rules p q what bytes before now
 Feeds rules (Err WriteFault) p bytes q before now = FedPart rules p bytes before now
 Feeds rules (Err NoMemory) p bytes q before now = FedPart rules p bytes before now
+
+-- so many of the bytes were taken, one at least, and played
+abbrev pub Takes : Rules → Result ℕ Stop → Player → List ℕ → Player → Option (List ℕ) → Option (List ℕ) → Type 0
+Takes rules (Ok n) p bytes q before now = (0 < n) × (n ≤ length bytes) × Fed rules p q (take n bytes) before now
+Takes rules (Err e) p bytes q before now = Feeds rules (Err e) p bytes q before now
 
 -- a write fault comes only where the count rose
 pub record HasStopCause {T : Type 0} (before now : ℕ) (result : Result T Stop) : Type 0 where

@@ -1,12 +1,15 @@
 //! Plays a scenario while its bytes come.
-ghost use Rattle.std.specs.Prelude.{◌≡◌, ◌≤◌, ◌<◌, ◌+◌, ◌^◌, ◌∷◌, [], length, IfOk, OnOk};
+ghost use Rattle.std.specs.Prelude.{◌≡◌, ◌≢◌, ◌≤◌, ◌<◌, ◌+◌, ◌^◌, ◌∷◌, [], ℕ, List, Option, Some, length, take, get_or, IfOk, OnOk, IsErrOf};
+ghost use Rattle.std.specs.List.{All};
 ghost use Rattle.std.specs.Io.KnownBytes.{Appends};
 ghost use Rattle.ct_outside.specs.Causes.{AppendsPart};
+ghost use Rattle.ct_call.specs.Rules.{Rules};
 ghost use Rattle.ct_call.specs.Shown.{rules_of};
 ghost use Rattle.ct_outside.specs.Causes.{Rose};
 ghost use Rattle.ct_main.specs.Claims.{HasEndCause, Plays};
 ghost use Rattle.ct_main.specs.Feeding as feeding;
 ghost use Rattle.ct_main.specs.declared.player.End.TheVariants as ended;
+ghost use Rattle.ct_main.specs.declared.player.Stop.TheVariants as stop;
 
 use ct_call::table::CallTable;
 use ct_lines::line::LineKind;
@@ -109,6 +112,19 @@ fn print<K: Sink>(texts: &[Items<u8>], out: &mut K) -> Result<(), Stop>
     Ok(())
 }
 
+/// How many bytes stand before the first line feed, or how many there are where there is none.
+fn before_line_feed(bytes: &[u8]) -> usize
+    ensures within { result ≤ length bytes.now }
+    ensures none { All (λ x. x ≢ 10) (take result bytes.now) }
+    ensures next { result < length bytes.now → get_or bytes.now result 0 ≡ 10 }
+{
+    let mut size = 0;
+    while size < bytes.len() && bytes[size] != b'\n' {
+        size += 1;
+    }
+    size
+}
+
 impl Player {
     /// The line is whole.
     fn end<K: Sink>(&mut self, alloc: Global, table: &CallTable, out: &mut K) -> Result<(), Stop>
@@ -131,30 +147,52 @@ impl Player {
         Ok(())
     }
 
-    fn byte<K: Sink>(
+    /// Bytes without a line feed are kept for the line.
+    fn keep(&mut self, bytes: &[u8]) -> Result<(), Stop>
+        requires none { All (λ x. x ≢ 10) bytes.now }
+        requires line { length self.old.line ≤ 65535 }
+        ensures feeds { (rules : Rules) (held : Option (List ℕ)) → feeding.Feeds rules result self.old bytes.now self.new held held }
+        ensures writes { ¬ IsErrOf result stop.WriteFault }
+        ensures count { self.new.count ≡ self.old.count }
+        ensures line { length self.new.line ≤ 65535 }
+    {
+        if bytes.len() > 65535 - self.line.len() {
+            return Err(Stop::Refused(What::Line(LineKind::Long)));
+        }
+        self.line.extend_from_slice(bytes)?;
+        Ok(())
+    }
+
+    /// The bytes to the first line feed are played, and this, or all where there is none. How many are they?
+    fn take_line<K: Sink>(
         &mut self,
         alloc: Global,
         table: &CallTable,
-        x: u8,
+        bytes: &[u8],
         out: &mut K,
-    ) -> Result<(), Stop>
+    ) -> Result<usize, Stop>
+        requires some { 0 < length bytes.now }
         requires count { self.old.count + 1 < 2 ^ 64 }
         requires line { length self.old.line ≤ 65535 }
-        ensures feeds { feeding.Feeds (rules_of table.now) result self.old (x ∷ []) self.new (K.held out.old) (K.held out.new) }
+        ensures takes { feeding.Takes (rules_of table.now) result self.old bytes.now self.new (K.held out.old) (K.held out.new) }
         ensures cause { feeding.HasStopCause (K.faults out.old) (K.faults out.new) result }
         ensures count { self.new.count ≤ self.old.count + 1 }
         ensures line { length self.new.line ≤ 65535 }
     {
-        if x == b'\n' {
-            return self.end(alloc, table, out);
+        let size = before_line_feed(bytes);
+        if let Err(stop) = self.keep(&bytes[..size]) {
+            return Err(stop);
         }
-        if self.line.len() >= 65535 {
-            return Err(Stop::Refused(What::Line(LineKind::Long)));
+        if size == bytes.len() {
+            return Ok(size);
         }
-        self.line.push(x)?;
-        Ok(())
+        match self.end(alloc, table, out) {
+            Ok(()) => Ok(size + 1),
+            Err(stop) => Err(stop),
+        }
     }
 
+    /// Bytes are played.
     fn feed<K: Sink>(
         &mut self,
         alloc: Global,
@@ -169,9 +207,10 @@ impl Player {
         ensures count { self.new.count ≤ self.old.count + length bytes.now }
         ensures line { length self.new.line ≤ 65535 }
     {
-        for x in bytes {
-            match self.byte(alloc, table, *x, out) {
-                Ok(()) => {}
+        let mut done = 0;
+        while done < bytes.len() {
+            match self.take_line(alloc, table, &bytes[done..], out) {
+                Ok(size) => done += size,
                 Err(stop) => return Err(stop),
             }
         }

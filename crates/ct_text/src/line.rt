@@ -1,5 +1,5 @@
 //! The text of a line that a step prints, and of a call that waits at the end.
-ghost use Rattle.std.specs.Prelude.{◌≡◌, ◌++◌, codes, IfOk, OnOk};
+ghost use Rattle.std.specs.Prelude.{◌≡◌, ◌≤◌, ◌+◌, ◌++◌, ◌∷◌, codes, length, drop, IfOk, OnOk};
 ghost use Rattle.std.specs.Fmt.{decimal};
 ghost use Rattle.ct_rules_cluster.specs.declared.step.Line.TheVariants as line;
 ghost use Rattle.ct_rules_node.specs.Node.{name_of};
@@ -18,7 +18,38 @@ use ct_rules_cluster::step::{Line, PendingCall};
 use ct_values::client::{Answer, ClientOp};
 use ct_values::config::Config;
 use ct_values::memory::NoMemory;
+use itoa::write_digits;
 use std::alloc::Global;
+
+/// Writes a number and a space behind it so that they end there. Where do they begin?
+fn place_number(buffer: &mut [u8], end: usize, number: u64) -> usize
+    requires { (21 ≤ end) × (end ≤ length buffer.old) }
+    ensures start { result + length (decimal number) + 1 ≡ end }
+    ensures short { length (decimal number) ≤ 20 }
+    ensures placed { drop result buffer.new ≡ decimal number ++ 32 ∷ drop end buffer.old }
+{
+    buffer[end - 1] = b' ';
+    write_digits(number, buffer, end - 1)
+}
+
+/// The words of a message that come before what it says, put together and added at once.
+fn push_head(
+    text: &mut Vec<u8>,
+    number: u64,
+    sender: u32,
+    receiver: u32,
+    generation: u64,
+) -> Result<(), NoMemory>
+    ensures { OnOk result (text.new.items ≡ text.old.items ++ (codes "frame " ++ decimal number ++ codes " " ++ decimal sender ++ codes " " ++ decimal receiver ++ codes " " ++ decimal generation ++ codes " ")) }
+{
+    let mut buffer = [0u8; 84];
+    let fourth = place_number(&mut buffer, 84, generation);
+    let third = place_number(&mut buffer, fourth, u64::from(receiver));
+    let second = place_number(&mut buffer, third, u64::from(sender));
+    let first = place_number(&mut buffer, second, number);
+    push(text, b"frame ")?;
+    push(text, &buffer[first..])
+}
 
 fn push_sent(
     text: &mut Vec<u8>,
@@ -28,11 +59,7 @@ fn push_sent(
 ) -> Result<(), NoMemory>
     ensures { OnOk result (text.new.items ≡ text.old.items ++ (codes "frame " ++ decimal number ++ codes " " ++ decimal frame.now.sender ++ codes " " ++ decimal frame.now.receiver ++ codes " " ++ decimal frame.now.generation ++ codes " " ++ message_text config.now frame.now.msg)) }
 {
-    push_number(text, b"frame ", number)?;
-    push_number(text, b" ", u64::from(frame.sender))?;
-    push_number(text, b" ", u64::from(frame.receiver))?;
-    push_number(text, b" ", frame.generation)?;
-    push(text, b" ")?;
+    push_head(text, number, frame.sender, frame.receiver, frame.generation)?;
     push_message(text, config, &frame.msg)
 }
 
