@@ -1,24 +1,27 @@
 -- One more address, target or node in the loops of failback.
-use Rattle.std.proofs.Common.{◌≡◌, ℕ, suc, ◌+◌, ◌-◌, ◌<◌, ◌≤◌, Bool, true, false, nat_eq, nat_lt, ◌&&◌, List, ◌∷◌, ◌++◌, length, get_or, take, drop, drop-cons, add-one, Option, Some, None, refl, sym, ap, ◌∙◌, subst, arith}
-use Rattle.std.specs.Prelude.{if◌then◌else◌, not, ◌||◌, ◌==◌, is_some}
+use Rattle.std.proofs.Common.{◌≡◌, ℕ, suc, ◌+◌, ◌-◌, ◌<◌, ◌≤◌, Bool, true, false, nat_eq, nat_lt, ◌&&◌, List, [], ◌∷◌, ◌++◌, length, get_or, take, drop, drop-cons, add-one, Option, Some, None, refl, sym, ap, ◌∙◌, subst, arith}
+use Rattle.std.specs.Prelude.{if◌then◌else◌, map, not, ◌||◌, ◌==◌, is_some}
 use Rattle.std.specs.List.Sorted.{IsStrictlySortedBy}
-use Rattle.std.proofs.lemmas.List.{take-append-drop}
+use Rattle.std.proofs.lemmas.List.{append_assoc, map-append, take-append-drop}
+use Rattle.std.proofs.lemmas.List.Elements.{All-get_or}
 use Rattle.std.proofs.lemmas.Bool.{and_right, and_left, and_from, le-ltb, lt-ltb}
-use Rattle.ct_values.specs.Address.{address_cmp, same_address}
+use Rattle.ct_values.specs.Address.{address_before, address_cmp, same_address}
 use Rattle.ct_values.specs.declared.address.Address.{Address}
 use Rattle.ct_values.specs.Words.{is_this_node}
 use Rattle.ct_values.proofs.Words.{this_node_is}
 use Rattle.ct_frame.specs.declared.frame.Assigned.{Assigned}
 use Rattle.ct_lcp2.specs.Distance.{squared, sum_to, imbalance}
 use Rattle.ct_lcp2.specs.Best.{better, best_from, best}
-use Rattle.ct_lcp2.specs.Placing.{Ascend, held, places, places_at, others, may_fail_back, failbacks_of, failbacks, choice_before, source_before, source_of, sources, with_source, is_behind}
+use Rattle.ct_lcp2.specs.Leavers.{AreLeavers, IsLeaver, address_at, blank}
+use Rattle.ct_lcp2.specs.Placing.{Ascend, held, places, places_at, others, may_fail_back, failbacks_of, failbacks, choice_before, source_before, source_of, sources, with_source, is_beaten, is_behind}
 use Rattle.ct_lcp2.specs.declared.choice.Choice.{Choice}
 use Rattle.ct_lcp2.specs.declared.choice.Source.{Source}
+use Rattle.ct_lcp2.specs.declared.leaver.Leaver.{Leaver}
 use Rattle.ct_lcp2.proofs.Choices.{best_from_append}
 use Rattle.ct_lcp2.specs.Tallies.{Stands, nodes}
 use Rattle.ct_lcp2.specs.declared.tally.Tally.{Tally}
 use Rattle.ct_lcp2.proofs.Standing.{left_behind, all_held, away_from, held_ascends, others_split, sum_to_insert}
-use Rattle.ct_lcp2.proofs.Tallies.{blank, held_with, at_some}
+use Rattle.ct_lcp2.proofs.Tallies.{held_with, at_some}
 
 -- of an address at a node: its sum to the others there, and what it leaves behind
 module _ (xs : List Assigned) (s i : ℕ) (d : Assigned) (asc : Ascend xs) (within : i < length xs) (is : is_this_node s (get_or xs i d).node ≡ true) where
@@ -79,40 +82,75 @@ module _ (a : Address) (here there : List Address) (sum weight_there weight own 
 abbrev pub back : ℕ → List Address → List Address → Address → Choice
 back target here there a = record { sum = imbalance (others a here) + imbalance (a ∷ there); address = a; node = target }
 
-pub address_more : (target s : ℕ) (here there : List Address) (xs : List Assigned) (i : ℕ) (d : Assigned) (asc : Ascend xs) (b new whole : Option Choice) (t : Bool) → i < length xs → is_this_node s (get_or xs i d).node ≡ true
-    → may_fail_back (get_or xs i d).address here there ≡ t → new ≡ (if t then better choice_before b (back target here there (get_or xs i d).address) else b)
-    → best_from choice_before b (failbacks_of target here there (held s (drop i xs))) ≡ whole → best_from choice_before new (failbacks_of target here there (held s (drop (i + 1) xs))) ≡ whole
+item_rest : {X : Type 0} (xs : List X) (i : ℕ) (one : X) → i < length xs → one ≡ get_or xs i one → drop i xs ≡ one ∷ drop (suc i) xs
+item_rest xs i one h at = drop-cons xs i one h ∙ ap (λ x. x ∷ drop (suc i) xs) (sym at)
+
+-- a choice of more than the best sum so far is not better
+pub beaten : (sum : ℕ) (b : Option Choice) (c : Choice) → is_beaten sum b ≡ true → c.sum ≡ sum → better choice_before b c ≡ b
+beaten sum None c h e = absurd (cc)
+beaten sum (Some d) c h e =
+    let less : nat_lt c.sum d.sum ≡ false = let k = h in let j = e in grind arith in
+    let same : nat_eq c.sum d.sum ≡ false = let k = h in let j = e in grind arith in
+    let next = address_before c.address d.address || (same_address c.address d.address && nat_lt c.node d.node) in
+    ap (λ t. if t || (nat_eq c.sum d.sum && next) then Some c else Some d) less ∙ ap (λ t. if t && next then Some c else Some d) same
+
+-- one of those that may leave
+pub leaver_of : (node : ℕ) (xs : List Assigned) (ls : List Leaver) (i : ℕ) (d : Leaver) → AreLeavers node xs ls → i < length ls → IsLeaver (held node xs) xs (get_or ls i d)
+leaver_of node xs ls i d are h = All-get_or (IsLeaver (held node xs) xs) ls i d h are.each
+
+-- one address more that may leave
+pub address_more : (target : ℕ) (here there : List Address) (xs : List Assigned) (ls : List Leaver) (i : ℕ) (d : Leaver) (b new whole : Option Choice) (t : Bool) → i < length ls
+    → may_fail_back (address_at xs (get_or ls i d).place) here there ≡ t → new ≡ (if t then better choice_before b (back target here there (address_at xs (get_or ls i d).place)) else b)
+    → best_from choice_before b (failbacks_of target here there (map (λ x. address_at xs x.place) (drop i ls))) ≡ whole
+    → best_from choice_before new (failbacks_of target here there (map (λ x. address_at xs x.place) (drop (i + 1) ls))) ≡ whole
 unfolding failbacks_of best_from
-address_more target s here there xs i d asc b new whole t h e m is k =
-    ap (λ j. best_from choice_before new (failbacks_of target here there (held s (drop j xs)))) (add-one i)
+address_more target here there xs ls i d b new whole t h m is k =
+    ap (λ j. best_from choice_before new (failbacks_of target here there (map (λ x. address_at xs x.place) (drop j ls)))) (add-one i)
     ∙ by t m is
-    ∙ ap (λ l. best_from choice_before b (failbacks_of target here there l)) (sym (held_at xs s i d asc h e))
+    ∙ ap (λ j. best_from choice_before b (failbacks_of target here there (map (λ x. address_at xs x.place) j))) (sym (drop-cons ls i d h))
     ∙ k
   where
     a : Address
-    a = (get_or xs i d).address
+    a = address_at xs (get_or ls i d).place
 
     rest : List Choice
-    rest = failbacks_of target here there (held s (drop (suc i) xs))
+    rest = failbacks_of target here there (map (λ x. address_at xs x.place) (drop (suc i) ls))
 
     by : (u : Bool) → may_fail_back a here there ≡ u → new ≡ (if u then better choice_before b (back target here there a) else b)
         → best_from choice_before new rest ≡ best_from choice_before b (if may_fail_back a here there then back target here there a ∷ rest else rest)
     by true e n = ap (λ c. best_from choice_before c rest) n ∙ sym (ap (λ u. best_from choice_before b (if u then back target here there a ∷ rest else rest)) e)
     by false e n = ap (λ c. best_from choice_before c rest) n ∙ sym (ap (λ u. best_from choice_before b (if u then back target here there a ∷ rest else rest)) e)
 
--- an address that is not at the source has no move
-pub address_passed : (target s : ℕ) (here there : List Address) (xs : List Assigned) (i : ℕ) (d : Assigned) (b new whole : Option Choice) → i < length xs → is_this_node s (get_or xs i d).node ≡ false → new ≡ b
-    → best_from choice_before b (failbacks_of target here there (held s (drop i xs))) ≡ whole → best_from choice_before new (failbacks_of target here there (held s (drop (i + 1) xs))) ≡ whole
-unfolding held
-address_passed target s here there xs i d b new whole h e is k =
-    ap (λ j. best_from choice_before new (failbacks_of target here there (held s (drop j xs)))) (add-one i)
-    ∙ ap (λ c. best_from choice_before c (failbacks_of target here there (held s (drop (suc i) xs)))) is
-    ∙ sym (ap (λ l. best_from choice_before b (failbacks_of target here there l))
-    (ap (held s) (drop-cons xs i d h) ∙ ap (λ u. if u then (get_or xs i d).address ∷ held s (drop (suc i) xs) else held s (drop (suc i) xs)) e))
+-- the addresses at the node are listed: one more
+pub leaver_more : (s : ℕ) (xs : List Assigned) (i : ℕ) (ls more : List Leaver) (l : Leaver) → Ascend xs → i < length xs → is_this_node s (get_or xs i blank).node ≡ true → l.place ≡ i → more ≡ ls ++ l ∷ []
+    → map (λ x. address_at xs x.place) ls ++ held s (drop i xs) ≡ held s xs → map (λ x. address_at xs x.place) more ++ held s (drop (i + 1) xs) ≡ held s xs
+leaver_more s xs i ls more l asc h e p is k =
+    let rest = held s (drop (suc i) xs) in
+    ap (λ j. map (λ x. address_at xs x.place) more ++ held s (drop j xs)) (add-one i)
+    ∙ ap (λ m. map (λ x. address_at xs x.place) m ++ rest) is
+    ∙ ap (λ m. m ++ rest) (map-append (λ (x : Leaver). address_at xs x.place) ls (l ∷ []))
+    ∙ append_assoc (map (λ (x : Leaver). address_at xs x.place) ls) (address_at xs l.place ∷ []) rest
+    ∙ ap (λ j. map (λ (x : Leaver). address_at xs x.place) ls ++ address_at xs j ∷ rest) p
+    ∙ ap (λ m. map (λ (x : Leaver). address_at xs x.place) ls ++ m) (sym (held_at xs s i blank asc h e))
     ∙ k
 
-item_rest : {X : Type 0} (xs : List X) (i : ℕ) (one : X) → i < length xs → one ≡ get_or xs i one → drop i xs ≡ one ∷ drop (suc i) xs
-item_rest xs i one h at = drop-cons xs i one h ∙ ap (λ x. x ∷ drop (suc i) xs) (sym at)
+-- and one that is not at the node
+pub leaver_passed : (s : ℕ) (xs : List Assigned) (i : ℕ) (ls more : List Leaver) → i < length xs → is_this_node s (get_or xs i blank).node ≡ false → more ≡ ls
+    → map (λ x. address_at xs x.place) ls ++ held s (drop i xs) ≡ held s xs → map (λ x. address_at xs x.place) more ++ held s (drop (i + 1) xs) ≡ held s xs
+unfolding held
+leaver_passed s xs i ls more h e is k =
+    ap (λ j. map (λ x. address_at xs x.place) more ++ held s (drop j xs)) (add-one i)
+    ∙ ap (λ m. map (λ x. address_at xs x.place) m ++ held s (drop (suc i) xs)) is
+    ∙ sym (ap (λ m. map (λ (x : Leaver). address_at xs x.place) ls ++ m)
+    (ap (held s) (drop-cons xs i blank h) ∙ ap (λ u. if u then (get_or xs i blank).address ∷ held s (drop (suc i) xs) else held s (drop (suc i) xs)) e))
+    ∙ k
+
+-- what an address leaves behind
+pub leaver_at : (s : ℕ) (xs : List Assigned) (i own sum square : ℕ) → Ascend xs → i < length xs → is_this_node s (get_or xs i blank).node ≡ true
+    → own ≡ sum - square → sum ≡ sum_to (address_at xs i) (held s xs) → square ≡ squared (address_at xs i) (address_at xs i) → IsLeaver (held s xs) xs (record { place = i; sum = own })
+leaver_at s xs i own sum square asc h e o f g =
+    let is = own_is xs s i blank asc h e own sum square o f g in
+    record { within = h; sum = is; without = ap (λ n. imbalance (others (address_at xs i) (held s xs)) + n) is ∙ left_at xs s i blank asc h e }
 
 pub target_more : (source : ℕ) (targets : List Tally) (i : ℕ) (one : Tally) (xs : List Assigned) (b new whole : Option Choice) (t : Bool) → i < length targets → one ≡ get_or targets i one → nat_eq (one.node) source ≡ t
     → new ≡ (if t then b else best_from choice_before b (failbacks_of (one.node) (held source xs) (held (one.node) xs) (held source xs)))

@@ -7,7 +7,6 @@ use Rattle.ct_values.proofs.AddressOrder.{same_itself}
 use Rattle.ct_values.specs.Words.{is_this_node}
 use Rattle.ct_values.specs.Address.{same_address}
 use Rattle.ct_values.specs.declared.address.Address.{Address}
-use Rattle.ct_values.specs.declared.address.Address.TheVariants.{V4}
 use Rattle.ct_frame.specs.declared.frame.Assigned.{Assigned}
 use Rattle.ct_lcp2.specs.Distance.{squared, sum_to, imbalance}
 use Rattle.ct_lcp2.specs.Placing.{Ascend, held, next_failback, next_place, sent}
@@ -135,9 +134,6 @@ sum_fits n xs a b sum new few s w =
 -- ---- lists that are made one by one
 
 -- what is read past the end of a placement
-abbrev pub blank : Assigned
-blank = record { address = V4 0; node = None }
-
 pub sum_at : (there : List Address) (xs : List Assigned) (sums : List ℕ) (i : ℕ) (d : Assigned) → sums ≡ sums_to there xs → i < length xs → get_or sums i 0 ≡ sum_to (get_or xs i d).address there
 sum_at there xs sums i d e h = ap (λ l. get_or l i 0) e ∙ get_or-map (λ x. sum_to x.address there) xs i d 0 h
 

@@ -2,3 +2,4 @@ pub mod Distance
 pub mod Best
 pub mod Placing
 pub mod Tallies
+pub mod Leavers

@@ -59,6 +59,11 @@ abbrev pub choice_before : Choice → Choice → Bool
 choice_before c d =
     nat_lt c.sum d.sum || (c.sum == d.sum && (address_before c.address d.address || (same_address c.address d.address && nat_lt c.node d.node)))
 
+-- the best so far has a lesser sum, so that no choice of this sum is better
+abbrev pub is_beaten : ℕ → Option Choice → Bool
+is_beaten sum None = false
+is_beaten sum (Some c) = nat_lt c.sum sum
+
 -- ---- step one: away from nodes that are not able
 
 abbrev pub is_able : List ℕ → ℕ → Bool

@@ -1,44 +1,55 @@
 //! Addresses fail back to nodes that held none.
-ghost use Rattle.std.specs.Prelude.{◌≡◌, ◌≤◌, OnOk, length};
+ghost use Rattle.std.specs.Prelude.{◌≡◌, ◌≤◌, IfOk, OnOk, length};
 ghost use Rattle.ct_lcp2.specs.Best.{best, best_from};
-ghost use Rattle.ct_lcp2.specs.Placing.{Ascend, choice_before, failbacks, failbacks_of, failed_back, held, is_behind, next_failback, with_source};
+ghost use Rattle.ct_lcp2.specs.Leavers.{AreLeavers};
+ghost use Rattle.ct_lcp2.specs.Placing.{Ascend, choice_before, failbacks, failbacks_of, failed_back, held, is_beaten, is_behind, next_failback, with_source};
 ghost use Rattle.ct_lcp2.specs.Tallies.{nodes, tallied, tally};
 
 use crate::choice::{Choice, Source};
+use crate::leaver::{Leaver, leavers};
 use crate::placement::Placement;
-use crate::start::is_this_node;
-use crate::tally::{Tally, all_after, squared, tallies};
+use crate::tally::{Tally, all_after, tallies};
 use ct_frame::frame::Assigned;
 use ct_values::memory::NoMemory;
 use std::alloc::Global;
 
+/// Is the best so far of a lesser sum? Then no choice of this sum is better.
+fn is_beaten(sum: u64, best: &Option<Choice>) -> bool
+    ensures { result ≡ is_beaten sum best.now }
+{
+    match best {
+        None => false,
+        Some(choice) => choice.sum < sum,
+    }
+}
+
 /// The best so far, and the moves from a node to a target.
-#[tactic(auto, unfolding(crate::specs::Placing::failbacks_of, crate::specs::Placing::held, crate::specs::Best::best_from))]
+#[tactic(auto, unfolding(crate::specs::Placing::failbacks_of, crate::specs::Best::best_from))]
 fn best_failback_to(
     source: &Tally,
+    leavers: &[Leaver],
     target: &Tally,
     at: &[Assigned],
     best: Option<Choice>,
 ) -> Option<Choice>
     requires few { length at.now ≤ 256 }
-    requires ascending { Ascend at.now }
     requires source { source.now ≡ tally at.now source.now.node }
+    requires leavers { AreLeavers source.now.node at.now leavers.now }
     requires target { target.now ≡ tally at.now target.now.node }
     ensures { result ≡ best_from choice_before best (failbacks_of target.now.node (held source.now.node at.now) (held target.now.node at.now) (held source.now.node at.now)) }
 {
     let mut best = best;
     let weight = source.imbalance;
     let weight_there = target.imbalance;
-    let sums = source.sums.as_slice();
     let sums_there = target.sums.as_slice();
-    for (i, x) in at.iter().enumerate() {
-        if is_this_node(source.node, x.node) {
-            let own = sums[i].saturating_sub(squared(x.address, x.address));
-            let sum = sums_there[i];
-            if sum + weight_there < weight && sum < own {
+    for x in leavers {
+        let sum = sums_there[x.place];
+        if sum + weight_there < weight && sum < x.sum {
+            let whole = weight - x.sum + (sum + weight_there);
+            if !is_beaten(whole, &best) {
                 let choice = Choice {
-                    sum: weight - own + (sum + weight_there),
-                    address: x.address,
+                    sum: whole,
+                    address: at[x.place].address,
                     node: target.node,
                 };
                 best = choice.or_better(best);
@@ -50,20 +61,26 @@ fn best_failback_to(
 
 /// The best move from a node to another of the targets.
 #[tactic(auto, unfolding(crate::specs::Best::best_from, crate::specs::Placing::failbacks))]
-fn best_failback(source: &Tally, targets: &[Tally], at: &[Assigned]) -> Option<Choice>
+fn best_failback(
+    alloc: Global,
+    source: &Tally,
+    targets: &[Tally],
+    at: &[Assigned],
+) -> Result<Option<Choice>, NoMemory>
     requires few { length at.now ≤ 256 }
     requires ascending { Ascend at.now }
     requires source { source.now ≡ tally at.now source.now.node }
     requires targets { targets.now ≡ tallied at.now targets.now }
-    ensures { result ≡ best choice_before (failbacks source.now.node (nodes targets.now) at.now) }
+    ensures { IfOk result (λ o. o ≡ best choice_before (failbacks source.now.node (nodes targets.now) at.now)) }
 {
+    let leavers = leavers(alloc, source, at)?;
     let mut best = None;
     for target in targets {
         if target.node != source.node {
-            best = best_failback_to(source, target, at, best);
+            best = best_failback_to(source, &leavers, target, at, best);
         }
     }
-    best
+    Ok(best)
 }
 
 /// Does a node with this imbalance come after the best source so far, whatever its moves are?
@@ -80,47 +97,53 @@ fn is_behind(node: u32, weight: u64, so_far: Option<Source>) -> bool
 /// The first of the best source so far and a node, if that has a move.
 #[tactic(auto, using(crate::proofs::Loops::behind))]
 fn with_source(
+    alloc: Global,
     one: &Tally,
     targets: &[Tally],
     at: &[Assigned],
     so_far: Option<Source>,
-) -> Option<Source>
+) -> Result<Option<Source>, NoMemory>
     requires few { length at.now ≤ 256 }
     requires ascending { Ascend at.now }
     requires one { one.now ≡ tally at.now one.now.node }
     requires targets { targets.now ≡ tallied at.now targets.now }
-    ensures { result ≡ with_source one.now.node one.now.imbalance (best choice_before (failbacks one.now.node (nodes targets.now) at.now)) so_far }
+    ensures { IfOk result (λ o. o ≡ with_source one.now.node one.now.imbalance (best choice_before (failbacks one.now.node (nodes targets.now) at.now)) so_far) }
 {
     if is_behind(one.node, one.imbalance, so_far) {
-        return so_far;
+        return Ok(so_far);
     }
-    match best_failback(one, targets, at) {
-        None => so_far,
+    match best_failback(alloc, one, targets, at)? {
+        None => Ok(so_far),
         Some(choice) => {
             let source = Source {
                 imbalance: one.imbalance,
                 node: one.node,
                 choice,
             };
-            source.or_better(so_far)
+            Ok(source.or_better(so_far))
         }
     }
 }
 
 /// The first source that has a move, and its best move.
 #[tactic(auto, unfolding(crate::specs::Best::best_from, crate::specs::Placing::sources))]
-fn next_failback(sources: &[Tally], targets: &[Tally], at: &[Assigned]) -> Option<Source>
+fn next_failback(
+    alloc: Global,
+    sources: &[Tally],
+    targets: &[Tally],
+    at: &[Assigned],
+) -> Result<Option<Source>, NoMemory>
     requires few { length at.now ≤ 256 }
     requires ascending { Ascend at.now }
     requires sources { sources.now ≡ tallied at.now sources.now }
     requires targets { targets.now ≡ tallied at.now targets.now }
-    ensures { result ≡ next_failback (nodes sources.now) (nodes targets.now) at.now }
+    ensures { IfOk result (λ o. o ≡ next_failback (nodes sources.now) (nodes targets.now) at.now) }
 {
     let mut best = None;
     for one in sources {
-        best = with_source(one, targets, at, best);
+        best = with_source(alloc, one, targets, at, best)?;
     }
-    best
+    Ok(best)
 }
 
 /// While a source has a move, the best move of the first such source is made.
@@ -139,7 +162,7 @@ pub fn fail_back(
     let mut to = tallies(alloc, targets, placement.at.as_slice())?;
     loop {
         let at = placement.at.as_slice();
-        let Some(source) = next_failback(&from, &to, at) else {
+        let Some(source) = next_failback(alloc, &from, &to, at)? else {
             return Ok(());
         };
         let address = source.choice.address;

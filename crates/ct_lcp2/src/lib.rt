@@ -5,6 +5,7 @@ pub mod choice;
 pub mod distance;
 mod failback;
 pub mod laws;
+mod leaver;
 pub mod placement;
 mod start;
 mod tally;

@@ -1,73 +1,71 @@
-use Rattle.std.proofs.Common.{◌∙◌, sym, ap, true, false, get_or, arith}
+use Rattle.std.proofs.Common.{◌∙◌, ◌+◌, sym, ap, true, false, get_or, arith}
 use Rattle.ct_lcp2.specs.Best.{better}
-use Rattle.ct_lcp2.specs.Placing.{choice_before, held}
+use Rattle.ct_lcp2.specs.Leavers.{address_at, blank}
+use Rattle.ct_lcp2.specs.Distance.{imbalance}
+use Rattle.ct_lcp2.specs.Placing.{choice_before, held, others}
+use Rattle.ct_lcp2.specs.declared.leaver.Leaver.{Leaver}
 use Rattle.ct_lcp2.proofs.Distances.{imbalance_within}
 use Rattle.ct_lcp2.proofs.Standing.{held_length}
-use Rattle.ct_lcp2.proofs.Tallies.{blank, sum_at, weight_fits}
-use Rattle.ct_lcp2.proofs.Loops.{own_is, left_at, may, may_not_by_weight, may_not_by_sum, new_sum, address_more, address_passed}
+use Rattle.ct_lcp2.proofs.Tallies.{sum_at, weight_fits}
+use Rattle.ct_lcp2.proofs.Loops.{address_more, back, beaten, leaver_of, may, may_not_by_sum, may_not_by_weight, new_sum}
 use Rattle.ct_lcp2.proofs.failback.best_failback_to.Goals as goal
-use Rattle.ct_lcp2.proofs.failback.best_failback_to.Goals.{then-is_this_node+then-sum-weight_there+then-sum-own, then-is_this_node+else-sum-weight_there, else-sum-weight_there-via-then-sum-weight_there+else-sum-own, else-sum-weight_there-via-else-sum-weight_there, else-is_this_node}
+use Rattle.ct_lcp2.proofs.failback.best_failback_to.Goals.{then-sum-weight_there+then-sum-x+then-not-is_beaten, then-sum-weight_there+then-sum-x+else-not-is_beaten, else-sum-weight_there, else-sum-weight_there-via-then-sum-weight_there+else-sum-x, else-sum-weight_there-via-else-sum-weight_there}
+
+abbrev none : Leaver
+none = record { place = 0; sum = 0 }
 
 pub overflow_add-sum : goal.overflow_add-sum
 overflow_add-sum c =
-    weight_fits c.args.target.now.node c.args.at.now _ (get_or c.as_slice-sums_there.result.now c.loop-i.i 0) c.args.target.now.imbalance c.requires.few
-    (sum_at (held c.args.target.now.node c.args.at.now) c.args.at.now c.as_slice-sums_there.result.now c.loop-i.i blank (c.as_slice-sums_there.ensures ∙ ap (λ t. t.sums) c.requires.target) c.loop-i-test.true) (ap (λ t. t.imbalance) c.requires.target)
-
-pub overflow_sub-choice : goal.overflow_sub-choice
-overflow_sub-choice c =
-    let s = c.args.source.now.node in
     let xs = c.args.at.now in
-    let is = sym c.is_this_node.ensures ∙ c.if-is_this_node.true in
-    let sum = sum_at (held s xs) xs c.as_slice-sums.result.now c.loop-i.i _ (c.as_slice-sums.ensures ∙ ap (λ t. t.sums) c.requires.source) c.loop-i-test.true in
-    let own = own_is xs s c.loop-i.i _ c.requires.ascending c.loop-i-test.true is c.saturating_sub-own.result (get_or c.as_slice-sums.result.now c.loop-i.i 0) c.squared.result c.saturating_sub-own.ensures sum c.squared.ensures in
-    let left = left_at xs s c.loop-i.i _ c.requires.ascending c.loop-i-test.true is in
-    let w = ap (λ t. t.imbalance) c.requires.source in
-    omega (arith, own, left, w)
+    let l = get_or c.args.leavers.now c.loop-x.x-index none in
+    let one = leaver_of c.args.source.now.node xs c.args.leavers.now c.loop-x.x-index none c.requires.leavers c.loop-x-test.true in
+    weight_fits c.args.target.now.node xs _ (get_or c.as_slice-sums_there.result.now l.place 0) c.args.target.now.imbalance c.requires.few
+    (sum_at (held c.args.target.now.node xs) xs c.as_slice-sums_there.result.now l.place blank (c.as_slice-sums_there.ensures ∙ ap (λ t. t.sums) c.requires.target) one.within) (ap (λ t. t.imbalance) c.requires.target)
 
-pub overflow_add-choice-then-sum-own : goal.overflow_add-choice-then-sum-own
-overflow_add-choice-then-sum-own c =
-    let l = held_length c.args.source.now.node c.args.at.now in
+pub overflow_add-whole-then-sum-x : goal.overflow_add-whole-then-sum-x
+overflow_add-whole-then-sum-x c =
+    let n = held_length c.args.source.now.node c.args.at.now in
     let few = c.requires.few in
-    let t = imbalance_within (held c.args.source.now.node c.args.at.now) 256 (omega (arith, l, few)) in
+    let t = imbalance_within (held c.args.source.now.node c.args.at.now) 256 (omega (arith, n, few)) in
     let w = ap (λ t. t.imbalance) c.requires.source in
     let less = c.if-sum-weight_there.true in
-    omega (arith, t, l, few, w, less)
+    omega (arith, t, n, few, w, less)
 
-pub loop-i-preserved : goal.loop-i-preserved
-loop-i-preserved c =
-    let s = c.args.source.now.node in
+pub loop-x-preserved : goal.loop-x-preserved
+loop-x-preserved c =
     let n = c.args.target.now.node in
     let xs = c.args.at.now in
-    let i = c.loop-i.i in
-    let here = held s xs in
+    let ls = c.args.leavers.now in
+    let i = c.loop-x.x-index in
+    let l = get_or ls i none in
+    let a = address_at xs l.place in
+    let here = held c.args.source.now.node xs in
     let there = held n xs in
-    let within = c.loop-i-test.true in
-    let asc = c.requires.ascending in
-    let sum = get_or c.as_slice-sums_there.result.now i 0 in
-    let far = sum_at there xs c.as_slice-sums_there.result.now i _ (c.as_slice-sums_there.ensures ∙ ap (λ t. t.sums) c.requires.target) within in
-    let near = sum_at here xs c.as_slice-sums.result.now i _ (c.as_slice-sums.ensures ∙ ap (λ t. t.sums) c.requires.source) within in
+    let within = c.loop-x-test.true in
+    let one = leaver_of c.args.source.now.node xs ls i none c.requires.leavers within in
+    let sum = get_or c.as_slice-sums_there.result.now l.place 0 in
+    let weight = c.args.source.now.imbalance in
+    let weight_there = c.args.target.now.imbalance in
+    let far = sum_at there xs c.as_slice-sums_there.result.now l.place blank (c.as_slice-sums_there.ensures ∙ ap (λ t. t.sums) c.requires.target) one.within in
     let w = ap (λ t. t.imbalance) c.requires.source in
     let t = ap (λ t. t.imbalance) c.requires.target in
-    elim c.if-is_this_node.branch [
-      | then-is_this_node+then-sum-weight_there+then-sum-own v ↦
-          let is = sym c.is_this_node.ensures ∙ v.if-is_this_node.true in
-          let own = own_is xs s i _ asc within is v.saturating_sub-own.result (get_or c.as_slice-sums.result.now i 0) v.squared.result v.saturating_sub-own.ensures near v.squared.ensures in
-          let left = left_at xs s i _ asc within is in
-          address_more n s here there xs i _ asc c.loop-i.best c.if-is_this_node.best _ true within is
-          (may _ here there sum c.args.target.now.imbalance c.args.source.now.imbalance v.saturating_sub-own.result far t w own v.if-sum-weight_there.true v.if-sum-own.true)
-          (v.best-is ∙ v.or_better-best.ensures ∙ ap (λ m. better choice_before c.loop-i.best (record { sum = m; address = (get_or xs i blank).address; node = n })) (new_sum _ here there sum c.args.target.now.imbalance c.args.source.now.imbalance v.saturating_sub-own.result far t w own left))
-          c.loop-i.invariant
-      | then-is_this_node+else-sum-weight_there v ↦
-          let is = sym c.is_this_node.ensures ∙ v.if-is_this_node.true in
-          let own = own_is xs s i _ asc within is v.saturating_sub-own.result (get_or c.as_slice-sums.result.now i 0) v.squared.result v.saturating_sub-own.ensures near v.squared.ensures in
+    let whole = new_sum a here there sum weight_there weight l.sum far t w one.sum (ap (λ s. imbalance (others a here) + s) (sym one.sum) ∙ one.without) in
+    elim c.if-sum-weight_there.branch [
+      | then-sum-weight_there+then-sum-x+then-not-is_beaten v ↦
+          address_more n here there xs ls i none c.loop-x.best c.if-sum-weight_there.best _ true within
+          (may a here there sum weight_there weight l.sum far t w one.sum v.if-sum-weight_there.true v.if-sum-x.true)
+          (v.best-is ∙ v.or_better-best.ensures ∙ ap (λ m. better choice_before c.loop-x.best (record { sum = m; address = a; node = n })) whole)
+          c.loop-x.invariant
+      | then-sum-weight_there+then-sum-x+else-not-is_beaten v ↦
+          address_more n here there xs ls i none c.loop-x.best c.if-sum-weight_there.best _ true within
+          (may a here there sum weight_there weight l.sum far t w one.sum v.if-sum-weight_there.true v.if-sum-x.true)
+          (v.best-is ∙ sym (beaten _ c.loop-x.best (back n here there a) (sym v.is_beaten.ensures ∙ v.if-not-is_beaten.false) (sym whole)))
+          c.loop-x.invariant
+      | else-sum-weight_there v ↦
           elim v.else-sum-weight_there.branch [
-            | else-sum-weight_there-via-then-sum-weight_there+else-sum-own u ↦
-                address_more n s here there xs i _ asc c.loop-i.best c.if-is_this_node.best _ false within is
-                (may_not_by_sum _ here there sum c.args.target.now.imbalance c.args.source.now.imbalance v.saturating_sub-own.result far own u.if-sum-own.false) v.best-is c.loop-i.invariant
+            | else-sum-weight_there-via-then-sum-weight_there+else-sum-x u ↦
+                address_more n here there xs ls i none c.loop-x.best c.if-sum-weight_there.best _ false within (may_not_by_sum a here there sum weight_there weight l.sum far one.sum u.if-sum-x.false) v.best-is c.loop-x.invariant
             | else-sum-weight_there-via-else-sum-weight_there u ↦
-                address_more n s here there xs i _ asc c.loop-i.best c.if-is_this_node.best _ false within is
-                (may_not_by_weight _ here there sum c.args.target.now.imbalance c.args.source.now.imbalance v.saturating_sub-own.result far t w u.if-sum-weight_there.false) v.best-is c.loop-i.invariant
+                address_more n here there xs ls i none c.loop-x.best c.if-sum-weight_there.best _ false within (may_not_by_weight a here there sum weight_there weight l.sum far t w u.if-sum-weight_there.false) v.best-is c.loop-x.invariant
           ]
-      | else-is_this_node v ↦
-          address_passed n s here there xs i _ c.loop-i.best c.if-is_this_node.best _ within (sym c.is_this_node.ensures ∙ v.if-is_this_node.false) v.best-is c.loop-i.invariant
     ]

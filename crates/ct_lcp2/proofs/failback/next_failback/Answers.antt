@@ -6,5 +6,5 @@ use Rattle.ct_lcp2.proofs.failback.next_failback.Goals as goal
 
 pub loop-one-preserved : goal.loop-one-preserved
 loop-one-preserved c =
-    node_more c.args.sources.now (nodes c.args.targets.now) c.loop-one.one-index c.one-item.result c.args.at.now c.loop-one.best c.with_source-best.result _ c.one-item.result.imbalance _ c.loop-one-test.true c.one-item.is
-    (ap (λ t. t.imbalance) (item_tally c.args.at.now c.args.sources.now c.loop-one.one-index c.one-item.result c.requires.sources c.loop-one-test.true c.one-item.is)) refl c.with_source-best.ensures c.loop-one.invariant
+    node_more c.args.sources.now (nodes c.args.targets.now) c.loop-one.one-index c.one-item.result c.args.at.now c.loop-one.best c.in_ok-best.best _ c.one-item.result.imbalance _ c.loop-one-test.true c.one-item.is
+    (ap (λ t. t.imbalance) (item_tally c.args.at.now c.args.sources.now c.loop-one.one-index c.one-item.result c.requires.sources c.loop-one-test.true c.one-item.is)) refl c.in_ok-best.ensures c.loop-one.invariant

@@ -2,7 +2,8 @@ use Rattle.std.proofs.Common.{◌∙◌, ap, true, false, get_or}
 use Rattle.std.specs.Prelude.{not}
 use Rattle.ct_lcp2.specs.Placing.{held}
 use Rattle.ct_lcp2.proofs.Loops.{place_added}
-use Rattle.ct_lcp2.proofs.Tallies.{blank, sum_at}
+use Rattle.ct_lcp2.proofs.Tallies.{sum_at}
+use Rattle.ct_lcp2.specs.Leavers.{blank}
 use Rattle.ct_lcp2.proofs.vacant.best_place_at.Goals as goal
 use Rattle.ct_lcp2.proofs.vacant.best_place_at.Goals.{then-is_none, else-is_none}
 

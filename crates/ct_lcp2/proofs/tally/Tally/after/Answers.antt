@@ -1,6 +1,5 @@
-use Rattle.std.proofs.Common.{◌≡◌, ◌∙◌, ◌-◌, sym, ap, true, false, nat_eq, arith}
+use Rattle.std.proofs.Common.{◌≡◌, ◌∙◌, sym, ap, true, false, nat_eq, arith}
 use Rattle.ct_values.specs.Words.{is_this_node}
-use Rattle.ct_lcp2.specs.Distance.{squared, imbalance}
 use Rattle.ct_lcp2.proofs.Tallies.{weight_fits, joined, left, stayed}
 use Rattle.ct_lcp2.proofs.tally.Tally.after.Goals as goal
 
