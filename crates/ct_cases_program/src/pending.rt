@@ -68,38 +68,79 @@ fn commits(alloc: Global, node: &mut Node, call: u64) -> Result<(), Fail> {
     Ok(())
 }
 
+/// The node, before any call.
+fn opening(alloc: Global) -> Result<Node, Fail> {
+    let config = config(alloc)?;
+    Ok(Node::opening(alloc, &config, &[0, 1])?)
+}
+
+/// Three calls wait for locks, and one for a commit.
+fn all_wait(alloc: Global, node: &mut Node) -> Result<(), Fail> {
+    waits(alloc, node, 1, b"a", 5)?;
+    waits(alloc, node, 1, b"b", 2)?;
+    waits(alloc, node, 0, b"c", 4)?;
+    commits(alloc, node, 3)
+}
+
+/// One more call that waits at node 6.
+fn add_call(calls: &mut Vec<PendingCall>, call: u64, op: ClientOp, seq: u64) -> Result<(), Fail> {
+    calls.push(PendingCall {
+        call,
+        node: 6,
+        op,
+        seq,
+    })?;
+    Ok(())
+}
+
+fn add_lock(
+    alloc: Global,
+    calls: &mut Vec<PendingCall>,
+    call: u64,
+    db: u32,
+    key: &[u8],
+) -> Result<(), Fail> {
+    let op = lock(alloc, db, key)?;
+    add_call(calls, call, op, 0)
+}
+
+fn add_commit(alloc: Global, calls: &mut Vec<PendingCall>, call: u64) -> Result<(), Fail> {
+    let writes = writes(alloc)?;
+    add_call(calls, call, ClientOp::Commit { db: 2, writes }, 7)
+}
+
+fn wanted(alloc: Global) -> Result<Vec<PendingCall>, Fail> {
+    let mut calls = Vec::new(alloc);
+    add_lock(alloc, &mut calls, 2, 1, b"b")?;
+    add_commit(alloc, &mut calls, 3)?;
+    add_lock(alloc, &mut calls, 4, 0, b"c")?;
+    add_lock(alloc, &mut calls, 5, 1, b"a")?;
+    Ok(calls)
+}
+
+/// Has the node three databases, and does no call wait?
+fn none_waits(node: &Node) -> Result<bool, Fail> {
+    Ok(node.dbs.len() == 3 && pending(0, node)?.is_empty())
+}
+
+/// Has the node three databases, and do these calls wait?
+fn are_waiting(node: &Node, wanted: &Vec<PendingCall>) -> Result<bool, Fail> {
+    Ok(node.dbs.len() == 3 && pending(6, node)? == *wanted)
+}
+
+#[test]
+fn no_call_waits_at_first(rt: HostRuntime) -> Result<(), Fail> {
+    let node = opening(rt.alloc())?;
+    assert!(rt; none_waits(&node)?);
+    Ok(())
+}
+
 #[test]
 fn by_number(rt: HostRuntime) -> Result<(), Fail> {
     let alloc = rt.alloc();
-    let mut node = Node::opening(alloc, &config(alloc)?, &[0, 1])?;
-    assert!(rt; node.dbs.len() == 3 && pending(0, &node)?.is_empty());
-    waits(alloc, &mut node, 1, b"a", 5)?;
-    waits(alloc, &mut node, 1, b"b", 2)?;
-    waits(alloc, &mut node, 0, b"c", 4)?;
-    commits(alloc, &mut node, 3)?;
-    assert!(rt; node.dbs.len() == 3);
-    let wanted = [
-        (2, lock(alloc, 1, b"b")?, 0),
-        (
-            3,
-            ClientOp::Commit {
-                db: 2,
-                writes: writes(alloc)?,
-            },
-            7,
-        ),
-        (4, lock(alloc, 0, b"c")?, 0),
-        (5, lock(alloc, 1, b"a")?, 0),
-    ];
-    let mut calls = Vec::new(alloc);
-    for (call, op, seq) in wanted {
-        calls.push(PendingCall {
-            call,
-            node: 6,
-            op,
-            seq,
-        })?;
-    }
-    assert!(rt; pending(6, &node)? == calls);
+    let mut node = opening(alloc)?;
+    all_wait(alloc, &mut node)?;
+    let wanted = wanted(alloc)?;
+    assert!(rt; are_waiting(&node, &wanted)?);
     Ok(())
 }

@@ -167,31 +167,44 @@ fn end_of(alloc: Global, bytes: Vec<u8>) -> End {
     place(alloc, &mut source, &mut held)
 }
 
-#[test]
-fn long_lines(rt: HostRuntime) -> Result<(), Fail> {
-    let alloc = rt.alloc();
-    let long = End::Refused {
-        line: 2,
-        kind: LineKind::Long,
-    };
-    let words = End::Refused {
-        line: 2,
-        kind: LineKind::Words,
-    };
-    let cases: [(usize, &[u8], End); 4] = [
-        (65535, b"", End::Unended { line: 2 }),
-        (65536, b"", long),
-        (65535, b"\n", words),
-        (65536, b"\n", long),
-    ];
-    for (letters, last, end) in cases {
-        let mut bytes = Vec::from_slice(alloc, b"nodes 1\n")?;
-        for _ in 0..letters {
-            bytes.push(b'a')?;
-        }
-        bytes.extend_from_slice(last)?;
-        assert_eq!(rt; end_of(alloc, bytes), end);
+// A first line, and a second of so many letters that ends so.
+fn with_letters(alloc: Global, letters: usize, last: &[u8]) -> Result<Vec<u8>, Fail> {
+    let mut bytes = Vec::from_slice(alloc, b"nodes 1\n")?;
+    for _ in 0..letters {
+        bytes.push(b'a')?;
     }
+    bytes.extend_from_slice(last)?;
+    Ok(bytes)
+}
+
+fn ends_so(alloc: Global, letters: usize, last: &[u8], end: End) -> Result<bool, Fail> {
+    let bytes = with_letters(alloc, letters, last)?;
+    Ok(end_of(alloc, bytes) == end)
+}
+
+const LONG: End = End::Refused {
+    line: 2,
+    kind: LineKind::Long,
+};
+
+const WORDS: End = End::Refused {
+    line: 2,
+    kind: LineKind::Words,
+};
+
+#[test]
+fn long_lines_that_do_not_end(rt: HostRuntime) -> Result<(), Fail> {
+    let alloc = rt.alloc();
+    assert!(rt; ends_so(alloc, 65535, b"", End::Unended { line: 2 })?);
+    assert!(rt; ends_so(alloc, 65536, b"", LONG)?);
+    Ok(())
+}
+
+#[test]
+fn long_lines_that_end(rt: HostRuntime) -> Result<(), Fail> {
+    let alloc = rt.alloc();
+    assert!(rt; ends_so(alloc, 65535, b"\n", WORDS)?);
+    assert!(rt; ends_so(alloc, 65536, b"\n", LONG)?);
     Ok(())
 }
 

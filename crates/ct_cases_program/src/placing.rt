@@ -21,79 +21,127 @@ fn prints(alloc: Global, input: &str, refused: Option<LineKind>, text: &str) -> 
 }
 
 #[test]
-fn lines_and_texts(rt: HostRuntime) -> Result<(), Fail> {
-    let table = [
-        ("", None, ""),
-        ("nodes 1", None, "imbalance 0 0\n"),
-        (
-            "nodes 2\naddress 192.168.1.1\naddress 192.168.1.2\naddress 192.168.1.3\naddress 192.168.1.4",
-            None,
-            "192.168.1.1 0\n192.168.1.2 1\n192.168.1.3 1\n192.168.1.4 0\nimbalance 0 841\nimbalance 1 961\n",
-        ),
-        (
-            "nodes 2\naddress 192.168.1.1 0\naddress 192.168.1.2 0\naddress 192.168.1.3 0\naddress 192.168.1.4 0",
-            None,
-            "192.168.1.1 1\n192.168.1.2 1\n192.168.1.3 0\n192.168.1.4 0\nimbalance 0 841\nimbalance 1 900\n",
-        ),
-        (
-            "nodes 1\ndisabled 0\naddress 10.0.0.1",
-            None,
-            "10.0.0.1 -1\nimbalance 0 0\n",
-        ),
-        (
-            "nodes 2\naddress 2001:db8::1\naddress 2001:db8::2\naddress 10.0.0.1",
-            None,
-            "10.0.0.1 0\n2001:db8::1 0\n2001:db8::2 1\nimbalance 0 0\nimbalance 1 0\n",
-        ),
-        (
-            "nodes 4\ndisabled 1\ndisabled 3\naddress 10.0.0.7 2\naddress 2001:db8::5 0\naddress 10.0.0.1 2\naddress 10.0.0.2 1\naddress 10.0.8.1 2\naddress 2001:db8::9 3\naddress 10.0.0.5 2\naddress 10.0.0.3",
-            None,
-            "10.0.0.1 2\n10.0.0.2 0\n10.0.0.3 0\n10.0.0.5 2\n10.0.0.7 2\n10.0.8.1 2\n2001:db8::5 0\n2001:db8::9 2\nimbalance 0 961\nimbalance 1 0\nimbalance 2 3782\nimbalance 3 0\n",
-        ),
-        ("nodes 0", Some(LineKind::Words), ""),
-        ("nodes 17", Some(LineKind::Words), ""),
-        (
-            "nodes 1\naddress 2001:0db8::1",
-            Some(LineKind::Words),
-            "imbalance 0 0\n",
-        ),
-        (
+fn nothing_is_placed(rt: HostRuntime) -> Result<(), Fail> {
+    let alloc = rt.alloc();
+    assert!(rt; prints(alloc, "", None, "")?);
+    assert!(rt; prints(alloc, "nodes 1", None, "imbalance 0 0\n")?);
+    Ok(())
+}
+
+#[test]
+fn addresses_that_are_nowhere(rt: HostRuntime) -> Result<(), Fail> {
+    let input =
+        "nodes 2\naddress 192.168.1.1\naddress 192.168.1.2\naddress 192.168.1.3\naddress 192.168.1.4";
+    let text =
+        "192.168.1.1 0\n192.168.1.2 1\n192.168.1.3 1\n192.168.1.4 0\nimbalance 0 841\nimbalance 1 961\n";
+    assert!(rt; prints(rt.alloc(), input, None, text)?);
+    Ok(())
+}
+
+#[test]
+fn addresses_at_one_of_two_nodes(rt: HostRuntime) -> Result<(), Fail> {
+    let input =
+        "nodes 2\naddress 192.168.1.1 0\naddress 192.168.1.2 0\naddress 192.168.1.3 0\naddress 192.168.1.4 0";
+    let text =
+        "192.168.1.1 1\n192.168.1.2 1\n192.168.1.3 0\n192.168.1.4 0\nimbalance 0 841\nimbalance 1 900\n";
+    assert!(rt; prints(rt.alloc(), input, None, text)?);
+    Ok(())
+}
+
+#[test]
+fn a_disabled_node_gets_nothing(rt: HostRuntime) -> Result<(), Fail> {
+    let input = "nodes 1\ndisabled 0\naddress 10.0.0.1";
+    let text = "10.0.0.1 -1\nimbalance 0 0\n";
+    assert!(rt; prints(rt.alloc(), input, None, text)?);
+    Ok(())
+}
+
+#[test]
+fn addresses_of_both_kinds(rt: HostRuntime) -> Result<(), Fail> {
+    let input = "nodes 2\naddress 2001:db8::1\naddress 2001:db8::2\naddress 10.0.0.1";
+    let text = "10.0.0.1 0\n2001:db8::1 0\n2001:db8::2 1\nimbalance 0 0\nimbalance 1 0\n";
+    assert!(rt; prints(rt.alloc(), input, None, text)?);
+    Ok(())
+}
+
+#[test]
+fn addresses_at_nodes_of_which_two_are_disabled(rt: HostRuntime) -> Result<(), Fail> {
+    let input =
+        "nodes 4\ndisabled 1\ndisabled 3\naddress 10.0.0.7 2\naddress 2001:db8::5 0\naddress 10.0.0.1 2\naddress 10.0.0.2 1\naddress 10.0.8.1 2\naddress 2001:db8::9 3\naddress 10.0.0.5 2\naddress 10.0.0.3";
+    let text =
+        "10.0.0.1 2\n10.0.0.2 0\n10.0.0.3 0\n10.0.0.5 2\n10.0.0.7 2\n10.0.8.1 2\n2001:db8::5 0\n2001:db8::9 2\nimbalance 0 961\nimbalance 1 0\nimbalance 2 3782\nimbalance 3 0\n";
+    assert!(rt; prints(rt.alloc(), input, None, text)?);
+    Ok(())
+}
+
+#[test]
+fn numbers_out_of_range(rt: HostRuntime) -> Result<(), Fail> {
+    let alloc = rt.alloc();
+    let words = Some(LineKind::Words);
+    assert!(rt; prints(alloc, "nodes 0", words, "")?);
+    assert!(rt; prints(alloc, "nodes 17", words, "")?);
+    assert!(rt; prints(alloc, "nodes 1\ndisabled 1", words, "imbalance 0 0\n")?);
+    assert!(rt;
+        prints(
+            alloc,
             "nodes 1\naddress 10.0.0.1 1",
-            Some(LineKind::Words),
-            "imbalance 0 0\n",
-        ),
-        (
-            "nodes 1\ndisabled 1",
-            Some(LineKind::Words),
-            "imbalance 0 0\n",
-        ),
-        (
+            words,
+            "imbalance 0 0\n"
+        )?
+    );
+    Ok(())
+}
+
+#[test]
+fn words_that_are_no_address(rt: HostRuntime) -> Result<(), Fail> {
+    let alloc = rt.alloc();
+    let words = Some(LineKind::Words);
+    assert!(rt;
+        prints(
+            alloc,
+            "nodes 1\naddress 2001:0db8::1",
+            words,
+            "imbalance 0 0\n"
+        )?
+    );
+    assert!(rt;
+        prints(
+            alloc,
             "nodes 1\naddress  10.0.0.1",
-            Some(LineKind::Words),
-            "imbalance 0 0\n",
-        ),
-        ("disabled 1", Some(LineKind::Order), ""),
-        ("address 10.0.0.1 5", Some(LineKind::Order), ""),
-        ("nodes 1\nnodes 1", Some(LineKind::Order), "imbalance 0 0\n"),
-        (
-            "nodes 1\naddress 10.0.0.1\ndisabled 0",
-            Some(LineKind::Order),
-            "10.0.0.1 0\nimbalance 0 0\n",
-        ),
-        (
-            "nodes 2\ndisabled 1\ndisabled 1",
-            Some(LineKind::Repeat),
-            "imbalance 0 0\nimbalance 1 0\n",
-        ),
-        (
-            "nodes 2\naddress 10.0.0.1\naddress 10.0.0.1 1",
-            Some(LineKind::Repeat),
-            "10.0.0.1 0\nimbalance 0 0\nimbalance 1 0\n",
-        ),
-    ];
-    for (input, refused, text) in table {
-        assert!(rt; prints(rt.alloc(), input, refused, text)?, "{input}");
-    }
+            words,
+            "imbalance 0 0\n"
+        )?
+    );
+    Ok(())
+}
+
+#[test]
+fn lines_out_of_order(rt: HostRuntime) -> Result<(), Fail> {
+    let alloc = rt.alloc();
+    let order = Some(LineKind::Order);
+    assert!(rt; prints(alloc, "disabled 1", order, "")?);
+    assert!(rt; prints(alloc, "address 10.0.0.1 5", order, "")?);
+    assert!(rt; prints(alloc, "nodes 1\nnodes 1", order, "imbalance 0 0\n")?);
+    let input = "nodes 1\naddress 10.0.0.1\ndisabled 0";
+    assert!(rt; prints(alloc, input, order, "10.0.0.1 0\nimbalance 0 0\n")?);
+    Ok(())
+}
+
+#[test]
+fn lines_that_repeat(rt: HostRuntime) -> Result<(), Fail> {
+    let alloc = rt.alloc();
+    let repeat = Some(LineKind::Repeat);
+    let input = "nodes 2\ndisabled 1\ndisabled 1";
+    assert!(rt; prints(alloc, input, repeat, "imbalance 0 0\nimbalance 1 0\n")?);
+    let input = "nodes 2\naddress 10.0.0.1\naddress 10.0.0.1 1";
+    assert!(rt;
+        prints(
+            alloc,
+            input,
+            repeat,
+            "10.0.0.1 0\nimbalance 0 0\nimbalance 1 0\n"
+        )?
+    );
     Ok(())
 }
 

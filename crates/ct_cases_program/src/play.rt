@@ -3,6 +3,7 @@ use ct_call::table::CallTable;
 use ct_play::session::Session;
 use ct_play::text::push_what;
 use ct_play::what::PlayFault;
+use ct_values::items::Items;
 use ct_values::memory::NoMemory;
 use std::alloc::Global;
 use std::test::Fail;
@@ -79,27 +80,63 @@ const SCENARIOS: [Case; 13] = [
     (&["nodes 1", "vacuum 0 t"], "", "no-such-db"),
 ];
 
-// Plays lines, and answers what they print. `refused` gets the reason of the one that is refused.
-fn played(alloc: Global, lines: &[&str], refused: &mut Vec<u8>) -> Result<Vec<u8>, Fail> {
+fn add_texts(text: &mut Vec<u8>, texts: &[Items<u8>]) -> Result<(), Fail> {
+    for one in texts {
+        text.extend_from_slice(one.as_slice())?;
+    }
+    Ok(())
+}
+
+// Plays a line, and adds what it prints. Is it taken? `refused` gets the reason where it is not.
+fn takes(
+    alloc: Global,
+    session: &mut Session,
+    table: &CallTable,
+    line: &str,
+    text: &mut Vec<u8>,
+    refused: &mut Vec<u8>,
+) -> Result<bool, Fail> {
+    match session.play(alloc, table, line.as_bytes()) {
+        Ok(texts) => {
+            add_texts(text, texts.as_slice())?;
+            Ok(true)
+        }
+        Err(PlayFault::Refused(what)) => {
+            push_what(refused, what)?;
+            Ok(false)
+        }
+        Err(PlayFault::NoMemory) => Err(Fail::from(NoMemory)),
+    }
+}
+
+// Plays lines up to the first that is refused. Are all taken?
+fn all_taken(
+    alloc: Global,
+    session: &mut Session,
+    lines: &[&str],
+    text: &mut Vec<u8>,
+    refused: &mut Vec<u8>,
+) -> Result<bool, Fail> {
     let table = CallTable::new(alloc);
-    let mut session = Session::new(alloc);
-    let mut text = Vec::new(alloc);
     for line in lines {
-        match session.play(alloc, &table, line.as_bytes()) {
-            Ok(texts) => {
-                for one in &texts {
-                    text.extend_from_slice(one.as_slice())?;
-                }
-            }
-            Err(PlayFault::Refused(what)) => {
-                push_what(refused, what)?;
-                return Ok(text);
-            }
-            Err(PlayFault::NoMemory) => return Err(Fail::from(NoMemory)),
+        if !takes(alloc, session, &table, *line, text, refused)? {
+            return Ok(false);
         }
     }
-    for one in &session.pending(alloc)? {
-        text.extend_from_slice(one.as_slice())?;
+    Ok(true)
+}
+
+fn add_pending(alloc: Global, session: &Session, text: &mut Vec<u8>) -> Result<(), Fail> {
+    let waiting = session.pending(alloc)?;
+    add_texts(text, waiting.as_slice())
+}
+
+// Plays lines, and answers what they print. `refused` gets the reason of the one that is refused.
+fn played(alloc: Global, lines: &[&str], refused: &mut Vec<u8>) -> Result<Vec<u8>, Fail> {
+    let mut session = Session::new(alloc);
+    let mut text = Vec::new(alloc);
+    if all_taken(alloc, &mut session, lines, &mut text, refused)? {
+        add_pending(alloc, &session, &mut text)?;
     }
     Ok(text)
 }

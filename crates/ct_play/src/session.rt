@@ -1,5 +1,5 @@
 //! A scenario as it is played line by line.
-ghost use Rattle.std.specs.Prelude.{◌≡◌, ◌++◌, IfOk, IsSome, OnOk, map};
+ghost use Rattle.std.specs.Prelude.{◌≡◌, ◌++◌, IfOk, IsSome, None, OnOk, map};
 ghost use Rattle.ct_call.specs.Shown.{rules_of};
 ghost use Rattle.ct_lines.specs.Places.{refusal};
 ghost use Rattle.ct_lines.specs.Spelled.{IsInRange};
@@ -48,18 +48,13 @@ fn is_config_line(line: &ScenarioLine) -> bool
     }
 }
 
-/// The cluster at a line that is no configuration line: the first such line opens it.
-fn world_at(alloc: Global, places: &Places, world: Option<World>) -> Result<World, NoMemory>
+/// The cluster that the first line opens that is no configuration line.
+fn opened(alloc: Global, places: &Places) -> Result<World, NoMemory>
     requires { IsSome places.now.nodes }
-    ensures { IfOk result (λ w. w ≡ world_at places.now world) }
+    ensures { IfOk result (λ w. w ≡ world_at places.now None) }
 {
-    match world {
-        Some(world) => Ok(world),
-        None => {
-            let config = places.config(alloc)?;
-            World::new(alloc, &config)
-        }
-    }
+    let config = places.config(alloc)?;
+    World::new(alloc, &config)
 }
 
 /// The text of each of these calls.
@@ -122,8 +117,13 @@ impl Session {
         requires nodes { IsSome self.old.places.nodes }
         ensures { Plays result (put self.old.places (line_effect (rules_of table.now) (world_at self.old.places self.old.world) self.old.walker line)) self.new }
     {
-        let before = self.world.take();
-        let mut world = match world_at(alloc, &self.places, before) {
+        if let Some(world) = &mut self.world {
+            return match line_effect(alloc, world, &mut self.walker, table, line) {
+                Ok(texts) => Ok(texts),
+                Err(fault) => Err(fault),
+            };
+        }
+        let mut world = match opened(alloc, &self.places) {
             Ok(world) => world,
             Err(NoMemory) => return Err(PlayFault::NoMemory),
         };

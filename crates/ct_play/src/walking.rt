@@ -56,13 +56,18 @@ pub fn tell(
     ensures { TellsMove called result texts.old.items texts.new.items }
 {
     match called {
-        Ok(lines) => match traverse_texts(alloc, lines.as_slice()) {
-            Ok(mut more) => match texts.append(&mut more) {
-                Ok(()) => Ok(()),
-                Err(_) => Err(PlayFault::NoMemory),
-            },
-            Err(NoMemory) => Err(PlayFault::NoMemory),
-        },
+        Ok(lines) => {
+            if lines.is_empty() {
+                return Ok(());
+            }
+            match traverse_texts(alloc, lines.as_slice()) {
+                Ok(mut more) => match texts.append(&mut more) {
+                    Ok(()) => Ok(()),
+                    Err(_) => Err(PlayFault::NoMemory),
+                },
+                Err(NoMemory) => Err(PlayFault::NoMemory),
+            }
+        }
         Err(fault) => Err(unmoved_by(fault)),
     }
 }

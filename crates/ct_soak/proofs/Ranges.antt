@@ -1,5 +1,5 @@
 -- Each line that a word makes is in its range.
-use Rattle.std.proofs.Common.{◌≡◌, ℕ, zero, suc, ◌+◌, ◌/◌, ◌%◌, ◌^◌, ◌<◌, ◌≤◌, Bool, true, false, nat_eq, nat_lt, List, [], ◌∷◌, length, refl, arith}
+use Rattle.std.proofs.Common.{◌≡◌, ℕ, zero, suc, ◌+◌, ◌/◌, ◌%◌, ◌^◌, ◌<◌, ◌≤◌, Bool, true, false, nat_eq, nat_lt, List, [], ◌∷◌, length, Result, Ok, Err, IfOk, refl, sym, subst, arith}
 use Rattle.std.proofs.Math.Nat.{mod-le}
 use Rattle.std.proofs.lemmas.Fmt.{length-decimal-le}
 use Rattle.std.proofs.lemmas.List.Elements.{All-from_recursion}
@@ -10,8 +10,7 @@ use Rattle.ct_values.proofs.Numbers.{decimal_digits}
 use Rattle.ct_frame.specs.Fields.{ascends}
 use Rattle.ct_lines.specs.Spelled.{IsInRange, IsKey, IsMessage, IsName, IsPair, IsSmall, IsValue, ArePairs, AreMembers}
 use Rattle.ct_lines.specs.declared.line.ScenarioLine.{ScenarioLine}
-use Rattle.ct_soak.specs.Soak.{commit_line, key_in, kind_in, letter_in, line_of_kind, members_with, message_in, message_line, name_in, is_first, node_in, number_in, pair_in, record_line, round_line, runs, soak_line, value_in}
-use Rattle.ct_soak.specs.declared.soak.SoakView.{SoakView}
+use Rattle.ct_soak.specs.Soak.{SoakView, commit_line, key_in, letter_in, line_of_kind, members_with, message_in, message_line, name_in, is_first, node_in, number_in, pair_in, record_line, round_line, runs, value_in}
 
 -- ---- parts
 
@@ -167,6 +166,7 @@ kind_range w v kind h =
     (if_range (nat_eq kind 29) _ _ (node_small w, name_of true, tt)
     (if_range (nat_eq kind 30) _ _ (round_range w v.running) (commit_range w v.running))))))
 
-pub soak_in_range : (w : ℕ) (v : SoakView) → w < 2 ^ 32 → IsInRange (soak_line w v)
-unfolding soak_line
-soak_in_range w v h = kind_range w v (kind_in w) h
+-- of each kind, where memory suffices
+pub made_in_range : {E : Type 0} (w : ℕ) (v : SoakView) (kind : ℕ) (r : Result ScenarioLine E) → w < 2 ^ 32 → IfOk r (λ line. line ≡ line_of_kind w v kind) → IfOk r IsInRange
+made_in_range w v kind (Ok line) h e = subst IsInRange (sym e) (kind_range w v kind h)
+made_in_range w v kind (Err f) h e = tt

@@ -10,7 +10,11 @@ use Rattle.ct_lines.specs.declared.line.NamedOp.TheVariants as op
 use Rattle.ct_lines.specs.declared.line.ScenarioLine.{ScenarioLine}
 use Rattle.ct_lines.specs.declared.line.ScenarioLine.TheVariants.{Change, ByName, Settle, Ctdb}
 use Rattle.ct_values.specs.declared.client.Pair.{Pair}
-use Rattle.ct_soak.specs.declared.soak.SoakView.{SoakView}
+
+-- what a word's line takes from the cluster: how many messages were sent, and which nodes run
+pub record SoakView : Type 0 where
+  pub sent : ℕ
+  pub running : List Bool
 
 -- four nodes, and fewer messages than a number may count
 pub record IsView (v : SoakView) : Type 0 where

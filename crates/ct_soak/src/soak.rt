@@ -18,13 +18,6 @@ use ct_values::number::push_decimal;
 use ct_values::value::Value;
 use std::alloc::Global;
 
-/// What a word's line takes from the cluster: how many messages were sent, and which nodes run.
-#[derive(Debug, Drop)]
-pub struct SoakView {
-    pub sent: u64,
-    pub running: Items<bool>,
-}
-
 /// Which kind of line.
 #[tactic(auto, unfolding(crate::specs::Soak::kind_in))]
 fn kind_in(word: u32) -> u32
@@ -296,18 +289,19 @@ fn commit_line(alloc: Global, word: u32, running: &[bool]) -> Result<ScenarioLin
 fn line_of_kind(
     alloc: Global,
     word: u32,
-    view: &SoakView,
+    sent: u64,
+    running: &[bool],
     kind: u32,
 ) -> Result<ScenarioLine, NoMemory>
-    requires { view.now.sent < 2 ^ 62 }
-    ensures { IfOk result (λ line. line ≡ line_of_kind word view.now kind) }
+    requires { sent < 2 ^ 62 }
+    ensures { IfOk result (λ line. line ≡ line_of_kind word (record { sent = sent; running = running.now }) kind) }
 {
     if kind < 17 {
         record_line(alloc, word, kind)
     } else if kind < 25 {
         Ok(ScenarioLine::Settle(1 + number_in(word) % 8))
     } else if kind < 28 {
-        Ok(message_line(word, view.sent, kind))
+        Ok(message_line(word, sent, kind))
     } else if kind == 28 {
         Ok(ScenarioLine::Change(Step::Retry(node_in(word))))
     } else if kind == 29 {
@@ -317,18 +311,24 @@ fn line_of_kind(
             op: NamedOp::Vacuum,
         })
     } else if kind == 30 {
-        round_line(alloc, word, view.running.as_slice())
+        round_line(alloc, word, running)
     } else {
-        commit_line(alloc, word, view.running.as_slice())
+        commit_line(alloc, word, running)
     }
 }
 
-/// The line that the word makes in a cluster of four nodes that is seen so. It is in its range, so it has one text.
-#[tactic(auto, unfolding(crate::specs::Soak::soak_line), using(crate::proofs::Ranges::soak_in_range))]
-pub fn soak_line(alloc: Global, word: u32, view: &SoakView) -> Result<ScenarioLine, NoMemory>
-    requires { IsView view.now }
-    ensures exact { IfOk result (λ line. line ≡ soak_line word view.now) }
+/// The line that the word makes in a cluster of four nodes, where so many messages were sent and these nodes run. It is in
+/// its range, so it has one text.
+#[tactic(auto, unfolding(crate::specs::Soak::soak_line))]
+pub fn soak_line(
+    alloc: Global,
+    word: u32,
+    sent: u64,
+    running: &[bool],
+) -> Result<ScenarioLine, NoMemory>
+    requires { IsView (record { sent = sent; running = running.now }) }
+    ensures exact { IfOk result (λ line. line ≡ soak_line word (record { sent = sent; running = running.now })) }
     ensures in_range { IfOk result IsInRange }
 {
-    line_of_kind(alloc, word, view, kind_in(word))
+    line_of_kind(alloc, word, sent, running, kind_in(word))
 }

@@ -4,11 +4,10 @@ ghost use Rattle.ct_call.specs.Shown.{rules_of};
 ghost use Rattle.ct_rules_cluster.specs.Faults.{is_allowed};
 ghost use Rattle.ct_rules_cluster.specs.Steps.{applied};
 ghost use Rattle.ct_lines.specs.Spelled.{IsCommand, IsInRange};
-ghost use Rattle.ct_soak.specs.Soak.{IsView};
 ghost use Rattle.ct_soak.specs.Counts.{IsCounted, calls_after, is_taken, last_sent, last_ticket, sent_by, ticket_by};
-ghost use Rattle.ct_soak.specs.Soaking.{Soaked, commanded, counts_text, first, line_took, settled, soak_config, soak_text, took, view_of, word_took};
+ghost use Rattle.ct_soak.specs.Soaking.{Soaked, commanded, counts_text, first, line_took, settled, soak_config, soak_text, took, word_took};
 
-use crate::soak::{SoakView, soak_line};
+use crate::soak::soak_line;
 use ct_call::table::CallTable;
 use ct_lines::line::{Command, ScenarioLine};
 use ct_play::named::{command_step, named_step, number_in_step};
@@ -16,7 +15,6 @@ use ct_rules_cluster::step::{Line, Step, StepFault};
 use ct_text::words::{push, push_number};
 use ct_values::config::Config;
 use ct_values::generated::generated_config;
-use ct_values::items::Items;
 use ct_values::memory::NoMemory;
 use ct_world::world::World;
 use rand_core::utils::NextWord;
@@ -213,26 +211,14 @@ impl Soaking {
         }
     }
 
-    /// What the next word's line may know of the cluster.
-    #[tactic(auto, using(crate::proofs::Counting::few_sent))]
-    fn view(&self, alloc: Global) -> Result<SoakView, NoMemory>
-        ensures seen { IfOk result (λ v. v ≡ view_of self.now.cluster) }
-        ensures whole { IfOk result IsView }
-    {
-        Ok(SoakView {
-            sent: self.sent,
-            running: Items::new(Vec::from_slice(alloc, self.world.running())?),
-        })
-    }
-
     /// What a word of the generator does.
+    #[tactic(auto, using(crate::proofs::Counting::few_sent))]
     fn word(&mut self, alloc: Global, table: &CallTable, word: u32) -> Result<(), NoMemory>
         requires room { self.old.skipped + 1 < 2 ^ 64 }
         ensures took { OnOk result (self.new ≡ word_took (rules_of table.now) word self.old) }
         ensures room { OnOk result (self.new.skipped ≤ self.old.skipped + 1) }
     {
-        let view = self.view(alloc)?;
-        let line = soak_line(alloc, word, &view)?;
+        let line = soak_line(alloc, word, self.sent, self.world.running())?;
         self.line(alloc, table, line)
     }
 
