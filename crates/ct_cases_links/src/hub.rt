@@ -250,6 +250,22 @@ fn hold<L: RecLock>(lock: &mut L, node: u32) -> bool {
     }
 }
 
+// What the thread at a desk does: the first begins with a message, and each takes the lock and echoes.
+fn work<R: Wait>(rt: &R, desk: Desk<'_, '_, '_, R>) -> Option<u64> {
+    let Desk {
+        mut link,
+        mut seat,
+        node,
+    } = desk;
+    if node == 0 && link.send(message(0, 1, 5)).is_err() {
+        return None;
+    }
+    if !hold(&mut seat, node) {
+        return None;
+    }
+    echo(rt, &mut link)
+}
+
 // Two threads, of which the first begins with a message.
 fn play<R: Threads + Wait + Sync>(rt: &R, alloc: Global) -> Result<Vec<Option<u64>>, NoMemory> {
     let hub = Hub::new(rt, alloc, 2)?;
@@ -261,24 +277,7 @@ fn play<R: Threads + Wait + Sync>(rt: &R, alloc: Global) -> Result<Vec<Option<u6
         let seat = pages.seat();
         desks.push(Desk { link, seat, node })?;
     }
-    let counts = thread::map_vec(
-        rt,
-        desks,
-        &|desk| {
-            let Desk {
-                mut link,
-                mut seat,
-                node,
-            } = desk;
-            if node == 0 && link.send(message(0, 1, 5)).is_err() {
-                return None;
-            }
-            if !hold(&mut seat, node) {
-                return None;
-            }
-            echo(rt, &mut link)
-        },
-    )?;
+    let counts = thread::map_vec(rt, desks, &|desk| work(rt, desk))?;
     Ok(counts)
 }
 

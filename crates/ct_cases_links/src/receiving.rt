@@ -1,4 +1,5 @@
 //! What pieces give, call by call, with ample memory.
+use ct_frame::frame::Frame;
 use ct_wire_link::readers::Readers;
 use std::alloc::{AllocError, Global};
 use std::test::Fail;
@@ -52,55 +53,90 @@ fn bytes_of(alloc: Global, which: Bytes) -> Result<Vec<u8>, AllocError> {
 /// A piece of a sender to a node, and what it gives: so many frames, and where a fault stands behind them.
 type Row = (u32, u32, Bytes, usize, Option<u64>);
 
-#[test]
-fn pieces_give_frames(rt: HostRuntime) -> Result<(), Fail> {
-    let alloc = rt.alloc();
-    let runs: [[Row; 3]; 5] = [
-        // Two frames in one piece, and then one.
-        [
-            (0, 1, Bytes::CallTwice, 2, None),
-            (0, 1, Bytes::Nothing, 0, None),
-            (0, 1, Bytes::Call, 1, None),
-        ],
-        // A frame in two pieces, with bytes of another sender between them.
-        [
-            (0, 1, Bytes::Front, 0, None),
-            (0, 2, Bytes::Front, 0, None),
-            (0, 1, Bytes::Behind, 1, None),
-        ],
-        // A fault behind a frame comes again. Other senders are read on.
-        [
-            (0, 1, Bytes::CallThenWrong, 1, Some(4)),
-            (0, 1, Bytes::Call, 0, Some(4)),
-            (0, 3, Bytes::Wrong, 0, Some(4)),
-        ],
-        // Another sender is named.
-        [
-            (0, 2, Bytes::Call, 0, Some(28)),
-            (0, 1, Bytes::Call, 1, None),
-            (0, 2, Bytes::Call, 0, Some(28)),
-        ],
-        // Another receiver is named, and then both.
-        [
-            (3, 1, Bytes::Call, 0, Some(24)),
-            (3, 2, Bytes::CallTwice, 0, Some(24)),
-            (3, 1, Bytes::Nothing, 0, Some(24)),
-        ],
-    ];
-    for rows in runs {
-        let mut readers = Readers::new(alloc);
-        for (me, sender, which, count, broken) in rows {
-            let bytes = bytes_of(alloc, which)?;
-            let arrived = readers.take(alloc, me, sender, bytes.as_slice())?;
-            assert_eq!(rt; arrived.frames.len(), count);
-            assert_eq!(rt; arrived.broken, broken);
-            for frame in &arrived.frames {
-                assert_eq!(rt; frame.sender, 1);
-                assert_eq!(rt; frame.receiver, 0);
-                assert_eq!(rt; frame.generation, 1);
-            }
+/// Is each of them from node 1 to node 0, of generation 1?
+fn are_calls(frames: &[Frame]) -> bool {
+    let mut same = true;
+    for frame in frames {
+        same = same && frame.sender == 1 && frame.receiver == 0 && frame.generation == 1;
+    }
+    same
+}
+
+/// Does the piece give what it is to give?
+fn gives(alloc: Global, readers: &mut Readers, row: Row) -> Result<bool, Fail> {
+    let (me, sender, which, count, broken) = row;
+    let bytes = bytes_of(alloc, which)?;
+    let arrived = readers.take(alloc, me, sender, bytes.as_slice())?;
+    let same = arrived.frames.len() == count && arrived.broken == broken;
+    Ok(same && are_calls(arrived.frames.as_slice()))
+}
+
+/// Does each piece give what it is to give, one after the other?
+fn all_give(alloc: Global, rows: [Row; 3]) -> Result<bool, Fail> {
+    let mut readers = Readers::new(alloc);
+    for row in rows {
+        if !gives(alloc, &mut readers, row)? {
+            return Ok(false);
         }
     }
+    Ok(true)
+}
+
+#[test]
+fn two_frames_come_in_one_piece(rt: HostRuntime) -> Result<(), Fail> {
+    let rows: [Row; 3] = [
+        (0, 1, Bytes::CallTwice, 2, None),
+        (0, 1, Bytes::Nothing, 0, None),
+        (0, 1, Bytes::Call, 1, None),
+    ];
+    assert!(rt; all_give(rt.alloc(), rows)?);
+    Ok(())
+}
+
+/// Bytes of another sender come between the pieces.
+#[test]
+fn a_frame_comes_in_two_pieces(rt: HostRuntime) -> Result<(), Fail> {
+    let rows: [Row; 3] = [
+        (0, 1, Bytes::Front, 0, None),
+        (0, 2, Bytes::Front, 0, None),
+        (0, 1, Bytes::Behind, 1, None),
+    ];
+    assert!(rt; all_give(rt.alloc(), rows)?);
+    Ok(())
+}
+
+/// Other senders are read on.
+#[test]
+fn a_fault_behind_a_frame_comes_again(rt: HostRuntime) -> Result<(), Fail> {
+    let rows: [Row; 3] = [
+        (0, 1, Bytes::CallThenWrong, 1, Some(4)),
+        (0, 1, Bytes::Call, 0, Some(4)),
+        (0, 3, Bytes::Wrong, 0, Some(4)),
+    ];
+    assert!(rt; all_give(rt.alloc(), rows)?);
+    Ok(())
+}
+
+#[test]
+fn another_sender_is_named(rt: HostRuntime) -> Result<(), Fail> {
+    let rows: [Row; 3] = [
+        (0, 2, Bytes::Call, 0, Some(28)),
+        (0, 1, Bytes::Call, 1, None),
+        (0, 2, Bytes::Call, 0, Some(28)),
+    ];
+    assert!(rt; all_give(rt.alloc(), rows)?);
+    Ok(())
+}
+
+/// Then both are named.
+#[test]
+fn another_receiver_is_named(rt: HostRuntime) -> Result<(), Fail> {
+    let rows: [Row; 3] = [
+        (3, 1, Bytes::Call, 0, Some(24)),
+        (3, 2, Bytes::CallTwice, 0, Some(24)),
+        (3, 1, Bytes::Nothing, 0, Some(24)),
+    ];
+    assert!(rt; all_give(rt.alloc(), rows)?);
     Ok(())
 }
 

@@ -6,6 +6,7 @@ ghost use Rattle.ct_wire_link.specs.Sending.{is_sendable};
 use ct_frame::event::{Note, Out};
 use ct_frame::fields::well_formed;
 use ct_frame::frame::{CallKind, Frame, Msg, TableRow};
+use ct_outside::link::Piece;
 use ct_outside::memory_link::MemLink;
 use ct_values::boxed::BoxedItems;
 use ct_values::client::Answer;
@@ -32,30 +33,49 @@ fn call(alloc: Global, receiver: u32) -> Result<Frame, Fail> {
     })
 }
 
-/// A frame of node 1 with 70 rows of 1,020 bytes, 71,468 in all.
-fn reply(alloc: Global, receiver: u32) -> Result<Frame, Fail> {
+fn a_row(alloc: Global, number: u8, text: &[u8]) -> Result<TableRow, Fail> {
+    let key = Key::new(alloc, &[number])?;
+    let value = Value::new(alloc, text)?;
+    Ok(TableRow {
+        db: 0,
+        key,
+        rsn: 1,
+        value,
+        master: None,
+    })
+}
+
+/// 70 rows of 1,020 bytes.
+fn rows(alloc: Global) -> Result<Items<TableRow>, Fail> {
     let text = vec![in alloc; 0x78u8; 1000]?;
     let mut table = Vec::new(alloc);
     for number in 0..70u8 {
-        table.push(TableRow {
-            db: 0,
-            key: Key::new(alloc, &[number])?,
-            rsn: 1,
-            value: Value::new(alloc, text.as_slice())?,
-            master: None,
-        })?;
+        table.push(a_row(alloc, number, text.as_slice())?)?;
     }
+    Ok(Items::new(table))
+}
+
+fn a_reply(alloc: Global) -> Result<Msg, Fail> {
+    let table = BoxedItems::new(rows(alloc)?)?;
+    let ptables = BoxedItems::new(Items::empty(alloc))?;
+    let addresses = BoxedItems::new(Items::empty(alloc))?;
+    Ok(Msg::PullReply {
+        vbase: 1,
+        pbase: 1,
+        table,
+        ptables,
+        addresses,
+    })
+}
+
+/// A frame of node 1 with 70 rows of 1,020 bytes, 71,468 in all.
+fn reply(alloc: Global, receiver: u32) -> Result<Frame, Fail> {
+    let msg = a_reply(alloc)?;
     Ok(Frame {
         generation: 1,
         sender: 1,
         receiver,
-        msg: Msg::PullReply {
-            vbase: 1,
-            pbase: 1,
-            table: BoxedItems::new(Items::new(table))?,
-            ptables: BoxedItems::new(Items::empty(alloc))?,
-            addresses: BoxedItems::new(Items::empty(alloc))?,
-        },
+        msg,
     })
 }
 
@@ -81,41 +101,86 @@ const CALL: [u8; 47] = [
     0, 0, 0, 0, 1, 0, 0, 0, 0, 0, 0, 0, 1, 0, 0, 0, 1, 1, 0x62, 0,
 ];
 
-#[test]
-fn frames_go_out_in_pieces(rt: HostRuntime) -> Result<(), Fail> {
-    let alloc = rt.alloc();
+fn add_call(alloc: Global, outs: &mut Vec<Out>, receiver: u32) -> Result<(), Fail> {
+    outs.push(Out::Send(call(alloc, receiver)?))?;
+    Ok(())
+}
+
+fn add_reply(alloc: Global, outs: &mut Vec<Out>, receiver: u32) -> Result<(), Fail> {
+    outs.push(Out::Send(reply(alloc, receiver)?))?;
+    Ok(())
+}
+
+/// What node 1 does: it answers, calls node 0, notes, replies to node 2, and calls node 3.
+fn all_outs(alloc: Global) -> Result<Vec<Out>, Fail> {
     let mut outs = Vec::new(alloc);
     outs.push(Out::Answer {
         call: 1,
         answer: Answer::Unlocked,
     })?;
-    outs.push(Out::Send(call(alloc, 0)?))?;
+    add_call(alloc, &mut outs, 0)?;
     outs.push(Out::Note(Note::Thawed(1)))?;
-    outs.push(Out::Send(reply(alloc, 2)?))?;
-    outs.push(Out::Send(call(alloc, 3)?))?;
+    add_reply(alloc, &mut outs, 2)?;
+    add_call(alloc, &mut outs, 3)?;
+    Ok(outs)
+}
+
+/// Are the frames sent with this answer?
+fn are_sent(alloc: Global, link: &mut MemLink, outs: &[Out], want: Result<(), SendFault>) -> bool {
+    are_sendable(outs) && send_all(alloc, link, outs) == want
+}
+
+/// Are they the pieces of the frames, of which the last may be missing?
+fn are_pieces(sent: &[Piece]) -> bool {
     let pieces = [(0, 47), (2, 65_536), (2, 5_932), (3, 47)];
-    let table: [(&[u64], Result<(), SendFault>, usize); 6] = [
-        (&[], Ok(()), 4),
-        (&[1], Err(SendFault::Link), 0),
-        (&[2], Err(SendFault::Link), 1),
-        (&[3, 4], Err(SendFault::Link), 2),
-        (&[4], Err(SendFault::Link), 3),
-        (&[5], Ok(()), 4),
-    ];
-    for (fail_at, want, count) in table {
-        let fail_at = Vec::from_slice(alloc, fail_at)?;
-        let mut link = MemLink::new(alloc, Vec::new(alloc), fail_at);
-        let ready = are_sendable(outs.as_slice());
-        assert!(rt; ready);
-        assert_eq!(rt; send_all(alloc, &mut link, outs.as_slice()), want);
-        assert_eq!(rt; link.sent().len(), count);
-        for (piece, (node, size)) in link.sent().iter().zip(pieces) {
-            assert_eq!(rt; piece.node, node);
-            assert_eq!(rt; piece.bytes.len(), size);
-        }
-        if let Some(first) = link.sent().first() {
-            assert_eq!(rt; first.bytes.as_slice(), CALL.as_slice());
-        }
+    let mut same = true;
+    for (piece, (node, size)) in sent.iter().zip(pieces) {
+        same = same && piece.node == node && piece.bytes.len() == size;
     }
+    same
+}
+
+/// Is the first piece the call, where there is one?
+fn begins_with_call(sent: &[Piece]) -> bool {
+    match sent.first() {
+        Some(first) => first.bytes.as_slice() == CALL.as_slice(),
+        None => true,
+    }
+}
+
+fn has_sent(link: &MemLink, count: usize) -> bool {
+    let sent = link.sent();
+    sent.len() == count && are_pieces(sent) && begins_with_call(sent)
+}
+
+/// Is this answered, and are so many pieces sent, where these calls of the link fail?
+fn sends_so(
+    alloc: Global,
+    fail_at: &[u64],
+    want: Result<(), SendFault>,
+    count: usize,
+) -> Result<bool, Fail> {
+    let outs = all_outs(alloc)?;
+    let fail_at = Vec::from_slice(alloc, fail_at)?;
+    let mut link = MemLink::new(alloc, Vec::new(alloc), fail_at);
+    Ok(are_sent(alloc, &mut link, outs.as_slice(), want) && has_sent(&link, count))
+}
+
+#[test]
+fn frames_go_out_in_pieces(rt: HostRuntime) -> Result<(), Fail> {
+    let alloc = rt.alloc();
+    assert!(rt; sends_so(alloc, &[], Ok(()), 4)?);
+    assert!(rt; sends_so(alloc, &[5], Ok(()), 4)?);
+    Ok(())
+}
+
+#[test]
+fn a_link_that_fails_ends_it(rt: HostRuntime) -> Result<(), Fail> {
+    let alloc = rt.alloc();
+    let failed = Err(SendFault::Link);
+    assert!(rt; sends_so(alloc, &[1], failed, 0)?);
+    assert!(rt; sends_so(alloc, &[2], failed, 1)?);
+    assert!(rt; sends_so(alloc, &[3, 4], failed, 2)?);
+    assert!(rt; sends_so(alloc, &[4], failed, 3)?);
     Ok(())
 }

@@ -130,30 +130,46 @@ fn pieces_joined_are_what_was_sent(rt: HostRuntime) -> Result<(), Fail> {
     Ok(())
 }
 
-#[test]
-fn the_end_comes_once_all_have_ended(rt: HostRuntime) -> Result<(), Fail> {
-    let alloc = rt.alloc();
-    let (mut link, mut others) = linked(&rt, alloc, &[2, 1])?;
-    assert!(rt; link.send(0, b"own").is_ok());
+// Is this the first answer that is not that nothing is there yet?
+fn answers_so<L: Link>(link: &mut L, want: Heard<'static>) -> bool {
+    let answer = answered(link);
+    heard_as(&answer) == want
+}
+
+// Is nothing there?
+fn hears_nothing<L: Link>(link: &mut L, may_wait: bool) -> bool {
+    let answer = link.receive(may_wait);
+    heard_as(&answer) == Heard::Nothing
+}
+
+// Is it answered that nothing will come any more, and only to a look that may wait?
+fn has_ended<L: Link>(link: &mut L) -> bool {
+    answers_so(link, Heard::Closed) && hears_nothing(link, false)
+}
+
+// The last of the streams brings a word, and ends.
+fn end_last(others: &mut Vec<TcpStream>) -> Result<(), Fail> {
     let Some(mut last) = others.pop() else {
         return Err(Fail::new("no stream to node 1"));
     };
     last.write_all(b"last")?;
     drop(last);
-    for want in [Heard::Piece(0, b"own"), Heard::Piece(1, b"last")] {
-        let answer = answered(&mut link);
-        assert_eq!(rt; heard_as(&answer), want);
-    }
+    Ok(())
+}
+
+#[test]
+fn the_end_comes_once_all_have_ended(rt: HostRuntime) -> Result<(), Fail> {
+    let (mut link, mut others) = linked(&rt, rt.alloc(), &[2, 1])?;
+    assert!(rt; link.send(0, b"own").is_ok());
+    end_last(&mut others)?;
+    assert!(rt; answers_so(&mut link, Heard::Piece(0, b"own")));
+    assert!(rt; answers_so(&mut link, Heard::Piece(1, b"last")));
     for number in 0..3u32 {
-        let answer = link.receive(true);
-        assert_eq!(rt; heard_as(&answer), Heard::Nothing, "look {number}");
+        assert!(rt; hears_nothing(&mut link, true), "look {number}");
     }
     drop(others);
-    for want in [Heard::Closed, Heard::Closed] {
-        let answer = answered(&mut link);
-        assert_eq!(rt; heard_as(&answer), want);
-        assert_eq!(rt; heard_as(&link.receive(false)), Heard::Nothing);
-    }
+    assert!(rt; has_ended(&mut link));
+    assert!(rt; has_ended(&mut link));
     Ok(())
 }
 

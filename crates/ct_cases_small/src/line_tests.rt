@@ -8,6 +8,22 @@ use ct_values::config::Config;
 use std::alloc::Global;
 use std::test::Fail;
 
+/// Is the line refused at its place, and why?
+fn checked(
+    alloc: Global,
+    places: &mut Places,
+    line: &str,
+) -> Result<Option<LineKind>, LineKindFault> {
+    let item = parse_line(alloc, line.as_bytes())?;
+    let answer = places.check(&item);
+    drop(item);
+    match answer {
+        Ok(()) => Ok(None),
+        Err(LineKindFault::Kind(kind)) => Ok(Some(kind)),
+        Err(LineKindFault::NoMemory) => Err(LineKindFault::NoMemory),
+    }
+}
+
 /// The number of the first of these lines that is refused, from 1, and why.
 fn refused(
     alloc: Global,
@@ -15,14 +31,16 @@ fn refused(
     lines: &[&str],
 ) -> Result<Option<(usize, LineKind)>, Fail> {
     for (i, line) in lines.iter().enumerate() {
-        let item = parse_line(alloc, line.as_bytes())?;
-        match places.check(&item) {
-            Ok(()) => {}
-            Err(LineKindFault::Kind(kind)) => return Ok(Some((i + 1, kind))),
-            Err(LineKindFault::NoMemory) => return Err(LineKindFault::NoMemory.into()),
+        if let Some(kind) = checked(alloc, places, *line)? {
+            return Ok(Some((i + 1, kind)));
         }
     }
     Ok(None)
+}
+
+fn refused_of(alloc: Global, lines: &[&str]) -> Result<Option<(usize, LineKind)>, Fail> {
+    let mut places = Places::new(alloc);
+    refused(alloc, &mut places, lines)
 }
 
 #[test]
@@ -68,30 +86,35 @@ fn lines_in_their_places(rt: HostRuntime) -> Result<(), Fail> {
         (["nodes 2", "address ::1", "address 0.0.0.1"], None),
         (["nodes 2", "db u persistent", "read 0 t k"], None),
     ] {
-        assert!(rt; refused(alloc, &mut Places::new(alloc), &lines)? == why);
+        assert!(rt; refused_of(alloc, &lines)? == why);
     }
     Ok(())
+}
+
+fn is_read_and_printed(alloc: Global, line: &str, wanted: &ScenarioLine) -> Result<bool, Fail> {
+    let read = parse_line(alloc, line.as_bytes())?;
+    let same = read == *wanted;
+    drop(read);
+    Ok(same && print_line(alloc, wanted)?.as_slice() == line.as_bytes())
+}
+
+/// Is it the line of this?
+fn is_line(alloc: Global, line: &str, wanted: TraverseLine) -> Result<bool, Fail> {
+    let wanted = ScenarioLine::Traverse(wanted);
+    let same = is_read_and_printed(alloc, line, &wanted);
+    drop(wanted);
+    same
 }
 
 #[test]
 fn lines_of_traverses(rt: HostRuntime) -> Result<(), Fail> {
     let alloc = rt.alloc();
-    for (line, wanted) in [
-        ("walk 1", ScenarioLine::Traverse(TraverseLine::Walk(1))),
-        (
-            "walk 100000",
-            ScenarioLine::Traverse(TraverseLine::Walk(100000)),
-        ),
-        ("carry 1", ScenarioLine::Traverse(TraverseLine::Carry(1))),
-        (
-            "lose 4611686018427387903",
-            ScenarioLine::Traverse(TraverseLine::Lose(4611686018427387903)),
-        ),
-        ("again 7", ScenarioLine::Traverse(TraverseLine::Again(7))),
-    ] {
-        assert!(rt; parse_line(alloc, line.as_bytes())? == wanted);
-        assert!(rt; print_line(alloc, &wanted)?.as_slice() == line.as_bytes());
-    }
+    assert!(rt; is_line(alloc, "walk 1", TraverseLine::Walk(1))?);
+    assert!(rt; is_line(alloc, "walk 100000", TraverseLine::Walk(100000))?);
+    assert!(rt; is_line(alloc, "carry 1", TraverseLine::Carry(1))?);
+    let last = TraverseLine::Lose(4611686018427387903);
+    assert!(rt; is_line(alloc, "lose 4611686018427387903", last)?);
+    assert!(rt; is_line(alloc, "again 7", TraverseLine::Again(7))?);
     Ok(())
 }
 
@@ -133,10 +156,19 @@ fn config(alloc: Global, places: &Places) -> Result<Config, Fail> {
     Ok(places.config(alloc)?)
 }
 
-#[test]
-fn the_configuration(rt: HostRuntime) -> Result<(), Fail> {
-    let alloc = rt.alloc();
-    let mut places = Places::new(alloc);
+fn has_three_dbs(config: &Config) -> bool {
+    let dbs = config.dbs.as_slice();
+    dbs.len() == 3
+        && dbs[0].name.bytes() == b"g_lock".as_slice()
+        && dbs[1].name.bytes() == b"t".as_slice()
+        && dbs[2].name.bytes() == b"b".as_slice()
+}
+
+fn has_two_addresses(config: &Config) -> bool {
+    config.nodes == 3 && config.addresses.as_slice() == [Address::V4(1), Address::V4(2)].as_slice()
+}
+
+fn declare(alloc: Global, places: &mut Places) -> Result<bool, Fail> {
     let lines = [
         "nodes 3",
         "db t volatile",
@@ -144,37 +176,76 @@ fn the_configuration(rt: HostRuntime) -> Result<(), Fail> {
         "db b persistent",
         "address 0.0.0.1",
     ];
-    assert!(rt; refused(alloc, &mut places, &lines)? == None);
+    Ok(refused(alloc, places, &lines)? == None)
+}
+
+fn repeats_are_refused(alloc: Global, places: &mut Places) -> Result<bool, Fail> {
     for again in ["db t volatile", "address 0.0.0.2", "nodes 3"] {
-        assert!(rt; refused(alloc, &mut places, &[again])?.is_some());
+        if refused(alloc, places, &[again])?.is_none() {
+            return Ok(false);
+        }
     }
-    let config = config(alloc, &places)?;
-    assert!(rt; config.nodes == 3 && config.dbs.len() == 3);
-    for (decl, name) in config
-        .dbs
-        .as_slice()
-        .iter()
-        .zip([b"g_lock".as_slice(), b"t", b"b"])
-    {
-        assert!(rt; decl.name.bytes() == name);
-    }
-    assert!(rt; config.addresses.as_slice() == [Address::V4(1), Address::V4(2)].as_slice());
+    Ok(true)
+}
+
+fn declared(alloc: Global, places: &mut Places) -> Result<bool, Fail> {
+    Ok(declare(alloc, places)? && repeats_are_refused(alloc, places)?)
+}
+
+fn is_configured(alloc: Global, places: &Places) -> Result<bool, Fail> {
+    let config = config(alloc, places)?;
+    Ok(has_three_dbs(&config) && has_two_addresses(&config))
+}
+
+#[test]
+fn the_configuration(rt: HostRuntime) -> Result<(), Fail> {
+    let mut places = Places::new(rt.alloc());
+    assert!(rt; declared(rt.alloc(), &mut places)?);
+    assert!(rt; is_configured(rt.alloc(), &places)?);
     Ok(())
+}
+
+fn takes_db(alloc: Global, places: &mut Places, number: u32) -> Result<bool, Fail> {
+    let line = format!(in alloc; "db d{number} volatile")?;
+    Ok(refused(alloc, places, &[line.as_str()])? == None)
+}
+
+fn takes_address(alloc: Global, places: &mut Places, number: u32) -> Result<bool, Fail> {
+    let line = format!(in alloc; "address 0.0.0.{number}")?;
+    Ok(refused(alloc, places, &[line.as_str()])? == None)
+}
+
+fn takes_dbs(alloc: Global, places: &mut Places) -> Result<bool, Fail> {
+    for number in 0..15u32 {
+        if !takes_db(alloc, places, number)? {
+            return Ok(false);
+        }
+    }
+    Ok(true)
+}
+
+fn takes_addresses(alloc: Global, places: &mut Places) -> Result<bool, Fail> {
+    for number in 0..64u32 {
+        if !takes_address(alloc, places, number)? {
+            return Ok(false);
+        }
+    }
+    Ok(true)
+}
+
+fn is_filled(alloc: Global, places: &mut Places) -> Result<bool, Fail> {
+    Ok(
+        refused(alloc, places, &["nodes 1"])? == None
+            && takes_dbs(alloc, places)?
+            && takes_addresses(alloc, places)?,
+    )
 }
 
 #[test]
 fn as_many_as_there_may_be(rt: HostRuntime) -> Result<(), Fail> {
     let alloc = rt.alloc();
     let mut places = Places::new(alloc);
-    assert!(rt; refused(alloc, &mut places, &["nodes 1"])? == None);
-    for i in 0..15u32 {
-        let line = format!(in alloc; "db d{i} volatile")?;
-        assert!(rt; refused(alloc, &mut places, &[line.as_str()])? == None);
-    }
-    for i in 0..64u32 {
-        let line = format!(in alloc; "address 0.0.0.{i}")?;
-        assert!(rt; refused(alloc, &mut places, &[line.as_str()])? == None);
-    }
+    assert!(rt; is_filled(alloc, &mut places)?);
     for (line, why) in [
         ("db d15 volatile", LineKind::Limit),
         ("db d14 volatile", LineKind::Repeat),

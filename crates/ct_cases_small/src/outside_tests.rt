@@ -9,6 +9,7 @@ use ct_outside::memory_link::MemLink;
 use ct_outside::memory_lock::MemLock;
 use ct_outside::sink::{Sink, write_all};
 use ct_outside::source::Source;
+use std::alloc::Global;
 use std::io;
 use std::io::{Read, Write};
 use std::test::Fail;
@@ -64,6 +65,30 @@ impl Write for Narrow {
 // None stands for a failure.
 type Answers = [Option<&'static [u8]>; 4];
 
+fn reads_so(source: &mut MemSource, size: usize, want: Option<&[u8]>) -> bool {
+    let mut buffer = [0; 9];
+    let room = size.min(buffer.len());
+    match source.read(&mut buffer[..room]) {
+        Ok(count) => want == Some(&buffer[..count]),
+        Err(Failed) => want.is_none(),
+    }
+}
+
+fn all_read(source: &mut MemSource, size: usize, answers: Answers) -> bool {
+    for want in answers {
+        if !reads_so(source, size, want) {
+            return false;
+        }
+    }
+    true
+}
+
+fn is_source(alloc: Global, fail_at: &[u64], size: usize, answers: Answers) -> Result<bool, Fail> {
+    let bytes = Vec::from_slice(alloc, b"abcdef")?;
+    let mut source = MemSource::new(bytes, Vec::from_slice(alloc, fail_at)?);
+    Ok(all_read(&mut source, size, answers))
+}
+
 #[test]
 fn a_source_in_memory_answers(rt: HostRuntime) -> Result<(), Fail> {
     let cases: [(&[u64], usize, Answers); 6] = [
@@ -75,18 +100,25 @@ fn a_source_in_memory_answers(rt: HostRuntime) -> Result<(), Fail> {
         (&[4, 2], 3, [Some(b"abc"), None, Some(b"def"), None]),
     ];
     for (fail_at, size, answers) in cases {
-        let bytes = Vec::from_slice(rt.alloc(), b"abcdef")?;
-        let mut source = MemSource::new(bytes, Vec::from_slice(rt.alloc(), fail_at)?);
-        for want in answers {
-            let mut buffer = [0; 9];
-            let room = size.min(buffer.len());
-            match source.read(&mut buffer[..room]) {
-                Ok(count) => assert_eq!(rt; Some(&buffer[..count]), want, "at {size}"),
-                Err(Failed) => assert_eq!(rt; None, want, "at {size}"),
-            }
-        }
+        assert!(rt; is_source(rt.alloc(), fail_at, size, answers)?, "at {size}");
     }
     Ok(())
+}
+
+fn all_taken(sink: &mut MemSink, answers: [Result<usize, SinkFault>; 3]) -> bool {
+    sink.write(b"ab") == answers[0]
+        && sink.write(b"") == answers[1]
+        && sink.write(b"cde") == answers[2]
+}
+
+fn is_sink(
+    alloc: Global,
+    fail_at: &[u64],
+    answers: [Result<usize, SinkFault>; 3],
+    held: &[u8],
+) -> Result<bool, Fail> {
+    let mut sink = MemSink::new(alloc, Vec::from_slice(alloc, fail_at)?);
+    Ok(all_taken(&mut sink, answers) && sink.held() == held)
 }
 
 #[test]
@@ -99,14 +131,26 @@ fn a_sink_in_memory_answers(rt: HostRuntime) -> Result<(), Fail> {
         (&[2, 1, 3], [failed, failed, failed], b""),
     ];
     for (fail_at, answers, held) in cases {
-        let mut sink = MemSink::new(rt.alloc(), Vec::from_slice(rt.alloc(), fail_at)?);
-        let pieces: [&[u8]; 3] = [b"ab", b"", b"cde"];
-        for (piece, want) in pieces.iter().zip(&answers) {
-            assert_eq!(rt; sink.write(piece), *want);
-        }
-        assert_eq!(rt; sink.held(), held);
+        assert!(rt; is_sink(rt.alloc(), fail_at, answers, held)?);
     }
     Ok(())
+}
+
+fn all_written(sink: &mut MemSink, second: Result<(), SinkFault>) -> bool {
+    write_all(sink, b"one ") == Ok(())
+        && write_all(sink, b"") == Ok(())
+        && write_all(sink, b"two ") == second
+        && write_all(sink, b"three") == Ok(())
+}
+
+fn is_written(
+    alloc: Global,
+    fail_at: &[u64],
+    second: Result<(), SinkFault>,
+    held: &[u8],
+) -> Result<bool, Fail> {
+    let mut sink = MemSink::new(alloc, Vec::from_slice(alloc, fail_at)?);
+    Ok(all_written(&mut sink, second) && sink.held() == held)
 }
 
 #[test]
@@ -116,14 +160,17 @@ fn all_is_written(rt: HostRuntime) -> Result<(), Fail> {
         (&[2], Err(SinkFault::Failed), b"one three"),
     ];
     for (fail_at, second, held) in cases {
-        let mut sink = MemSink::new(rt.alloc(), Vec::from_slice(rt.alloc(), fail_at)?);
-        assert_eq!(rt; write_all(&mut sink, b"one "), Ok(()));
-        assert_eq!(rt; write_all(&mut sink, b""), Ok(()));
-        assert_eq!(rt; write_all(&mut sink, b"two "), second);
-        assert_eq!(rt; write_all(&mut sink, b"three"), Ok(()));
-        assert_eq!(rt; sink.held(), held);
+        assert!(rt; is_written(rt.alloc(), fail_at, second, held)?);
     }
     Ok(())
+}
+
+fn reads_std_so(source: &mut StdSource<Slow>, want: Option<&[u8]>) -> bool {
+    let mut buffer = [0; 9];
+    match source.read(&mut buffer) {
+        Ok(count) => want == Some(&buffer[..count]),
+        Err(Failed) => want.is_none(),
+    }
 }
 
 #[test]
@@ -134,13 +181,17 @@ fn a_reader_of_std_answers(rt: HostRuntime) -> Result<(), Fail> {
     });
     let answers: [Option<&[u8]>; 4] = [Some(b"a"), None, Some(b"b"), Some(b"")];
     for want in answers {
-        let mut buffer = [0; 9];
-        match source.read(&mut buffer) {
-            Ok(count) => assert_eq!(rt; Some(&buffer[..count]), want),
-            Err(Failed) => assert_eq!(rt; None, want),
-        }
+        assert!(rt; reads_std_so(&mut source, want));
     }
     Ok(())
+}
+
+fn writes_so<K: Sink>(sink: &mut K) -> bool {
+    write_all(sink, b"abc") == Err(SinkFault::Failed)
+        && write_all(sink, b"de") == Ok(())
+        && write_all(sink, b"f") == Err(SinkFault::Failed)
+        && write_all(sink, b"") == Ok(())
+        && write_all(sink, b"ghi") == Ok(())
 }
 
 #[test]
@@ -150,17 +201,13 @@ fn a_writer_of_std_answers(rt: HostRuntime) {
         calls: 0,
     };
     let mut sink = StdSink::new(&mut narrow);
-    assert_eq!(rt; write_all(&mut sink, b"abc"), Err(SinkFault::Failed));
-    assert_eq!(rt; write_all(&mut sink, b"de"), Ok(()));
-    assert_eq!(rt; write_all(&mut sink, b"f"), Err(SinkFault::Failed));
-    assert_eq!(rt; write_all(&mut sink, b""), Ok(()));
-    assert_eq!(rt; write_all(&mut sink, b"ghi"), Ok(()));
+    assert!(rt; writes_so(&mut sink));
     drop(sink);
-    assert_eq!(rt; narrow.got.as_slice(), b"abdeghi".as_slice());
+    assert!(rt; narrow.got.as_slice() == b"abdeghi".as_slice());
 }
 
 // What a call of a link gives, or is to give.
-#[derive(Clone, Copy, Debug, PartialEq, Eq)]
+#[derive(Clone, Copy, PartialEq, Eq)]
 enum Heard<'a> {
     Piece(u32, &'a [u8]),
     Nothing,
@@ -180,7 +227,63 @@ fn heard_as(answer: &Result<Received, LinkFault>) -> Heard<'_> {
     }
 }
 
+fn sends_so(link: &mut MemLink, want: Heard<'static>) -> bool {
+    let got = match link.send(5, b"xyz") {
+        Ok(()) => Heard::Sent,
+        Err(LinkFault::Failed) => Heard::Failed,
+        Err(LinkFault::NoMemory) => Heard::NoMemory,
+    };
+    got == want
+}
+
+fn hears_so(link: &mut MemLink, may_wait: bool, want: Heard<'static>) -> bool {
+    let answer = link.receive(may_wait);
+    heard_as(&answer) == want
+}
+
 // Two sends, and then five looks, of which the third and the fifth may wait.
+fn calls_so(link: &mut MemLink, want: [Heard<'static>; 7]) -> bool {
+    sends_so(link, want[0])
+        && sends_so(link, want[1])
+        && hears_so(link, false, want[2])
+        && hears_so(link, false, want[3])
+        && hears_so(link, true, want[4])
+        && hears_so(link, false, want[5])
+        && hears_so(link, true, want[6])
+}
+
+fn has_sent(link: &MemLink, count: usize) -> bool {
+    let mut same = link.sent().len() == count;
+    for piece in link.sent() {
+        same = same && piece.node == 5 && piece.bytes.as_slice() == b"xyz".as_slice();
+    }
+    same
+}
+
+fn add_piece(alloc: Global, pieces: &mut Vec<Piece>, node: u32, bytes: &[u8]) -> Result<(), Fail> {
+    let bytes = Vec::from_slice(alloc, bytes)?;
+    pieces.push(Piece { node, bytes })?;
+    Ok(())
+}
+
+fn a_link(alloc: Global, fail_at: &[u64]) -> Result<MemLink, Fail> {
+    let mut waiting = Vec::new(alloc);
+    add_piece(alloc, &mut waiting, 7, b"ab")?;
+    add_piece(alloc, &mut waiting, 2, b"")?;
+    let fail_at = Vec::from_slice(alloc, fail_at)?;
+    Ok(MemLink::new(alloc, waiting, fail_at))
+}
+
+fn is_link(
+    alloc: Global,
+    fail_at: &[u64],
+    want: [Heard<'static>; 7],
+    sent: usize,
+) -> Result<bool, Fail> {
+    let mut link = a_link(alloc, fail_at)?;
+    Ok(calls_so(&mut link, want) && has_sent(&link, sent))
+}
+
 #[test]
 fn a_link_in_memory_answers(rt: HostRuntime) -> Result<(), Fail> {
     let first = Heard::Piece(7, b"ab");
@@ -219,59 +322,28 @@ fn a_link_in_memory_answers(rt: HostRuntime) -> Result<(), Fail> {
         ),
     ];
     for (fail_at, answers, sent) in cases {
-        let mut waiting = Vec::new(rt.alloc());
-        waiting.push(Piece {
-            node: 7,
-            bytes: Vec::from_slice(rt.alloc(), b"ab")?,
-        })?;
-        waiting.push(Piece {
-            node: 2,
-            bytes: Vec::new(rt.alloc()),
-        })?;
-        let fail_at = Vec::from_slice(rt.alloc(), fail_at)?;
-        let mut link = MemLink::new(rt.alloc(), waiting, fail_at);
-        for (number, want) in answers.iter().enumerate() {
-            if number < 2 {
-                let got = match link.send(5, b"xyz") {
-                    Ok(()) => Heard::Sent,
-                    Err(LinkFault::Failed) => Heard::Failed,
-                    Err(LinkFault::NoMemory) => Heard::NoMemory,
-                };
-                assert_eq!(rt; got, *want, "call {number}");
-            } else {
-                let answer = link.receive(number == 4 || number == 6);
-                assert_eq!(rt; heard_as(&answer), *want, "call {number}");
-            }
-        }
-        assert_eq!(rt; link.sent().len(), sent);
-        for piece in link.sent() {
-            assert_eq!(rt; piece.node, 5);
-            assert_eq!(rt; piece.bytes.as_slice(), b"xyz".as_slice());
-        }
+        assert!(rt; is_link(rt.alloc(), fail_at, answers, sent)?);
     }
     Ok(())
+}
+
+fn takes_so(lock: &mut MemLock) -> bool {
+    lock.take(0) == Ok(2)
+        && lock.take(1)
+            == Err(TakeFault::Held {
+                holder: 0,
+                ticket: 2,
+            })
+        && lock.take(0) == Ok(3)
 }
 
 #[test]
 fn a_lock_in_memory_answers(rt: HostRuntime) {
     let mut lock = MemLock::new();
-    assert_eq!(rt; lock.release(0), Err(ReleaseFault::NotHolder(None)));
-    let takes = [
-        (0, Ok(2)),
-        (
-            1,
-            Err(TakeFault::Held {
-                holder: 0,
-                ticket: 2,
-            }),
-        ),
-        (0, Ok(3)),
-    ];
-    for (node, want) in takes {
-        assert_eq!(rt; lock.take(node), want);
-    }
-    assert_eq!(rt; lock.release(1), Err(ReleaseFault::NotHolder(Some(0))));
-    assert_eq!(rt; lock.release(0), Ok(()));
-    assert_eq!(rt; lock.take(1), Ok(4));
+    assert!(rt; lock.release(0) == Err(ReleaseFault::NotHolder(None)));
+    assert!(rt; takes_so(&mut lock));
+    assert!(rt; lock.release(1) == Err(ReleaseFault::NotHolder(Some(0))));
+    assert!(rt; lock.release(0) == Ok(()));
+    assert!(rt; lock.take(1) == Ok(4));
     OpenGate.pass(1, 0);
 }

@@ -1,4 +1,7 @@
 //! A record at its location master, with ample memory.
+ghost use Rattle.std.specs.Prelude.{OnOk};
+ghost use Rattle.ct_law_rules.specs.Form.{IsInForm, MayCome};
+
 use ct_call::table::CallTable;
 use ct_frame::frame::{CallKind, Msg};
 use ct_frame::header::{Header, RecCopy};
@@ -7,7 +10,102 @@ use ct_values::client::{Answer, ClientOp};
 use ct_values::items::Items;
 use ct_values::key::Key;
 use ct_values::value::Value;
+use std::alloc::Global;
 use std::test::Fail;
+
+/// One step. The event is let go.
+fn take(
+    alloc: Global,
+    state: &mut RecState,
+    at: &Place,
+    table: &CallTable,
+    event: MoveEvent,
+    next: &mut u64,
+    acts: &mut Items<Act>,
+) -> Result<(), Fail>
+    requires in_form { IsInForm at.now next.old state.old }
+    requires may_come { MayCome state.old event }
+    ensures { OnOk result (IsInForm at.now next.new state.new) }
+{
+    let answer = step(alloc, state, at, table, &event, next, acts);
+    drop(event);
+    Ok(answer?)
+}
+
+/// Is this done? What is wanted is let go.
+fn is_act(act: &Act, wanted: Act) -> bool {
+    let same = *act == wanted;
+    drop(wanted);
+    same
+}
+
+fn is_locked(alloc: Global, act: &Act) -> bool {
+    let answer = Answer::Locked(Value::empty(alloc));
+    is_act(act, Act::Answer { call: 7, answer })
+}
+
+fn is_recall(act: &Act, key: Key) -> bool {
+    let msg = Msg::Recall {
+        db: 1,
+        key,
+        least: 4,
+        node: 1,
+        request: 3,
+        kind: CallKind::Lock,
+    };
+    is_act(act, Act::Send { receiver: 0, msg })
+}
+
+fn are_acts(alloc: Global, acts: &[Act], key: Key) -> bool {
+    acts.len() == 2 && is_locked(alloc, &acts[0]) && is_recall(&acts[1], key)
+}
+
+fn has_copy(alloc: Global, state: &RecState) -> bool {
+    let header = Header {
+        rsn: 4,
+        dmaster: 0,
+        flags: 0,
+    };
+    let value = Value::empty(alloc);
+    state.copy == Some(RecCopy { header, value })
+}
+
+fn has_entry(alloc: Global, state: &RecState) -> bool {
+    let entry = Entry {
+        holder: 0,
+        least: 4,
+        request: 0,
+        value: Value::empty(alloc),
+    };
+    state.entry == Some(entry)
+}
+
+fn is_waiter(queue: &[Waiter]) -> bool {
+    let waiter = Waiter {
+        node: 1,
+        request: 3,
+        kind: CallKind::Lock,
+    };
+    queue.len() == 1 && queue[0] == waiter
+}
+
+fn has_waiter(state: &RecState) -> bool {
+    is_waiter(state.queue.as_slice()) && state.waiting.is_empty()
+}
+
+fn has_no_wish(state: &RecState) -> bool {
+    state.locked == Some(7) && state.wish.is_none() && state.vacuum.is_none()
+}
+
+fn is_copied(alloc: Global, state: &RecState) -> Result<bool, Fail> {
+    let copy = state.copy()?;
+    let same = has_copy(alloc, &copy)
+        && has_entry(alloc, &copy)
+        && has_waiter(&copy)
+        && has_no_wish(&copy);
+    drop(copy);
+    Ok(same)
+}
 
 #[test]
 #[tactic(auto, unfolding(ct_law_rules::specs::Form::is_of_record, ct_values::specs::Client::wants_record, ct_frame::specs::Fields::is_message))]
@@ -31,7 +129,7 @@ fn a_record_is_locked_and_called_for(rt: HostRuntime) -> Result<(), Fail> {
         key: key.copy()?,
     };
     let lock = MoveEvent::Want { call: 7, op };
-    step(alloc, &mut state, &at, &table, &lock, &mut next, &mut acts)?;
+    take(alloc, &mut state, &at, &table, lock, &mut next, &mut acts)?;
     let call = MoveEvent::Arrive {
         sender: 1,
         msg: Msg::Call {
@@ -41,46 +139,9 @@ fn a_record_is_locked_and_called_for(rt: HostRuntime) -> Result<(), Fail> {
             kind: CallKind::Lock,
         },
     };
-    step(alloc, &mut state, &at, &table, &call, &mut next, &mut acts)?;
-    let wanted = [
-        Act::Answer {
-            call: 7,
-            answer: Answer::Locked(Value::empty(alloc)),
-        },
-        Act::Send {
-            receiver: 0,
-            msg: Msg::Recall {
-                db: 1,
-                key,
-                least: 4,
-                node: 1,
-                request: 3,
-                kind: CallKind::Lock,
-            },
-        },
-    ];
-    assert!(rt; acts.as_slice() == wanted.as_slice());
-    let copy = state.copy()?;
-    let header = Header {
-        rsn: 4,
-        dmaster: 0,
-        flags: 0,
-    };
-    let value = Value::empty(alloc);
-    assert!(rt; copy.copy == Some(RecCopy { header, value }));
-    let entry = Entry {
-        holder: 0,
-        least: 4,
-        request: 0,
-        value: Value::empty(alloc),
-    };
-    assert!(rt; copy.entry == Some(entry) && copy.locked == Some(7) && copy.wish.is_none());
-    let waiter = Waiter {
-        node: 1,
-        request: 3,
-        kind: CallKind::Lock,
-    };
-    assert!(rt; copy.queue.as_slice() == [waiter].as_slice() && copy.waiting.is_empty());
-    assert!(rt; next == 1 && copy.vacuum.is_none());
+    take(alloc, &mut state, &at, &table, call, &mut next, &mut acts)?;
+    assert!(rt; are_acts(alloc, acts.as_slice(), key));
+    assert!(rt; is_copied(alloc, &state)?);
+    assert!(rt; next == 1);
     Ok(())
 }

@@ -88,26 +88,63 @@ fn out(node: u32, does: Does) -> Out {
     }
 }
 
-fn entry(alloc: Global, node: u32, comes: Comes, does: &[Does]) -> Result<JournalEntry, NoMemory> {
-    let mut outs = Vec::new(alloc);
+fn add_outs(outs: &mut Items<Out>, node: u32, does: &[Does]) -> Result<(), NoMemory> {
     for one in does {
         outs.push(out(node, *one))?;
     }
-    Ok(JournalEntry {
-        event: event(alloc, node, comes)?,
-        outs: Items::new(outs),
-    })
+    Ok(())
+}
+
+fn entry(alloc: Global, node: u32, comes: Comes, does: &[Does]) -> Result<JournalEntry, NoMemory> {
+    let mut outs = Items::empty(alloc);
+    add_outs(&mut outs, node, does)?;
+    let event = event(alloc, node, comes)?;
+    Ok(JournalEntry { event, outs })
+}
+
+fn add_entry(
+    alloc: Global,
+    entries: &mut Items<JournalEntry>,
+    node: u32,
+    comes: Comes,
+    does: &[Does],
+) -> Result<(), NoMemory> {
+    entries.push(entry(alloc, node, comes, does)?)?;
+    Ok(())
+}
+
+fn add_entries(
+    alloc: Global,
+    entries: &mut Items<JournalEntry>,
+    node: u32,
+    given: &[(Comes, &[Does])],
+) -> Result<(), NoMemory> {
+    for (comes, does) in given {
+        add_entry(alloc, entries, node, *comes, does)?;
+    }
+    Ok(())
 }
 
 fn journal(alloc: Global, node: u32, given: &[(Comes, &[Does])]) -> Result<Journal, NoMemory> {
-    let mut entries = Vec::new(alloc);
-    for (comes, does) in given {
-        entries.push(entry(alloc, node, *comes, does)?)?;
-    }
-    Ok(Journal {
-        node,
-        entries: Items::new(entries),
-    })
+    let mut entries = Items::empty(alloc);
+    add_entries(alloc, &mut entries, node, given)?;
+    Ok(Journal { node, entries })
+}
+
+fn add_journal(journals: &mut Vec<Journal>, journal: Journal) -> Result<(), NoMemory> {
+    journals.push(journal)?;
+    Ok(())
+}
+
+fn both(
+    alloc: Global,
+    first: &[(Comes, &[Does])],
+    second: &[(Comes, &[Does])],
+) -> Result<Vec<Journal>, NoMemory> {
+    let mut journals = Vec::new(alloc);
+    add_journal(&mut journals, journal(alloc, 0, first)?)?;
+    add_journal(&mut journals, journal(alloc, 1, second)?)?;
+    Ok(journals)
 }
 
 /// What is told of the journals of two nodes in this order.
@@ -118,11 +155,37 @@ fn told(
     order: &[u32],
 ) -> Result<Option<Lines>, Fail> {
     let config = config(alloc)?;
-    let mut journals = Vec::new(alloc);
-    journals.push(journal(alloc, 0, first)?)?;
-    journals.push(journal(alloc, 1, second)?)?;
+    let journals = both(alloc, first, second)?;
     Ok(lines_of(alloc, &config, journals.as_slice(), order)?)
 }
+
+/// Are these lines told, and so many messages?
+fn is_told(lines: Option<Lines>, text: &[u8], sent: u64) -> bool {
+    match lines {
+        Some(lines) => lines.text.as_slice() == text && lines.sent == sent,
+        None => false,
+    }
+}
+
+/// How many messages are told of, where all is told.
+fn sent_of(lines: Option<Lines>) -> Option<u64> {
+    match lines {
+        Some(lines) => Some(lines.sent),
+        None => None,
+    }
+}
+
+const TOLD: &[u8] = b"frame 1 0 1 1 pack p 5\n\
+    frame 2 1 0 1 pack p 6\n\
+    answer 2 refused no-such-db\n\
+    answer 1 committed 9\n\
+    ticket 2 1\n\
+    yielded 1\n\
+    ticket 3 0\n\
+    frame 3 0 1 1 pack p 7\n\
+    installed 0 3\n\
+    ticket 4 0\n\
+    answer 3 refused not-serving\n";
 
 #[test]
 fn lines_of_two_nodes(rt: HostRuntime) -> Result<(), Fail> {
@@ -138,27 +201,8 @@ fn lines_of_two_nodes(rt: HostRuntime) -> Result<(), Fail> {
         (Comes::Call(1), &[Does::Refuses(1, Why::NoSuchDb)]),
         (Comes::Round(2), &[]),
     ];
-    match told(rt.alloc(), &first, &second, &[0, 1, 1, 0, 1, 0, 0, 0])? {
-        Some(lines) => {
-            assert_eq!(rt;
-                lines.text.as_slice(),
-                b"frame 1 0 1 1 pack p 5\n\
-                frame 2 1 0 1 pack p 6\n\
-                answer 2 refused no-such-db\n\
-                answer 1 committed 9\n\
-                ticket 2 1\n\
-                yielded 1\n\
-                ticket 3 0\n\
-                frame 3 0 1 1 pack p 7\n\
-                installed 0 3\n\
-                ticket 4 0\n\
-                answer 3 refused not-serving\n"
-                    .as_slice()
-            );
-            assert_eq!(rt; lines.sent, 3);
-        }
-        None => assert!(rt; false),
-    }
+    let lines = told(rt.alloc(), &first, &second, &[0, 1, 1, 0, 1, 0, 0, 0])?;
+    assert!(rt; is_told(lines, TOLD, 3));
     Ok(())
 }
 
@@ -189,8 +233,7 @@ fn entries_that_do_not_tell_all(rt: HostRuntime) -> Result<(), Fail> {
         (&[retry], &[0], None),
     ];
     for (first, order, wanted) in cases {
-        let got = told(rt.alloc(), first, &[], order)?.map(|lines| lines.sent);
-        assert_eq!(rt; got, wanted);
+        assert!(rt; sent_of(told(rt.alloc(), first, &[], order)?) == wanted);
     }
     Ok(())
 }
