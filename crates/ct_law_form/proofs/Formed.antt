@@ -8,10 +8,7 @@ use Rattle.ct_values.specs.Key.{key_cmp}
 use Rattle.ct_values.specs.declared.config.Config.{Config}
 use Rattle.ct_frame.specs.Fields.{is_db}
 use Rattle.ct_call.specs.Rules.{Rules}
-use Rattle.std.specs.Cmp.{eq_by_cmp_equiv}
-use Rattle.std.specs.Cmp.Lexicographic.{nat_list_cmp_total}
-use Rattle.std.specs.Ordering.{is_eq}
-use Rattle.ct_store.proofs.Maps.{one_key, equal}
+use Rattle.ct_store.proofs.Maps.{one_key, itself, equal}
 use Rattle.ct_law_rules.specs.Form.{HasCounters, MayCome}
 use Rattle.ct_rules.specs.Moves.{move, unless_spent}
 use Rattle.ct_rules.specs.Parts.{Moving}
@@ -55,9 +52,6 @@ left_formed at rules e s next o db h may from is unspent =
     let b = what_is_sent at rules e s next o db h.form h.waits may from (ap unless_spent is ∙ whole o unspent) in
     let c = subst (λ (x : Moving). TracksAsHolder at x.state.copy x.state.tracking x.state.vacuum) is (holder_tracks at rules e (record { state = s; next = next; floor = at.floor; acts = []; spent = false }) h.tracks) in
     record { form = a.form; tracks = record { tracked_held = c.tracked_held; vacuum_untracked = c.vacuum_untracked }; waits = b.1 }
-
-itself : (k : List ℕ) → is_eq (key_cmp k k) ≡ true
-itself k = (eq_by_cmp_equiv nat_list_cmp_total).refl k
 
 -- or another key, or the same
 pub by_key : (P : List ℕ → Type 0) (k q : List ℕ) → P k → (q ≢ k → P q) → P q

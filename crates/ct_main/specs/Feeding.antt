@@ -53,9 +53,9 @@ Feeds rules (Err WriteFault) p bytes q before now = FedPart rules p bytes before
 Feeds rules (Err NoMemory) p bytes q before now = FedPart rules p bytes before now
 
 -- so many of the bytes were taken, one at least, and played
-abbrev pub Takes : Rules → Result ℕ Stop → Player → List ℕ → Player → Option (List ℕ) → Option (List ℕ) → Type 0
-Takes rules (Ok n) p bytes q before now = (0 < n) × (n ≤ length bytes) × Fed rules p q (take n bytes) before now
-Takes rules (Err e) p bytes q before now = Feeds rules (Err e) p bytes q before now
+abbrev pub FeedsFront : Rules → Result ℕ Stop → Player → List ℕ → Player → Option (List ℕ) → Option (List ℕ) → Type 0
+FeedsFront rules (Ok n) p bytes q before now = (0 < n) × (n ≤ length bytes) × Fed rules p q (take n bytes) before now
+FeedsFront rules (Err e) p bytes q before now = Feeds rules (Err e) p bytes q before now
 
 -- a write fault comes only where the count rose
 pub record HasStopCause {T : Type 0} (before now : ℕ) (result : Result T Stop) : Type 0 where

@@ -174,7 +174,7 @@ impl Player {
         requires some { 0 < length bytes.now }
         requires count { self.old.count + 1 < 2 ^ 64 }
         requires line { length self.old.line ≤ 65535 }
-        ensures takes { feeding.Takes (rules_of table.now) result self.old bytes.now self.new (K.held out.old) (K.held out.new) }
+        ensures takes { feeding.FeedsFront (rules_of table.now) result self.old bytes.now self.new (K.held out.old) (K.held out.new) }
         ensures cause { feeding.HasStopCause (K.faults out.old) (K.faults out.new) result }
         ensures count { self.new.count ≤ self.old.count + 1 }
         ensures line { length self.new.line ≤ 65535 }

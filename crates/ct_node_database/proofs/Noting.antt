@@ -3,22 +3,17 @@ use Rattle.std.proofs.Common.{◌≡◌, ◌≢◌, ℕ, Bool, true, false, cond
 use Rattle.std.proofs.lemmas.Bool.{cond_both}
 use Rattle.std.specs.BTreeMap.{is_at}
 use Rattle.std.specs.BTreeSet.{insert_key}
-use Rattle.std.specs.Cmp.{eq_by_cmp_equiv}
-use Rattle.std.specs.Cmp.Lexicographic.{nat_list_cmp_total}
 use Rattle.std.specs.Ordering.{is_eq, match_ordering}
 use Rattle.std.specs.declared.cmp.Ordering.{Ordering}
 use Rattle.std.specs.declared.cmp.Ordering.TheVariants.{Less, Equal, Greater}
 use Rattle.ct_values.specs.Key.{key_cmp}
 use Rattle.ct_store.specs.Map.{Pairs, Ascends, look, write, erase}
-use Rattle.ct_store.proofs.Maps.{one_key, equal, apart, written, not_written, erased, not_erased}
+use Rattle.ct_store.proofs.Maps.{one_key, itself, equal, apart, written, not_written, erased, not_erased}
 use Rattle.ct_tracking.specs.Candidates.{noted, forgotten}
 use Rattle.ct_rules.specs.State.{is_blank}
 use Rattle.ct_rules.specs.declared.state.RecState.{RecState}
 use Rattle.ct_rules_node.specs.Node.{or_nothing}
 use Rattle.ct_node_database.specs.Noted.{is_deleted, is_noted, is_worth, IsTidy}
-
-itself : (k : List ℕ) → is_eq (key_cmp k k) ≡ true
-itself k = (eq_by_cmp_equiv nat_list_cmp_total).refl k
 
 or_right : (a b : Bool) → b ≡ true → a || b ≡ true
 or_right true b e = refl
@@ -137,12 +132,6 @@ pub after_deleted : {E : Type 0} (keys more : List (List ℕ)) (m n : Pairs RecS
     more ≡ noted k keys → OnOk r (n ≡ write k s m) → OnErr r (n ≡ m) → is_blank s ≡ false → IsTidy keys m → IsTidy more n
 after_deleted keys more m n k s (Ok u) e ok err b h = subst (λ (x : List (List ℕ)). IsTidy x n) (sym e) (subst (λ (x : Pairs RecState). IsTidy (noted k keys) x) (sym ok) (tidy_noted keys m k s b h))
 after_deleted keys more m n k s (Err f) e ok err b h = subst (λ (x : List (List ℕ)). IsTidy x n) (sym e) (subst (λ (x : Pairs RecState). IsTidy (noted k keys) x) (sym err) (tidy_more keys m k h))
-
--- another state was put, or memory ran out for a key that was not there
-pub after_other : {E : Type 0} (keys more : List (List ℕ)) (m n : Pairs RecState) (k : List ℕ) (s : RecState) (r : Result (Unit {0}) E) →
-    more ≡ forgotten k keys → OnOk r (n ≡ write k s m) → OnErr r (n ≡ m) → OnErr r (look k m ≡ None) → is_blank s ≡ false → is_deleted s.copy ≡ false → IsTidy keys m → IsTidy more n
-after_other keys more m n k s (Ok u) e ok err none b d h = subst (λ (x : List (List ℕ)). IsTidy x n) (sym e) (subst (λ (x : Pairs RecState). IsTidy (forgotten k keys) x) (sym ok) (tidy_forgotten keys m k s b d h))
-after_other keys more m n k s (Err f) e ok err none b d h = subst (λ (x : List (List ℕ)). IsTidy x n) (sym e) (subst (λ (x : Pairs RecState). IsTidy (forgotten k keys) x) (sym err) (tidy_absent keys m k none h))
 
 -- a state was taken out
 pub after_erase : (keys more : List (List ℕ)) (m n : Pairs RecState) (k : List ℕ) → more ≡ forgotten k keys → n ≡ erase k m → Ascends m → IsTidy keys m → IsTidy more n

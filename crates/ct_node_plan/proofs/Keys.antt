@@ -1,7 +1,6 @@
 -- A map that ascends, pair by pair.
 use Rattle.std.proofs.Common.{◌≡◌, ◌≢◌, ℕ, Bool, true, false, cond, not, List, [], ◌∷◌, Option, Some, None, refl, sym, ◌∙◌, ap}
 use Rattle.std.specs.BTreeMap.{is_at}
-use Rattle.std.specs.Cmp.{eq_by_cmp_equiv}
 use Rattle.std.specs.Cmp.Lexicographic.{nat_list_cmp_total}
 use Rattle.std.specs.declared.cmp.Ordering.TheVariants.{Less}
 use Rattle.std.specs.List.{AllByRecursion}
@@ -13,9 +12,7 @@ use Rattle.ct_node_database.specs.Noted.{is_worth}
 use Rattle.ct_rules.specs.State.{is_blank}
 use Rattle.ct_rules.specs.declared.state.RecState.{RecState}
 use Rattle.ct_store.specs.Map.{Pairs, Ascends, look}
-
-itself : (k : List ℕ) → is_eq (key_cmp k k) ≡ true
-itself k = (eq_by_cmp_equiv nat_list_cmp_total).refl k
+use Rattle.ct_store.proofs.Maps.{itself}
 
 -- a key that another is below is not that one
 pub above_is_other : (k q : List ℕ) → key_cmp k q ≡ Less → q ≢ k

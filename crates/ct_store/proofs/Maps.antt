@@ -26,7 +26,7 @@ key_total = nat_list_cmp_total
 pub one_key : (a b : List ℕ) → key_cmp a b ≡ Equal → a ≡ b
 one_key a b h = slice_cmp-IsAntisymmetric nat_cmp-IsAntisymmetric a b h
 
-itself : (a : List ℕ) → is_eq (key_cmp a a) ≡ true
+pub itself : (a : List ℕ) → is_eq (key_cmp a a) ≡ true
 itself a = (eq_by_cmp_equiv key_total).refl a
 
 apart_by : (o : Ordering) → (o ≡ Equal → ⊥) → is_eq o ≡ false
