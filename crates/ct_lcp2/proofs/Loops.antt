@@ -12,8 +12,8 @@ use Rattle.ct_values.proofs.Words.{this_node_is}
 use Rattle.ct_frame.specs.declared.frame.Assigned.{Assigned}
 use Rattle.ct_lcp2.specs.Distance.{squared, sum_to, imbalance}
 use Rattle.ct_lcp2.specs.Best.{better, best_from, best}
-use Rattle.ct_lcp2.specs.Leavers.{AreLeavers, IsLeaver, address_at, blank}
-use Rattle.ct_lcp2.specs.Placing.{Ascend, held, places, places_at, others, may_fail_back, failbacks_of, failbacks, choice_before, source_before, source_of, sources, with_source, is_beaten, is_behind}
+use Rattle.ct_lcp2.specs.Leavers.{AreLeavers, IsLeaver, address_at, blank, is_beaten, is_behind}
+use Rattle.ct_lcp2.specs.Placing.{Ascend, held, places, places_at, others, may_fail_back, failbacks_of, failbacks, choice_before, source_before, source_of, sources, with_source}
 use Rattle.ct_lcp2.specs.declared.choice.Choice.{Choice}
 use Rattle.ct_lcp2.specs.declared.choice.Source.{Source}
 use Rattle.ct_lcp2.specs.declared.leaver.Leaver.{Leaver}

@@ -1,8 +1,8 @@
 -- Running sums before and after a move.
-use Rattle.std.proofs.Common.{◌≡◌, ℕ, suc, ◌+◌, ◌-◌, ◌<◌, ◌≤◌, Bool, true, false, nat_eq, List, [], ◌∷◌, ◌++◌, length, get_or, Option, Some, None, Fits, w64, drop, drop-cons, add-one, refl, sym, ap, ◌∙◌, subst, arith}
+use Rattle.std.proofs.Common.{◌≡◌, ℕ, suc, ◌+◌, ◌-◌, ◌<◌, ◌≤◌, Bool, true, false, nat_eq, List, [], ◌∷◌, ◌++◌, length, get_or, Option, Some, None, Fits, w64, drop, drop-cons, take, set, add-one, refl, sym, ap, ◌∙◌, subst, arith}
 use Rattle.std.specs.Prelude.{if◌then◌else◌, map}
 use Rattle.std.proofs.lemmas.List.{get_or-map}
-use Rattle.std.proofs.lemmas.List.{append_assoc}
+use Rattle.std.proofs.lemmas.List.{append_assoc, get_or-append_right, length-map, length-take-le, map-append, set-append_right, take_more}
 use Rattle.ct_values.proofs.AddressOrder.{same_itself}
 use Rattle.ct_values.specs.Words.{is_this_node}
 use Rattle.ct_values.specs.Address.{same_address}
@@ -133,6 +133,9 @@ sum_fits n xs a b sum new few s w =
 
 -- ---- lists that are made one by one
 
+in_front : {X : Type 0} (f : X → ℕ) (xs : List X) (i : ℕ) → i < length xs → length (map f (take i xs)) ≡ i
+in_front f xs i h = length-map (take i xs) f ∙ length-take-le i xs (omega (arith, h))
+
 -- what is read past the end of a placement
 pub sum_at : (there : List Address) (xs : List Assigned) (sums : List ℕ) (i : ℕ) (d : Assigned) → sums ≡ sums_to there xs → i < length xs → get_or sums i 0 ≡ sum_to (get_or xs i d).address there
 sum_at there xs sums i d e h = ap (λ l. get_or l i 0) e ∙ get_or-map (λ x. sum_to x.address there) xs i d 0 h
@@ -146,6 +149,28 @@ pushed f xs i d made more v h is e k =
     ∙ ap (λ y. made ++ y ∷ map f (drop (suc i) xs)) is
     ∙ ap (λ l. made ++ map f l) (sym (drop-cons xs i d h))
     ∙ k
+
+-- a list that is changed in its place: what is read next, and one item more
+pub unchanged : {X : Type 0} (f g : X → ℕ) (xs : List X) (i : ℕ) (d : X) (ys : List ℕ) (e : ℕ) → i < length xs → ys ≡ map f (take i xs) ++ map g (drop i xs) → get_or ys i e ≡ g (get_or xs i d)
+unchanged f g xs i d ys e h k =
+    let none : i - i ≡ 0 = omega arith in
+    ap (λ l. get_or l i e) (k ∙ ap (λ l. map f (take i xs) ++ map g l) (drop-cons xs i d h))
+    ∙ get_or-append_right (map f (take i xs)) (g (get_or xs i d) ∷ map g (drop (suc i) xs)) i i e (in_front f xs i h) (omega arith)
+    ∙ ap (λ j. get_or (g (get_or xs i d) ∷ map g (drop (suc i) xs)) j e) none
+
+pub changed : {X : Type 0} (f g : X → ℕ) (xs : List X) (i : ℕ) (d : X) (ys more : List ℕ) (v : ℕ) → i < length xs → v ≡ f (get_or xs i d) → more ≡ set ys i v → ys ≡ map f (take i xs) ++ map g (drop i xs)
+    → more ≡ map f (take (i + 1) xs) ++ map g (drop (i + 1) xs)
+changed f g xs i d ys more v h is e k =
+    let front = map f (take i xs) in
+    let rest = map g (drop (suc i) xs) in
+    let none : i - i ≡ 0 = omega arith in
+    e ∙ ap (λ l. set l i v) (k ∙ ap (λ l. front ++ map g l) (drop-cons xs i d h))
+    ∙ set-append_right front (g (get_or xs i d) ∷ rest) i i v (in_front f xs i h) (omega arith)
+    ∙ ap (λ j. front ++ set (g (get_or xs i d) ∷ rest) j v) none
+    ∙ ap (λ w. front ++ w ∷ rest) is
+    ∙ sym (append_assoc front (f (get_or xs i d) ∷ []) rest)
+    ∙ ap (λ l. l ++ rest) (sym (map-append f (take i xs) (get_or xs i d ∷ [])) ∙ ap (map f) (sym (take_more xs i d h)))
+    ∙ ap (λ j. map f (take (i + 1) xs) ++ map g (drop j xs)) (sym (add-one i))
 
 -- a part of the sum to those at a node
 pub held_part_fits : (n : ℕ) (xs : List Assigned) (i : ℕ) (d : Assigned) (a : Address) (sum new : ℕ) → length xs ≤ 256 → i < length xs → is_this_node n (get_or xs i d).node ≡ true

@@ -59,11 +59,6 @@ abbrev pub choice_before : Choice → Choice → Bool
 choice_before c d =
     nat_lt c.sum d.sum || (c.sum == d.sum && (address_before c.address d.address || (same_address c.address d.address && nat_lt c.node d.node)))
 
--- the best so far has a lesser sum, so that no choice of this sum is better
-abbrev pub is_beaten : ℕ → Option Choice → Bool
-is_beaten sum None = false
-is_beaten sum (Some c) = nat_lt c.sum sum
-
 -- ---- step one: away from nodes that are not able
 
 abbrev pub is_able : List ℕ → ℕ → Bool
@@ -154,11 +149,6 @@ source_before s t = nat_lt t.imbalance s.imbalance || (s.imbalance == t.imbalanc
 abbrev pub with_source : ℕ → ℕ → Option Choice → Option Source → Option Source
 with_source node imbalance None so_far = so_far
 with_source node imbalance (Some c) so_far = better source_before so_far (record { imbalance = imbalance; node = node; choice = c })
-
--- a node with this imbalance comes after the best source so far, whatever its moves are
-abbrev pub is_behind : ℕ → ℕ → Option Source → Bool
-is_behind node imbalance None = false
-is_behind node imbalance (Some s) = not (nat_lt s.imbalance imbalance || (imbalance == s.imbalance && nat_lt node s.node))
 
 -- the first source that has a move, and its best move
 abbrev pub next_failback : List ℕ → List ℕ → List Assigned → Option Source

@@ -1,8 +1,8 @@
 //! Addresses fail back to nodes that held none.
 ghost use Rattle.std.specs.Prelude.{◌≡◌, ◌≤◌, IfOk, OnOk, length};
 ghost use Rattle.ct_lcp2.specs.Best.{best, best_from};
-ghost use Rattle.ct_lcp2.specs.Leavers.{AreLeavers};
-ghost use Rattle.ct_lcp2.specs.Placing.{Ascend, choice_before, failbacks, failbacks_of, failed_back, held, is_beaten, is_behind, next_failback, with_source};
+ghost use Rattle.ct_lcp2.specs.Leavers.{AreLeavers, is_beaten, is_behind};
+ghost use Rattle.ct_lcp2.specs.Placing.{Ascend, choice_before, failbacks, failbacks_of, failed_back, held, next_failback, with_source};
 ghost use Rattle.ct_lcp2.specs.Tallies.{nodes, tallied, tally};
 
 use crate::choice::{Choice, Source};

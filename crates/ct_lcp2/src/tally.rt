@@ -56,41 +56,25 @@ fn sums_to(alloc: Global, there: &[Address], at: &[Assigned]) -> Result<Vec<u64>
     Ok(sums)
 }
 
-/// The sums with one address more at the node.
-fn sums_with(
-    alloc: Global,
-    sums: &[u64],
-    node: u32,
-    address: Address,
-    at: &[Assigned],
-) -> Result<Vec<u64>, NoMemory>
+/// The sums become those with one address more at the node. It takes no memory.
+fn add_squares(sums: &mut Vec<u64>, node: u32, address: Address, at: &[Assigned])
     requires few { length at.now ≤ 256 }
-    requires sums { sums.now ≡ sums_to (held node at.now) at.now }
-    ensures { IfOk result (λ v. v.items ≡ sums_to (address ∷ held node at.now) at.now) }
+    requires sums { sums.old.items ≡ sums_to (held node at.now) at.now }
+    ensures { sums.new.items ≡ sums_to (address ∷ held node at.now) at.now }
 {
-    let mut after = Vec::with_capacity(alloc, at.len())?;
     for (i, x) in at.iter().enumerate() {
-        after.push(squared(x.address, address) + sums[i])?;
+        sums[i] = squared(x.address, address) + sums[i];
     }
-    Ok(after)
 }
 
-/// The sums less those to one address.
-fn sums_less(
-    alloc: Global,
-    sums: &[u64],
-    node: u32,
-    address: Address,
-    at: &[Assigned],
-) -> Result<Vec<u64>, NoMemory>
-    requires sums { sums.now ≡ sums_to (held node at.now) at.now }
-    ensures { IfOk result (λ v. v.items ≡ sums_less address (held node at.now) at.now) }
+/// The sums become those less the ones to one address. It takes no memory.
+fn take_squares(sums: &mut Vec<u64>, node: u32, address: Address, at: &[Assigned])
+    requires sums { sums.old.items ≡ sums_to (held node at.now) at.now }
+    ensures { sums.new.items ≡ sums_less address (held node at.now) at.now }
 {
-    let mut after = Vec::with_capacity(alloc, at.len())?;
     for (i, x) in at.iter().enumerate() {
-        after.push(sums[i].saturating_sub(squared(x.address, address)))?;
+        sums[i] = sums[i].saturating_sub(squared(x.address, address));
     }
-    Ok(after)
 }
 
 impl Tally {
@@ -108,42 +92,37 @@ impl Tally {
         })
     }
 
-    /// What it is once an address has gone from its source to a target.
-    fn after(
-        self,
-        alloc: Global,
-        address: Address,
-        source: Option<u32>,
-        target: u32,
-        at: &[Assigned],
-    ) -> Result<Tally, NoMemory>
+    /// What it is once an address has gone from its source to a target. It takes no memory.
+    fn after(self, address: Address, source: Option<u32>, target: u32, at: &[Assigned]) -> Tally
         requires few { length at.now ≤ 256 }
         requires ascending { Ascend at.now }
         requires stands { Stands at.now address source }
         requires apart { is_this_node target source ≡ false }
         requires now { self ≡ tally at.now self.node }
-        ensures { IfOk result (λ t. t ≡ tally (sent address target at.now) self.node) }
+        ensures { result ≡ tally (sent address target at.now) self.node }
     {
         let node = self.node;
         let weight = self.imbalance;
         if node == target {
-            let sums = sums_with(alloc, self.sums.as_slice(), node, address, at)?;
-            return Ok(Tally {
+            let mut sums = self.sums.into_vec();
+            add_squares(&mut sums, node, address, at);
+            return Tally {
                 node,
                 imbalance: sum_to_held(address, node, at) + weight,
                 sums: Items::new(sums),
-            });
+            };
         }
         if is_this_node(node, source) {
-            let sums = sums_less(alloc, self.sums.as_slice(), node, address, at)?;
+            let mut sums = self.sums.into_vec();
+            take_squares(&mut sums, node, address, at);
             let own = sum_to_held(address, node, at).saturating_sub(squared(address, address));
-            return Ok(Tally {
+            return Tally {
                 node,
                 imbalance: weight.saturating_sub(own),
                 sums: Items::new(sums),
-            });
+            };
         }
-        Ok(self)
+        self
     }
 }
 
@@ -177,7 +156,7 @@ pub fn all_after(
 {
     let mut after = Vec::with_capacity(alloc, all.len())?;
     for one in all {
-        after.push(one.after(alloc, address, source, target, at)?)?;
+        after.push(one.after(address, source, target, at))?;
     }
     Ok(after)
 }
