@@ -105,16 +105,6 @@ after_kept keys m n k s i b d h = subst (λ (x : Pairs RecState). IsTidy keys x)
   worth = written_worth m k s b h.worth;
 })
 
--- a key that is not there is forgotten
-pub tidy_absent : (keys : List (List ℕ)) (m : Pairs RecState) (k : List ℕ) → look k m ≡ None → IsTidy keys m → IsTidy (forgotten k keys) m
-unfolding or_nothing is_deleted
-tidy_absent keys m k a h = record {
-  noted = everywhere (λ (q : List ℕ). is_deleted (or_nothing (look q m)).copy ≡ true → is_noted q (forgotten k keys) ≡ true) k
-      (λ e. absurd (let h = ap (λ (x : Option RecState). is_deleted (or_nothing x).copy) (sym a) ∙ e in cc))
-      (λ q n e. forgotten_others q k keys n (h.noted q e));
-  worth = h.worth;
-}
-
 -- a state that is taken out, with its key forgotten
 pub tidy_erased : (keys : List (List ℕ)) (m : Pairs RecState) (k : List ℕ) → Ascends m → IsTidy keys m → IsTidy (forgotten k keys) (erase k m)
 unfolding or_nothing is_deleted is_worth

@@ -1,9 +1,7 @@
 pub mod Adding
-pub mod Allowed
 pub mod Ascending
 pub mod Coming
 pub mod Made
-pub mod Numbers
 pub mod Reading
 pub mod Running
 pub mod Runs

@@ -51,6 +51,6 @@ pub is_config : (a : Accepted) (c : Config) → IsConfigOf a c → IsConfig c
 is_config a c h = (a.dbs, a.addresses, h.1)
 
 -- the cluster that is opened is the one at a line that is the first that is no configuration line
-pub opened_at : (a : Accepted) (c : Config) (o : Option World) (r : Result World NoMemory) → o ≡ None → IsConfigOf a c → IfOk r (λ w. w ≡ world_opened c) → IfOk r (λ w. w ≡ world_at a o)
-opened_at a c o (Ok w) none h e = e ∙ ap world_opened (only_config a c h) ∙ ap (world_at a) (sym none)
-opened_at a c o (Err f) none h e = tt
+pub opened_at : (a : Accepted) (c : Config) (r : Result World NoMemory) → IsConfigOf a c → IfOk r (λ w. w ≡ world_opened c) → IfOk r (λ w. w ≡ world_at a None)
+opened_at a c (Ok w) h e = e ∙ ap world_opened (only_config a c h)
+opened_at a c (Err f) h e = tt

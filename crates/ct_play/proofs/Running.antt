@@ -23,6 +23,7 @@ use Rattle.ct_world.specs.World.{World}
 use Rattle.ct_play.specs.Course.{Deed, Effect, after, and_then, moves_of, next_first, printed, still, told, up_to}
 use Rattle.ct_play.specs.Effect.{carriage, delivery, message_carried, message_lost, message_repeated, move_effect, settled, step_effect, stepped, taken as effect_taken, traverse_begun, traverse_texts, walked}
 use Rattle.ct_play.specs.declared.what.What.{What}
+use Rattle.ct_named.proofs.Allowed.{deliver_allowed}
 use Rattle.ct_play.proofs.Coming.{Next}
 
 -- the moves of these deeds, whatever calls are open
@@ -180,10 +181,6 @@ up_to_leads : (c : Config) (rules : Rules) (next : Next) → ((w : World) (k : W
 unfolding up_to
 up_to_leads c rules next each zero w k same = still_leads c rules w k same
 up_to_leads c rules next each (suc m) w k same = first_leads c rules w k (next w k) (λ v l. up_to m next v l) same (each w k same) (λ v l e. up_to_leads c rules next each m v l e)
-
-pub deliver_allowed : (k : ℕ) → is_allowed (step.Deliver k) ≡ true
-unfolding is_allowed
-deliver_allowed k = refl
 
 at_config : (c : Config) (rules : Rules) (w : World) (log : List OpenCall) (k : Walk) (e : Effect) → w.config ≡ c → Leads w.config rules w.cluster log k e → Leads c rules w.cluster log k e
 at_config c rules w log k e same h = subst (λ (x : Config). Leads x rules w.cluster log k e) same h

@@ -26,14 +26,14 @@ use Rattle.ct_lines.specs.declared.line.TraverseLine.TheVariants as traverse
 use Rattle.ct_world.specs.World.{World}
 use Rattle.ct_play.specs.Course.{Deed, Effect, moves_of}
 use Rattle.ct_play.specs.Effect.{commanded, line_effect, shown, text_effect, traverse_begun, traversed}
-use Rattle.ct_play.specs.Named.{command_step, named_step, number_in_step}
+use Rattle.ct_named.specs.Named.{command_step, named_step, number_in_step}
 use Rattle.ct_play.specs.Opening.{world_at}
 use Rattle.ct_play.specs.Play.{AreMovesOf, IsRunOf, Run, continued, lines_after, played, run_from, run_lines}
 use Rattle.ct_play.specs.Session.{Played, is_config_line, item_played, line_played, longest, placed, put, quiet, start}
 use Rattle.ct_play.specs.declared.session.Session.{Session}
 use Rattle.ct_play.specs.declared.what.What.{What}
 use Rattle.ct_play.specs.declared.what.What.TheVariants as what
-use Rattle.ct_play.proofs.Allowed.{change_allowed, command_allowed, named_allowed}
+use Rattle.ct_named.proofs.Allowed.{change_allowed, command_allowed, named_allowed}
 use Rattle.ct_play.proofs.Made.{configures}
 use Rattle.ct_play.proofs.Running.{Leads, LeadsFrom, begun_leads, carried_leads, idle_leads, lost_leads, repeated_leads, settled_leads, step_leads, still_leads, then_leads, walked_leads}
 

@@ -5,13 +5,13 @@ ghost use Rattle.ct_rules_cluster.specs.Faults.{is_allowed};
 ghost use Rattle.ct_lines.specs.Spelled.{IsCommand, IsInRange};
 ghost use Rattle.ct_play.specs.Effect.{Works, commanded, line_effect, settled, stepped};
 
-use crate::named::{command_step, named_step, number_in_step};
 use crate::shown::shown;
 use crate::stepping::{settle, take};
 use crate::walking::{catted, traversed};
 use crate::what::PlayFault;
 use ct_call::table::CallTable;
 use ct_lines::line::{Command, ScenarioLine};
+use ct_named::named::{command_step, named_step, number_in_step};
 use ct_rules_cluster::step::Step;
 use ct_traverse::walker::Walker;
 use ct_values::items::Items;
@@ -55,7 +55,7 @@ fn settled(
 }
 
 /// A command: it shows something, is a step, or begins a traverse.
-#[tactic(auto, using(crate::proofs::Allowed::command_allowed, crate::proofs::Adding::lines_shown))]
+#[tactic(auto, using(ct_named::proofs::Allowed::command_allowed, crate::proofs::Adding::lines_shown))]
 fn commanded(
     alloc: Global,
     world: &mut World,
@@ -78,7 +78,7 @@ fn commanded(
 }
 
 /// What a line does, and the texts of what it prints. A configuration line does nothing.
-#[tactic(auto, using(crate::proofs::Allowed::change_allowed, crate::proofs::Allowed::named_allowed))]
+#[tactic(auto, using(ct_named::proofs::Allowed::change_allowed, ct_named::proofs::Allowed::named_allowed))]
 pub fn line_effect(
     alloc: Global,
     world: &mut World,

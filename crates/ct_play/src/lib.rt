@@ -3,7 +3,6 @@
 
 pub mod effect;
 pub mod laws;
-pub mod named;
 pub mod session;
 mod shown;
 mod stepping;

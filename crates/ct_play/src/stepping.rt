@@ -62,7 +62,7 @@ pub fn take(
 }
 
 /// The message of this number comes.
-#[tactic(auto, using(crate::proofs::Running::deliver_allowed))]
+#[tactic(auto, using(ct_named::proofs::Allowed::deliver_allowed))]
 fn deliver(
     alloc: Global,
     world: &mut World,

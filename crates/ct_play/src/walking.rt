@@ -4,12 +4,12 @@ ghost use Rattle.ct_rules_node.specs.Node.{is_persistent, kind_at};
 ghost use Rattle.ct_lines.specs.declared.line.ShowCommand.TheVariants as shows;
 ghost use Rattle.ct_play.specs.Course.{Adds};
 ghost use Rattle.ct_play.specs.Effect.{ShowsLines, TellsMove, Works, catted, message_carried, shown, traverse_begun, traverse_texts, traversed, unmoved_by, walked};
-ghost use Rattle.ct_play.specs.Named.{number_in_step};
+ghost use Rattle.ct_named.specs.Named.{number_in_step};
 
-use crate::named::number_in_step;
 use crate::shown::{cut, shown};
 use crate::what::{PlayFault, What};
 use ct_lines::line::{ShowCommand, TraverseLine};
+use ct_named::named::number_in_step;
 use ct_node_state::kinds::{is_persistent, kind_at};
 use ct_traverse::line::{TFault, TLine};
 use ct_traverse::text::push_traverse;

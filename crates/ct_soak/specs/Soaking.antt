@@ -16,7 +16,7 @@ use Rattle.ct_lines.specs.declared.line.Command.TheVariants.{Shows, Steps, CatDb
 use Rattle.ct_lines.specs.declared.line.ScenarioLine.{ScenarioLine}
 use Rattle.ct_lines.specs.declared.line.ScenarioLine.TheVariants as item
 use Rattle.ct_mail.specs.Mail.{next_waiting}
-use Rattle.ct_play.specs.Named.{command_step, named_step, number_in_step}
+use Rattle.ct_named.specs.Named.{command_step, named_step, number_in_step}
 use Rattle.ct_soak.specs.Soak.{SoakView, soak_line}
 
 -- four nodes, and a database of each kind

@@ -10,7 +10,7 @@ ghost use Rattle.ct_soak.specs.Soaking.{Soaked, commanded, counts_text, first, l
 use crate::soak::soak_line;
 use ct_call::table::CallTable;
 use ct_lines::line::{Command, ScenarioLine};
-use ct_play::named::{command_step, named_step, number_in_step};
+use ct_named::named::{command_step, named_step, number_in_step};
 use ct_rules_cluster::step::{Line, Step, StepFault};
 use ct_text::words::{push, push_number};
 use ct_values::config::Config;
@@ -143,7 +143,7 @@ impl Soaking {
     }
 
     /// So many deliveries of the least message that waits, fewer where none waits or one is refused.
-    #[tactic(auto, using(ct_play::proofs::Running::deliver_allowed, crate::proofs::Settling::settles_on, crate::proofs::Settling::settles_out, crate::proofs::Settling::settles_none))]
+    #[tactic(auto, using(ct_named::proofs::Allowed::deliver_allowed, crate::proofs::Settling::settles_on, crate::proofs::Settling::settles_out, crate::proofs::Settling::settles_none))]
     fn settle(&mut self, table: &CallTable, count: u32) -> Result<(), NoMemory>
         requires room { self.old.skipped + 1 < 2 ^ 64 }
         ensures took { OnOk result (self.new ≡ settled (rules_of table.now) count self.old) }
@@ -161,7 +161,7 @@ impl Soaking {
     }
 
     /// A command that is a step; any other does nothing.
-    #[tactic(auto, using(ct_play::proofs::Allowed::command_allowed))]
+    #[tactic(auto, using(ct_named::proofs::Allowed::command_allowed))]
     fn command(
         &mut self,
         alloc: Global,
@@ -186,7 +186,7 @@ impl Soaking {
     }
 
     /// What a line does.
-    #[tactic(auto, using(ct_play::proofs::Allowed::change_allowed, ct_play::proofs::Allowed::named_allowed))]
+    #[tactic(auto, using(ct_named::proofs::Allowed::change_allowed, ct_named::proofs::Allowed::named_allowed))]
     fn line(&mut self, alloc: Global, table: &CallTable, line: ScenarioLine) -> Result<(), NoMemory>
         requires range { IsInRange line }
         requires room { self.old.skipped + 1 < 2 ^ 64 }

@@ -1,9 +1,9 @@
 use Rattle.std.proofs.Common.{◌≡◌, ◌∙◌, ◌++◌, ◌∷◌, [], List, sym, ap, ℕ, arith}
 use Rattle.std.specs.Prelude.{filter}
 use Rattle.ct_rules_cluster.specs.Cluster.{everyone, is_up, numbers}
-use Rattle.ct_play.proofs.Numbers.{none_yet, one_more_rests, one_more_runs}
-use Rattle.ct_play.proofs.named.running_nodes.Goals as goal
-use Rattle.ct_play.proofs.named.running_nodes.Goals.{then-is_up+in_ok-push, else-is_up}
+use Rattle.ct_named.proofs.Numbers.{none_yet, one_more_rests, one_more_runs}
+use Rattle.ct_named.proofs.named.running_nodes.Goals as goal
+use Rattle.ct_named.proofs.named.running_nodes.Goals.{then-is_up+in_ok-push, else-is_up}
 
 pub loop-node-init : goal.loop-node-init
 loop-node-init c = c.empty-nodes.ensures ∙ none_yet (λ n. is_up n c.args.world.now.cluster)

@@ -1,7 +1,7 @@
 //! Which step a line or a command is, where it names a database.
 ghost use Rattle.std.specs.Prelude.{◌≡◌, ◌∷◌, nat_eq, IfOk};
 ghost use Rattle.std.specs.Str.{bytes_eq};
-ghost use Rattle.ct_play.specs.Named.{command_step, named_step, number_at, number_from, number_in_step, number_of_db, running_nodes};
+ghost use Rattle.ct_named.specs.Named.{command_step, named_step, number_at, number_from, number_in_step, number_of_db, running_nodes};
 
 use ct_lines::line::{NamedOp, StepCommand};
 use ct_rules_cluster::step::Step;

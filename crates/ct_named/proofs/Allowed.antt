@@ -1,5 +1,5 @@
 -- The steps that lines and commands make are as they are asked to be.
-use Rattle.std.proofs.Common.{◌≡◌, ℕ, zero, suc, ◌+◌, ◌<◌, ◌≤◌, Bool, true, false, cond, List, ◌∷◌, length, None, Some, refl, ap, subst, ◌∙◌, arith}
+use Rattle.std.proofs.Common.{◌≡◌, ℕ, zero, suc, ◌+◌, ◌<◌, ◌≤◌, Bool, true, false, cond, List, ◌∷◌, length, refl, ap, subst, ◌∙◌, arith}
 use Rattle.std.specs.Prelude.{filter, nat_lt, ◌&&◌}
 use Rattle.std.proofs.lemmas.Bool.{lt-ltb}
 use Rattle.ct_rules_cluster.specs.Cluster.{Cluster, everyone, is_up, numbers}
@@ -15,7 +15,7 @@ use Rattle.ct_lines.specs.declared.line.StepCommand.TheVariants as command
 use Rattle.ct_values.specs.declared.client.Pair.{Pair}
 use Rattle.ct_values.specs.declared.config.Config.{Config}
 use Rattle.ct_rules_node.specs.Coming.{is_allowed_op}
-use Rattle.ct_play.specs.Named.{command_step, named_step, running_nodes}
+use Rattle.ct_named.specs.Named.{command_step, named_step, running_nodes}
 
 few_pairs : (pairs : List Pair) → ArePairs pairs → is_one_to_sixteen pairs ≡ true
 few_pairs pairs h =
@@ -36,6 +36,10 @@ change_allowed (step.Stop n) h = refl
 change_allowed (step.Start n) h = refl
 change_allowed (step.Takeover n) h = refl
 change_allowed (step.Able n able) h = refl
+
+pub deliver_allowed : (k : ℕ) → is_allowed (step.Deliver k) ≡ true
+unfolding is_allowed
+deliver_allowed k = refl
 
 -- what is asked on a database that is named
 pub named_allowed : (n db : ℕ) (asked : NamedOp) → IsOp asked → is_allowed (named_step n db asked) ≡ true

@@ -1,7 +1,7 @@
 use Rattle.std.proofs.Common.{◌≡◌}
 use Rattle.std.specs.Prelude.{filter}
 use Rattle.ct_rules_cluster.specs.Cluster.{is_up, numbers}
-use Rattle.ct_play.proofs.named.running_nodes.Given as goal
+use Rattle.ct_named.proofs.named.running_nodes.Given as goal
 
 -- those below this one that run
 abbrev pub invariant-loop-node : goal.invariant-loop-node
