@@ -22,11 +22,22 @@ impl<T> Model for Boxed<T> {
 }
 
 impl<T> Boxed<T> {
+    ghost use Rattle.std.specs.Borrow.{sem};
+    ghost use Rattle.ct_values.specs.Lending.{LendsAll};
+
     /// The value.
     pub fn as_ref(&self) -> &T
         ensures { result.now ≡ self.now }
     {
         self.held.as_ref()
+    }
+
+    /// The value, to be changed where it lies.
+    pub fn as_mut(&mut self) -> &mut T
+        ensures* writes_back { sem 𝓛 (LendsAll T.row self.entry result) }
+        ensures value { result.now ≡ self.old }
+    {
+        self.held.as_mut()
     }
 
     /// The value, off the heap.
