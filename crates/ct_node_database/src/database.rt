@@ -252,12 +252,12 @@ impl Database {
 
     /// The state of a key: that in which nothing is kept, where none is.
     #[tactic(auto, unfolding(ct_rules_node::specs::Node::or_nothing))]
-    pub fn state(&self, key: &Key) -> Result<RecState, NoMemory>
+    pub fn state(&self, key: &Key) -> Result<Boxed<RecState>, NoMemory>
         ensures { IfOk result (λ s. s ≡ or_nothing (look key.now self.now.records)) }
     {
         match self.records.get(key) {
-            Some(state) => state.as_ref().copy(),
-            None => Ok(RecState::new(self.alloc)),
+            Some(state) => Boxed::new(self.alloc, state.as_ref().copy()?),
+            None => Boxed::new(self.alloc, RecState::new(self.alloc)),
         }
     }
 

@@ -9,7 +9,6 @@ use ct_node_state::node::Node;
 use ct_node_state::outs::outs_of;
 use ct_node_state::turn::CoreFault;
 use ct_record_parts::draft::Draft;
-use ct_values::boxed::Boxed;
 use ct_values::key::Key;
 
 /// What the rule of a record made of a draft is put back into the node, and what was done about the record is done.
@@ -33,7 +32,7 @@ pub fn acted(me: u32, db: u32, key: &Key, draft: Draft, node: &Node) -> Result<P
     let change = Change::Record {
         db,
         key: key.copy()?,
-        state: Boxed::new(alloc, state)?,
+        state,
         next,
         floor,
     };

@@ -74,7 +74,7 @@ pub fn install(
     requires { row.now.rsn < 2 ^ 62 }
     ensures { OnOk result (database.new ≡ with_row me members.now row.now database.old) }
 {
-    let mut state = database.state(&row.key)?;
+    let mut state = database.state(&row.key)?.into_inner();
     state.copy = Some(copy_from(me, row)?);
     state.entry = entry_from(me, members.master_of(&row.key), row)?;
     database.keep(row.key.copy()?, state)

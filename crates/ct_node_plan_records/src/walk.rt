@@ -19,7 +19,6 @@ use ct_node_state::turn::CoreFault;
 use ct_record::moves;
 use ct_record_parts::draft::Draft;
 use ct_rules::event::Place;
-use ct_values::boxed::Boxed;
 use ct_values::config::Config;
 use ct_values::items::Items;
 use ct_values::key::Key;
@@ -140,7 +139,7 @@ impl Walk {
         self.outs.append(&mut outs.into_vec())?;
         let one = Left {
             key,
-            state: Boxed::new(alloc, state)?,
+            state,
             next,
             floor,
         };

@@ -37,7 +37,7 @@ fn ends_lock(turn: &mut Turn, name: Key) -> Result<(), NoMemory>
     requires { 0 < length turn.old.node.dbs }
     ensures { OnOk result (turn.new ≡ ends_lock name turn.old) }
 {
-    let mut state = turn.node.state_at(0, &name)?;
+    let mut state = turn.node.state_at(0, &name)?.into_inner();
     state.locked = None;
     turn.node.keep(0, name.copy()?, state)?;
     turn.notes(Note::Ended { db: 0, key: name })

@@ -30,7 +30,7 @@ fn want_again(draft: &mut Draft, at: &Place, table: &CallTable) -> Result<(), No
     requires { draft.old.next < 2 ^ 62 }
     ensures { OnOk result (draft.new ≡ want_again (rules_of table.now) at.now draft.old) }
 {
-    match draft.state.wish.take() {
+    match draft.state.as_mut().wish.take() {
         Some(wish) => draft.want(at, table, wish.call, &wish.op),
         None => Ok(()),
     }

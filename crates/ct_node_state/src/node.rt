@@ -241,12 +241,12 @@ impl Node {
 
     /// What the node keeps of a record.
     #[tactic(auto, unfolding(ct_rules_node::specs::Node::state_at, ct_rules_node::specs::Node::db_at, ct_rules_node::specs::Node::or_untouched, ct_rules_node::specs::Node::untouched, ct_rules_node::specs::Node::or_nothing))]
-    pub fn state_at(&self, db: u32, key: &Key) -> Result<RecState, NoMemory>
+    pub fn state_at(&self, db: u32, key: &Key) -> Result<Boxed<RecState>, NoMemory>
         ensures { IfOk result (λ s. s ≡ state_at db key.now self.now) }
     {
         match self.database(db) {
             Some(database) => database.state(key),
-            None => Ok(RecState::new(self.alloc)),
+            None => Boxed::new(self.alloc, RecState::new(self.alloc)),
         }
     }
 

@@ -1,5 +1,5 @@
 //! The middle of a step.
-ghost use Rattle.std.specs.Prelude.{◌≡◌, ◌<◌, OnOk, IfOk, length};
+ghost use Rattle.std.specs.Prelude.{◌≡◌, ◌<◌, OnOk, length};
 ghost use Rattle.ct_rules_node.specs.Clients.{frozen_if_unlocked};
 ghost use Rattle.ct_rules_node.specs.Node as state;
 ghost use Rattle.ct_rules_node.specs.Records.{acted};
@@ -14,7 +14,6 @@ use ct_frame::event::{Note, Out};
 use ct_frame::frame::{Frame, Msg};
 use ct_record_parts::draft::Draft;
 use ct_values::address::Address;
-use ct_values::boxed::Boxed;
 use ct_values::client::Answer;
 use ct_values::items::Items;
 use ct_values::key::Key;
@@ -159,7 +158,6 @@ impl Turn {
         } = draft;
         let outs = outs_of(alloc, self.node.member.generation(), me, db, key, acts)?;
         self.outs.append(&mut outs.into_vec())?;
-        let state = Boxed::new(alloc, state)?;
         self.node.put_back(db, key.copy()?, state, next, floor)?;
         Ok(())
     }

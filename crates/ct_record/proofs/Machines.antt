@@ -13,9 +13,9 @@ use Rattle.ct_record.specs.Machine.{Machine, Steps, KeepsForm, after}
 use Rattle.ct_record.specs.declared.machine.MoveFault.{MoveFault}
 
 -- a draft that is not spent, and that is put in place of the record, is a whole step
-pub settles : (d v : Moving) (old : Machine) (done acts : List Act) → v ≡ d → v.spent ≡ false → done ≡ v.acts → acts ≡ old.acts ++ done → Steps (Ok tt) (unless_spent d) old (record { state = v.state; next = v.next; acts = acts })
-settles d v old done acts is quiet same more =
-    subst (λ (q : Moving). Steps (Ok tt) (unless_spent q) old (record { state = v.state; next = v.next; acts = acts })) is (v, rw quiet refl, cc)
+pub settles : (d v : Moving) (state : RecState) (old : Machine) (done acts : List Act) → v ≡ d → v.spent ≡ false → state ≡ v.state → done ≡ v.acts → acts ≡ old.acts ++ done → Steps (Ok tt) (unless_spent d) old (record { state = state; next = v.next; acts = acts })
+settles d v state old done acts is quiet stays same more =
+    subst (λ (q : Moving). Steps (Ok tt) (unless_spent q) old (record { state = state; next = v.next; acts = acts })) is (v, rw quiet refl, cc)
 
 -- a step of what the event makes of the record is a step of the record
 pub steps_made : (r : Result (Unit {0}) MoveFault) (at : Place) (rules : Rules) (e : MoveEvent) (old new : Machine) (d : Moving) → d ≡ move at rules e (begins old.state old.next at.floor) → Steps r (unless_spent d) old new → Steps r (moved at rules e old.state old.next) old new

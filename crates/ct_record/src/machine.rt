@@ -1,7 +1,7 @@
 //! The machine of one record: an event comes to a state, which is changed in place.
 ghost use Rattle.std.specs.Prelude.{◌≡◌, OnOk, IfOk};
 ghost use Rattle.ct_call.specs.Shown.{rules_of};
-ghost use Rattle.ct_record.specs.Machine.{Machine, Steps, KeepsForm};
+ghost use Rattle.ct_record.specs.Machine.{Steps, KeepsForm};
 ghost use Rattle.ct_law_rules.specs.Form.{IsInForm, MayCome};
 ghost use Rattle.ct_rules.specs.Moves.{begins, move, moved, unless_spent};
 
@@ -10,6 +10,7 @@ use ct_call::table::CallTable;
 use ct_record_parts::draft::Draft;
 pub use ct_rules::event::{Act, MoveEvent, Place};
 pub use ct_rules::state::{Entry, RecState, RecallNote, Waiter, Wish};
+use ct_values::boxed::Boxed;
 use ct_values::items::Items;
 use ct_values::memory::NoMemory;
 use std::alloc::Global;
@@ -50,7 +51,7 @@ fn drafted(
 {
     let mut draft = Draft {
         alloc,
-        state: state.copy()?,
+        state: Boxed::new(alloc, state.copy()?)?,
         next,
         floor: at.floor,
         acts: Items::empty(alloc),
@@ -80,7 +81,7 @@ fn settle(
         ..
     } = draft;
     acts.append(&mut done.into_vec())?;
-    *state = after;
+    *state = after.into_inner();
     *next_request = next;
     Ok(())
 }

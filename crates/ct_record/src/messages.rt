@@ -56,6 +56,7 @@ fn is_queued(draft: &Draft, node: u32, request: u64) -> bool
 {
     draft
         .state
+        .as_ref()
         .queue
         .as_slice()
         .iter()
@@ -67,8 +68,8 @@ fn is_queued(draft: &Draft, node: u32, request: u64) -> bool
 fn enqueue(draft: &mut Draft, at: &Place, waiter: Waiter) -> Result<(), NoMemory>
     ensures { OnOk result (draft.new ≡ enqueue at.now waiter draft.old draft.old.state.queue) }
 {
-    let is_first = draft.state.queue.is_empty();
-    draft.state.queue.push(waiter)?;
+    let is_first = draft.state.as_ref().queue.is_empty();
+    draft.state.as_mut().queue.push(waiter)?;
     if is_first { draft.next(at) } else { Ok(()) }
 }
 
@@ -84,7 +85,7 @@ fn called(
 ) -> Result<(), NoMemory>
     ensures { OnOk result (draft.new ≡ called at.now node request kind draft.old) }
 {
-    let Some(entry) = draft.state.entry.duplicate()? else {
+    let Some(entry) = draft.state.as_ref().entry.duplicate()? else {
         return Ok(());
     };
     if entry.holder == node && entry.request == request {
@@ -130,6 +131,7 @@ fn is_waiting(draft: &Draft, note: &RecallNote) -> bool
 {
     draft
         .state
+        .as_ref()
         .waiting
         .as_slice()
         .iter()
@@ -144,7 +146,7 @@ fn wait(draft: &mut Draft, note: RecallNote) -> Result<(), NoMemory>
     if is_waiting(draft, &note) {
         return Ok(());
     }
-    draft.state.waiting.push(note)?;
+    draft.state.as_mut().waiting.push(note)?;
     Ok(())
 }
 
@@ -154,8 +156,8 @@ fn put_first(draft: &mut Draft, note: RecallNote) -> Result<(), NoMemory>
 {
     let mut waiting = Vec::new(draft.alloc);
     waiting.push(note)?;
-    waiting.extend_from_slice(draft.state.waiting.as_slice())?;
-    draft.state.waiting = Items::new(waiting);
+    waiting.extend_from_slice(draft.state.as_ref().waiting.as_slice())?;
+    draft.state.as_mut().waiting = Items::new(waiting);
     Ok(())
 }
 
@@ -179,7 +181,7 @@ fn handle(draft: &mut Draft, at: &Place, note: RecallNote) -> Result<(), NoMemor
 fn is_given(draft: &Draft) -> bool
     ensures { result ≡ is_given draft.now.state.copy }
 {
-    match &draft.state.copy {
+    match &draft.state.as_ref().copy {
         Some(copy) => copy.header.dmaster == NONE,
         None => false,
     }
@@ -190,7 +192,7 @@ fn is_given(draft: &Draft) -> bool
 fn reaches_least(draft: &Draft, least: u64) -> bool
     ensures { result ≡ nat_lt least (rank draft.now.state.copy) }
 {
-    match &draft.state.copy {
+    match &draft.state.as_ref().copy {
         Some(copy) => least <= copy.header.rsn,
         None => false,
     }
@@ -228,7 +230,9 @@ fn recalled(draft: &mut Draft, at: &Place, note: RecallNote) -> Result<(), NoMem
 pub(crate) fn on_recall(draft: &mut Draft, at: &Place, note: RecallNote) -> Result<(), NoMemory>
     ensures { OnOk result (draft.new ≡ on_recall at.now note draft.old) }
 {
-    if is_misplaced(at, note.kind) || (at.me == at.lmaster && draft.state.entry.is_none()) {
+    if is_misplaced(at, note.kind)
+        || (at.me == at.lmaster && draft.state.as_ref().entry.is_none())
+    {
         return Ok(());
     }
     recalled(draft, at, note)
@@ -241,11 +245,11 @@ fn hand_on(draft: &mut Draft, at: &Place, rsn: u64, value: &Value) -> Result<(),
     requires { rsn < 2 ^ 62 }
     ensures { OnOk result (draft.new ≡ hand_on at.now rsn value.now draft.old draft.old.state.queue) }
 {
-    match draft.state.queue.as_slice().first() {
+    match draft.state.as_ref().queue.as_slice().first() {
         Some(first) if !is_read_kind(first.kind) => {}
         _ => return draft.keep(at, rsn + 1, value),
     }
-    let Some(first) = draft.state.queue.take_first() else {
+    let Some(first) = draft.state.as_mut().queue.take_first() else {
         return Ok(());
     };
     draft.set_entry(Entry {
@@ -278,7 +282,7 @@ pub(crate) fn on_give(
     requires { rsn < 2 ^ 62 }
     ensures { OnOk result (draft.new ≡ on_give at.now sender rsn value.now draft.old) }
 {
-    match &draft.state.entry {
+    match &draft.state.as_ref().entry {
         Some(entry) if entry.holder == sender && entry.least <= rsn => hand_on(
             draft, at, rsn, value,
         ),
@@ -300,7 +304,7 @@ fn becomes(draft: &mut Draft, at: &Place, rsn: u64, value: &Value) -> Result<(),
         },
         value: value.copy()?,
     });
-    draft.state.tracking.clear();
+    draft.state.as_mut().tracking.clear();
     draft.reaches(rsn);
     Ok(())
 }
@@ -333,7 +337,7 @@ fn refuse(draft: &mut Draft, at: &Place, request: u64, rsn: u64) -> Result<(), N
         request,
         rsn,
     };
-    draft.state.waiting = Items::empty(draft.alloc);
+    draft.state.as_mut().waiting = Items::empty(draft.alloc);
     draft.send(at.lmaster, msg)
 }
 
@@ -342,7 +346,7 @@ fn refuse(draft: &mut Draft, at: &Place, request: u64, rsn: u64) -> Result<(), N
 fn is_above(draft: &Draft, rsn: u64) -> bool
     ensures { result ≡ nat_lt (rsn + 1) (rank draft.now.state.copy) }
 {
-    match &draft.state.copy {
+    match &draft.state.as_ref().copy {
         Some(copy) => rsn < copy.header.rsn,
         None => false,
     }
@@ -384,7 +388,7 @@ pub(crate) fn on_refuse(
     requires { rsn < 2 ^ 62 }
     ensures { OnOk result (draft.new ≡ on_refuse at.now node request rsn draft.old) }
 {
-    match &draft.state.entry {
+    match &draft.state.as_ref().entry {
         Some(entry)
             if entry.holder == node
                 && entry.least == rsn + 1
@@ -408,10 +412,10 @@ pub(crate) fn on_done(
 ) -> Result<(), NoMemory>
     ensures { OnOk result (draft.new ≡ on_done at.now node request draft.old) }
 {
-    match draft.state.queue.as_slice().first() {
+    match draft.state.as_ref().queue.as_slice().first() {
         Some(first) if first.node == node && first.request == request => {}
         _ => return Ok(()),
     }
-    let _ = draft.state.queue.take_first();
+    let _ = draft.state.as_mut().queue.take_first();
     draft.next(at)
 }

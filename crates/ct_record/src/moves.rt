@@ -37,7 +37,7 @@ pub fn store(draft: &mut Draft, call: u64, value: &Value) -> Result<(), NoMemory
 pub fn release(draft: &mut Draft, call: u64) -> Result<(), NoMemory>
     ensures { OnOk result (draft.new ≡ release call draft.old) }
 {
-    draft.state.locked = None;
+    draft.state.as_mut().locked = None;
     draft.reply(call, Answer::Unlocked)
 }
 
@@ -76,7 +76,7 @@ fn phase_message(at: &Place, rsn: u64, phase: VacuumPhase) -> Result<Msg, NoMemo
 fn is_deleted(draft: &Draft) -> bool
     ensures { result ≡ is_nil (value_of draft.now.state.copy) }
 {
-    match &draft.state.copy {
+    match &draft.state.as_ref().copy {
         Some(copy) => copy.value.bytes().is_empty(),
         None => true,
     }
@@ -89,10 +89,10 @@ fn is_vacuumed(draft: &Draft, at: &Place) -> bool
 {
     draft.is_free(at)
         && is_deleted(draft)
-        && draft.state.tracking.tracked().is_empty()
-        && draft.state.waiting.as_slice().is_empty()
-        && draft.state.queue.as_slice().is_empty()
-        && draft.state.wish.is_none()
+        && draft.state.as_ref().tracking.tracked().is_empty()
+        && draft.state.as_ref().waiting.as_slice().is_empty()
+        && draft.state.as_ref().queue.as_slice().is_empty()
+        && draft.state.as_ref().wish.is_none()
 }
 
 /// A vacuum begins with its storing phase; with no other member it is done at once.
@@ -125,7 +125,7 @@ fn vacuum_at_home(draft: &mut Draft, at: &Place, others: &[u32]) -> Result<(), N
     requires in_limit { rsn_of draft.old.state.copy < 2 ^ 62 }
     ensures { OnOk result (draft.new ≡ vacuum_at_home at.now others.now draft.old draft.old.state.vacuum) }
 {
-    let Some(vacuum) = &draft.state.vacuum else {
+    let Some(vacuum) = &draft.state.as_ref().vacuum else {
         return begin_vacuum(draft, at, others);
     };
     let missing = Vec::from_slice(draft.alloc, vacuum.missing())?;
@@ -156,7 +156,7 @@ pub fn vacuum(draft: &mut Draft, at: &Place, others: &[u32]) -> Result<(), NoMem
 fn call_again(draft: &mut Draft, at: &Place) -> Result<(), NoMemory>
     ensures { OnOk result (draft.new ≡ call_again at.now draft.old) }
 {
-    match &draft.state.wish {
+    match &draft.state.as_ref().wish {
         Some(wish) if wish.request != 0 => {
             let msg = Msg::Call {
                 db: at.db,
@@ -175,10 +175,10 @@ fn call_again(draft: &mut Draft, at: &Place) -> Result<(), NoMemory>
 fn revoke_again(draft: &mut Draft, at: &Place) -> Result<(), NoMemory>
     ensures { OnOk result (draft.new ≡ revoke_again at.now draft.old) }
 {
-    let Some(rsn) = draft.state.tracking.revoking() else {
+    let Some(rsn) = draft.state.as_ref().tracking.revoking() else {
         return Ok(());
     };
-    let missing = Vec::from_slice(draft.alloc, draft.state.tracking.missing())?;
+    let missing = Vec::from_slice(draft.alloc, draft.state.as_ref().tracking.missing())?;
     let msg = Msg::Revoke {
         db: at.db,
         key: at.key.copy()?,

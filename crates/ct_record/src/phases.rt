@@ -14,10 +14,13 @@ use ct_values::value::Value;
 fn stored_copy(draft: &mut Draft, at: &Place, sender: u32, rsn: u64)
     ensures { draft.new ≡ record draft.old { state = record draft.old.state { copy = stored_copy at.now.me sender rsn (is_none draft.old.state.locked) draft.old.state.copy } } }
 {
-    let Some(copy) = &draft.state.copy else {
+    let Some(copy) = &draft.state.as_ref().copy else {
         return;
     };
-    if copy.header.rsn < rsn && draft.state.locked.is_none() && copy.header.dmaster != at.me {
+    if copy.header.rsn < rsn
+        && draft.state.as_ref().locked.is_none()
+        && copy.header.dmaster != at.me
+    {
         draft.set_copy(RecCopy {
             header: Header {
                 rsn,
@@ -34,10 +37,13 @@ fn stored_copy(draft: &mut Draft, at: &Place, sender: u32, rsn: u64)
 fn deleted_copy(draft: &mut Draft, at: &Place, rsn: u64)
     ensures { draft.new ≡ record draft.old { state = record draft.old.state { copy = deleted_copy at.now.me rsn (is_none draft.old.state.locked) draft.old.state.copy } } }
 {
-    let Some(copy) = &draft.state.copy else {
+    let Some(copy) = &draft.state.as_ref().copy else {
         return;
     };
-    if copy.header.rsn <= rsn && draft.state.locked.is_none() && copy.header.dmaster != at.me {
+    if copy.header.rsn <= rsn
+        && draft.state.as_ref().locked.is_none()
+        && copy.header.dmaster != at.me
+    {
         draft.clear_copy();
     }
 }
@@ -99,7 +105,7 @@ pub(crate) fn finish(draft: &mut Draft, rsn: u64) -> Result<(), NoMemory>
 pub(crate) fn on_vstored(draft: &mut Draft, at: &Place, node: u32, rsn: u64) -> Result<(), NoMemory>
     ensures { OnOk result (draft.new ≡ on_vstored at.now node rsn draft.old) }
 {
-    let Some(vacuum) = &mut draft.state.vacuum else {
+    let Some(vacuum) = &mut draft.state.as_mut().vacuum else {
         return Ok(());
     };
     if !vacuum.stored(node, rsn) {
@@ -120,7 +126,7 @@ pub(crate) fn on_vdeleted(draft: &mut Draft, node: u32, rsn: u64) -> Result<(), 
     requires { rsn < 2 ^ 62 }
     ensures { OnOk result (draft.new ≡ on_vdeleted node rsn draft.old) }
 {
-    let Some(vacuum) = &mut draft.state.vacuum else {
+    let Some(vacuum) = &mut draft.state.as_mut().vacuum else {
         return Ok(());
     };
     if vacuum.deleted(node, rsn) {

@@ -21,7 +21,7 @@ use ct_values::value::Value;
 fn read_granted(draft: &mut Draft, request: u64, value: &Value) -> Result<(), NoMemory>
     ensures { OnOk result (draft.new ≡ read_granted request draft.old draft.old.state.wish value.now) }
 {
-    let Some(wish) = &draft.state.wish else {
+    let Some(wish) = &draft.state.as_ref().wish else {
         return Ok(());
     };
     let call = wish.call;
@@ -34,7 +34,7 @@ fn read_granted(draft: &mut Draft, request: u64, value: &Value) -> Result<(), No
 fn is_at_most(draft: &Draft, rsn: u64) -> bool
     ensures { result ≡ nat_le (rank draft.now.state.copy) (rsn + 1) }
 {
-    match &draft.state.copy {
+    match &draft.state.as_ref().copy {
         Some(copy) => copy.header.rsn <= rsn,
         None => true,
     }
@@ -75,7 +75,7 @@ pub(crate) fn on_grant(
 fn called_in(draft: &mut Draft, rsn: u64)
     ensures { draft.new ≡ record draft.old { state = record draft.old.state { copy = called_in rsn draft.old.state.copy } } }
 {
-    if let Some(copy) = &mut draft.state.copy {
+    if let Some(copy) = &mut draft.state.as_mut().copy {
         if copy.header.flags == READ_ONLY_COPY && copy.header.rsn <= rsn {
             copy.header.flags = 0;
         }
@@ -107,7 +107,7 @@ pub(crate) fn on_revoke(
     requires { draft.old.next < 2 ^ 62 }
     ensures { OnOk result (draft.new ≡ on_revoke at.now holder rsn draft.old) }
 {
-    match &draft.state.wish {
+    match &draft.state.as_ref().wish {
         Some(wish) if is_read_kind(kind_of(at, &wish.op)) => {
             let call = wish.call;
             let op = wish.op.copy()?;
@@ -138,7 +138,7 @@ pub(crate) fn on_revokeack(
     requires { rsn_of draft.old.state.copy < 2 ^ 62 }
     ensures { OnOk result (draft.new ≡ on_revokeack at.now (rules_of table.now) node rsn draft.old) }
 {
-    if draft.state.tracking.ack(node, rsn) {
+    if draft.state.as_mut().tracking.ack(node, rsn) {
         draft.end_revocation(at, table)
     } else {
         Ok(())

@@ -8,6 +8,7 @@ use ct_frame::header::{LIMIT, RecCopy};
 use ct_rules::event::{Act, Place};
 use ct_rules::state::{Entry, RecState, Wish};
 use ct_tracking::vacuum::Vacuum;
+use ct_values::boxed::Boxed;
 use ct_values::client::Answer;
 use ct_values::items::Items;
 use ct_values::memory::NoMemory;
@@ -20,7 +21,7 @@ use std::marker::Model;
 #[derive(Drop)]
 pub struct Draft {
     pub alloc: Global,
-    pub state: RecState,
+    pub state: Boxed<RecState>,
     pub next: u64,
     pub floor: u64,
     pub acts: Items<Act>,
@@ -98,7 +99,7 @@ impl Draft {
     pub fn rsn(&self) -> u64
         ensures { result ≡ rsn_of self.now.state.copy }
     {
-        match &self.state.copy {
+        match &self.state.as_ref().copy {
             Some(copy) => copy.header.rsn,
             None => 0,
         }
@@ -109,7 +110,7 @@ impl Draft {
     pub fn value(&self) -> Result<Value, NoMemory>
         ensures { IfOk result (λ v. v ≡ value_of self.now.state.copy) }
     {
-        match &self.state.copy {
+        match &self.state.as_ref().copy {
             Some(copy) => copy.value.copy(),
             None => Ok(Value::empty(self.alloc)),
         }
@@ -120,7 +121,7 @@ impl Draft {
     pub fn set_value(&mut self, value: Value)
         ensures { self.new ≡ record self.old { state = record self.old.state { copy = with_value value self.old.state.copy } } }
     {
-        if let Some(copy) = &mut self.state.copy {
+        if let Some(copy) = &mut self.state.as_mut().copy {
             copy.value = value;
         }
     }
@@ -129,28 +130,28 @@ impl Draft {
     pub fn set_wish(&mut self, wish: Wish)
         ensures { self.new ≡ record self.old { state = record self.old.state { wish = Some wish } } }
     {
-        self.state.wish = Some(wish);
+        self.state.as_mut().wish = Some(wish);
     }
 
     /// No call waits for the record.
     pub fn clear_wish(&mut self)
         ensures { self.new ≡ record self.old { state = record self.old.state { wish = None } } }
     {
-        self.state.wish = None;
+        self.state.as_mut().wish = None;
     }
 
     /// This is known of the record at its location master.
     pub fn set_entry(&mut self, entry: Entry)
         ensures { self.new ≡ record self.old { state = record self.old.state { entry = Some entry } } }
     {
-        self.state.entry = Some(entry);
+        self.state.as_mut().entry = Some(entry);
     }
 
     /// The node has this copy.
     pub fn set_copy(&mut self, copy: RecCopy)
         ensures { self.new ≡ record self.old { state = record self.old.state { copy = Some copy } } }
     {
-        self.state.copy = Some(copy);
+        self.state.as_mut().copy = Some(copy);
     }
 
     /// The node's copy has the next RSN.
@@ -159,7 +160,7 @@ impl Draft {
         requires { rsn_of self.old.state.copy < 2 ^ 62 }
         ensures { self.new ≡ record self.old { state = record self.old.state { copy = risen self.old.state.copy } } }
     {
-        if let Some(copy) = &mut self.state.copy {
+        if let Some(copy) = &mut self.state.as_mut().copy {
             copy.header.rsn += 1;
         }
     }
@@ -168,21 +169,21 @@ impl Draft {
     pub fn set_vacuum(&mut self, vacuum: Vacuum)
         ensures { self.new ≡ record self.old { state = record self.old.state { vacuum = Some vacuum } } }
     {
-        self.state.vacuum = Some(vacuum);
+        self.state.as_mut().vacuum = Some(vacuum);
     }
 
     /// Nothing is known of the record at its location master.
     pub fn clear_entry(&mut self)
         ensures { self.new ≡ record self.old { state = record self.old.state { entry = None } } }
     {
-        self.state.entry = None;
+        self.state.as_mut().entry = None;
     }
 
     /// The node has no copy.
     pub fn clear_copy(&mut self)
         ensures { self.new ≡ record self.old { state = record self.old.state { copy = None } } }
     {
-        self.state.copy = None;
+        self.state.as_mut().copy = None;
     }
 
     /// Is the node holder?
@@ -190,7 +191,7 @@ impl Draft {
     pub fn is_holder(&self, at: &Place) -> bool
         ensures { result ≡ is_mastered at.now.me self.now.state.copy }
     {
-        match &self.state.copy {
+        match &self.state.as_ref().copy {
             Some(copy) => copy.header.dmaster == at.me,
             None => false,
         }
@@ -203,7 +204,7 @@ impl Draft {
         ensures quiet { result ≡ true → self.now.state.tracking.revoking ≡ None }
     {
         self.is_holder(at)
-            && self.state.locked.is_none()
-            && self.state.tracking.revoking().is_none()
+            && self.state.as_ref().locked.is_none()
+            && self.state.as_ref().tracking.revoking().is_none()
     }
 }

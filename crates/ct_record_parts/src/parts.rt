@@ -59,7 +59,7 @@ impl Draft {
         ensures opened { self.new ≡ opened at.now self.old }
         ensures next { self.new.next ≡ self.old.next }
     {
-        if self.state.entry.is_some() {
+        if self.state.as_ref().entry.is_some() {
             return;
         }
         self.set_entry(Entry {
@@ -85,7 +85,7 @@ impl Draft {
         ensures next { self.new.next ≡ self.old.next }
         ensures tracking { self.new.state.tracking ≡ self.old.state.tracking }
     {
-        self.state.vacuum = None;
+        self.state.as_mut().vacuum = None;
     }
 
     /// What a function answers to the value and an argument.
@@ -133,7 +133,7 @@ impl Draft {
     {
         match op {
             ClientOp::Lock { .. } => {
-                self.state.locked = Some(call);
+                self.state.as_mut().locked = Some(call);
                 let value = self.value()?;
                 self.reply(call, Answer::Locked(value))
             }
@@ -166,11 +166,11 @@ impl Draft {
             key: at.key.copy()?,
             rsn,
         };
-        let nodes = Vec::from_slice(self.alloc, self.state.tracking.tracked())?;
-        if let Some(copy) = &mut self.state.copy {
+        let nodes = Vec::from_slice(self.alloc, self.state.as_ref().tracking.tracked())?;
+        if let Some(copy) = &mut self.state.as_mut().copy {
             copy.header.flags = HAS_DELEGATIONS | BEING_REVOKED;
         }
-        self.state.tracking.begin(rsn)?;
+        self.state.as_mut().tracking.begin(rsn)?;
         self.send_all(nodes.as_slice(), &msg)
     }
 
@@ -185,11 +185,11 @@ impl Draft {
             rsn: self.rsn(),
             value: self.value()?,
         };
-        if let Some(copy) = &mut self.state.copy {
+        if let Some(copy) = &mut self.state.as_mut().copy {
             copy.header.dmaster = NONE;
             copy.header.flags = 0;
         }
-        self.state.waiting = Items::empty(self.alloc);
+        self.state.as_mut().waiting = Items::empty(self.alloc);
         self.send(at.lmaster, msg)
     }
 
@@ -198,7 +198,7 @@ impl Draft {
     pub fn is_wished(&self, at: &Place, request: u64, kind: CallKind) -> bool
         ensures { result ≡ is_wished at.now.readonly request kind self.now.state.wish }
     {
-        match &self.state.wish {
+        match &self.state.as_ref().wish {
             Some(wish) => wish.request == request && same_kind(kind_of(at, &wish.op), kind),
             None => false,
         }
@@ -209,7 +209,7 @@ impl Draft {
     fn read_here(&mut self, at: &Place, request: u64) -> Result<(), NoMemory>
         ensures { OnOk result (self.new ≡ read_here at.now request self.old self.old.state.wish) }
     {
-        let Some(wish) = &self.state.wish else {
+        let Some(wish) = &self.state.as_ref().wish else {
             return Ok(());
         };
         let call = wish.call;
@@ -234,10 +234,10 @@ impl Draft {
             rsn: self.rsn(),
             value: self.value()?,
         };
-        if let Some(copy) = &mut self.state.copy {
+        if let Some(copy) = &mut self.state.as_mut().copy {
             copy.header.flags = HAS_DELEGATIONS;
         }
-        self.state.tracking.add(node)?;
+        self.state.as_mut().tracking.add(node)?;
         self.send(node, msg)
     }
 
@@ -268,7 +268,7 @@ impl Draft {
         requires { self.old.state.tracking.revoking ≡ None }
         ensures { OnOk result (self.new ≡ yield_record at.now self.old) }
     {
-        if self.state.tracking.tracked().is_empty() {
+        if self.state.as_ref().tracking.tracked().is_empty() {
             self.give(at)
         } else {
             self.revoke(at)
@@ -281,7 +281,7 @@ impl Draft {
         requires { from ≤ length notes.now }
         ensures { OnOk result (self.new ≡ record self.old { state = record self.old.state { waiting = drop from notes.now } }) }
     {
-        self.state.waiting = Items::new(Vec::from_slice(self.alloc, &notes[from..])?);
+        self.state.as_mut().waiting = Items::new(Vec::from_slice(self.alloc, &notes[from..])?);
         Ok(())
     }
 
@@ -303,7 +303,7 @@ impl Draft {
     pub fn drained(&mut self, at: &Place) -> Result<(), NoMemory>
         ensures { OnOk result (self.new ≡ drained at.now self.old) }
     {
-        let waiting = self.state.waiting.duplicate()?;
+        let waiting = self.state.as_ref().waiting.duplicate()?;
         let notes = waiting.as_slice();
         for i in 0..notes.len() {
             let note = notes[i];
@@ -324,7 +324,7 @@ impl Draft {
     pub fn satisfy_wish(&mut self, table: &CallTable) -> Result<(), NoMemory>
         ensures { OnOk result (self.new ≡ satisfy_wish (rules_of table.now) self.old self.old.state.wish) }
     {
-        match self.state.wish.take() {
+        match self.state.as_mut().wish.take() {
             Some(wish) => self.satisfy(table, wish.call, &wish.op),
             None => Ok(()),
         }
@@ -335,7 +335,7 @@ impl Draft {
     fn satisfy_own(&mut self, table: &CallTable) -> Result<(), NoMemory>
         ensures { OnOk result (self.new ≡ satisfy_own (rules_of table.now) self.old self.old.state.wish) }
     {
-        match &self.state.wish {
+        match &self.state.as_ref().wish {
             Some(wish) if wish.request == 0 => self.satisfy_wish(table),
             _ => Ok(()),
         }
@@ -348,11 +348,11 @@ impl Draft {
         ensures { self.new ≡ raise self.old }
     {
         let rsn = self.rsn() + 1;
-        if let Some(copy) = &mut self.state.copy {
+        if let Some(copy) = &mut self.state.as_mut().copy {
             copy.header.rsn = rsn;
             copy.header.flags = 0;
         }
-        self.state.tracking.clear();
+        self.state.as_mut().tracking.clear();
         self.reaches(rsn);
     }
 
@@ -372,8 +372,10 @@ impl Draft {
     pub fn next(&mut self, at: &Place) -> Result<(), NoMemory>
         ensures { OnOk result (self.new ≡ next at.now self.old) }
     {
-        let (Some(entry), Some(first)) = (&self.state.entry, self.state.queue.as_slice().first())
-        else {
+        let (Some(entry), Some(first)) = (
+            &self.state.as_ref().entry,
+            self.state.as_ref().queue.as_slice().first(),
+        ) else {
             return Ok(());
         };
         let holder = entry.holder;

@@ -56,7 +56,7 @@ impl Draft {
             request: 0,
             op: op.copy()?,
         });
-        if self.state.tracking.revoking().is_none() {
+        if self.state.as_ref().tracking.revoking().is_none() {
             self.revoke(at)
         } else {
             Ok(())
@@ -68,7 +68,7 @@ impl Draft {
     fn is_for_reading(&self) -> bool
         ensures { result ≡ is_for_reading self.now.state.copy }
     {
-        match &self.state.copy {
+        match &self.state.as_ref().copy {
             Some(copy) => copy.header.flags == READ_ONLY_COPY,
             None => false,
         }
@@ -92,7 +92,7 @@ impl Draft {
             self.reply(call, Answer::Read(value))
         } else if !holder {
             self.call_for(at, call, op)
-        } else if self.state.tracking.tracked().is_empty() {
+        } else if self.state.as_ref().tracking.tracked().is_empty() {
             self.satisfy(table, call, op)
         } else {
             self.wait_for_copies(at, call, op)
@@ -105,7 +105,7 @@ impl Draft {
         ensures opened { self.new ≡ opened_at_home at.now self.old }
         ensures next { self.new.next ≡ self.old.next }
     {
-        if at.me == at.lmaster && self.state.locked.is_none() {
+        if at.me == at.lmaster && self.state.as_ref().locked.is_none() {
             self.opened(at);
             self.end_vacuum();
         }
