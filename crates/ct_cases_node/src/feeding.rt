@@ -1,4 +1,8 @@
 //! A node is fed row by row.
+ghost use Rattle.std.specs.Prelude.{◌≡◌, true, IfOk};
+ghost use Rattle.ct_core.specs.Core.{IsPlanOf};
+ghost use Rattle.ct_rules_node.specs.Coming.{may_come};
+
 use crate::made::{config, event, functions, outs};
 use crate::rows::{Comes, Made, Row, Shown, Way};
 use crate::showing::{copy_of, shows, shows_same};
@@ -33,12 +37,23 @@ fn stepped(core: &mut Core, table: &CallTable, event: &Event) -> Result<Option<V
     }
 }
 
+/// A plan of what comes of an event. A message is lent.
+fn plan(core: &Core, table: &CallTable, event: &Event) -> Result<Planned, CoreFault>
+    requires { may_come core.now.config core.now.pnn core.now.node event.now ≡ true }
+    ensures { IfOk result (λ p. IsPlanOf core.now p) }
+{
+    match event {
+        Event::Arrive(frame) => core.plan_arrival(table, frame),
+        _ => core.plan(table, event),
+    }
+}
+
 /// What comes of an event that may come: it is planned first, and then the plan is kept.
 fn planned(core: &mut Core, table: &CallTable, event: &Event) -> Result<Option<Vec<Out>>, Fail> {
     if !may_come(core, event)? {
         return Err(Fail::new("this may not come"));
     }
-    match core.plan(table, event) {
+    match plan(core, table, event) {
         Ok(Planned { change, outs }) => match core.commit(change) {
             Ok(()) => Ok(Some(outs.into_vec())),
             Err(_) => Ok(None),

@@ -4,16 +4,18 @@ ghost use Rattle.std.specs.List.{list_all};
 ghost use Rattle.ct_call.specs.Shown.{rules_of};
 ghost use Rattle.ct_rules_cluster.specs.Cluster.{everyone};
 ghost use Rattle.ct_core.specs.Core.{IsChangeOf, IsPlanOf, PlansStep, Steps};
+ghost use Rattle.ct_frame.specs.declared.event.Event.TheVariants as events;
 ghost use Rattle.ct_law_form.specs.Whole.{HasLimits, is_sound_out};
 ghost use Rattle.ct_node_plan.specs.Changes.{changed_by};
 ghost use Rattle.ct_rules_node.specs.Coming.{may_come};
 ghost use Rattle.ct_rules_node.specs.Node.{opening, restarted};
 ghost use Rattle.ct_rules_node.specs.Steps.{stepped};
 
-use crate::events::happens;
+use crate::events::{arrival, happens};
 use crate::opening::everyone;
 use ct_call::table::CallTable;
 use ct_frame::event::{Event, Out};
+use ct_frame::frame::Frame;
 use ct_lead::holder::Holder;
 use ct_lead::lead::Lead;
 use ct_lead::member::Member;
@@ -88,6 +90,17 @@ impl Core {
         ensures sound { IfOk result (λ p. list_all (is_sound_out self.now.config self.now.pnn) p.outs ≡ true) }
     {
         happens(&self.config, table, self.pnn, event, &self.node)
+    }
+
+    /// What comes of a message that arrives, as a plan: what `plan` tells of its arrival, but the message is lent.
+    #[tactic(auto, using(crate::proofs::Plans::plans_step, crate::proofs::Plans::plan_of, crate::proofs::Plans::plan_sound))]
+    pub fn plan_arrival(&self, table: &CallTable, frame: &Frame) -> Result<Planned, CoreFault>
+        requires { may_come self.now.config self.now.pnn self.now.node (events.Arrive frame.now) ≡ true }
+        ensures plan { PlansStep result (stepped self.now.config (rules_of table.now) self.now.pnn (events.Arrive frame.now) self.now.node) self.now.node }
+        ensures of_this { IfOk result (λ p. IsPlanOf self.now p) }
+        ensures sound { IfOk result (λ p. list_all (is_sound_out self.now.config self.now.pnn) p.outs ≡ true) }
+    {
+        arrival(&self.config, table, self.pnn, frame, &self.node)
     }
 
     /// Changes the node as it was planned. The plan is of the node as it stands. Without memory nothing changes.
