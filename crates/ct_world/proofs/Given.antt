@@ -1,11 +1,13 @@
 -- What the parts are given is what the rules of the cluster give.
 use Rattle.std.proofs.Common.{◌≡◌, ◌∙◌, ℕ, zero, suc, ◌+◌, ◌<◌, ◌≤◌, Bool, true, List, [], ◌∷◌, ◌++◌, length, get_or, append-nil, Option, Some, None, Result, Ok, Err, Fits, w64, refl, sym, ap, subst, append_assoc, arith}
+use Rattle.std.specs.Borrow.{Bor}
 use Rattle.std.specs.Prelude.{◌^◌, IsErrAnd, MatchOption, drop, slice_get}
 use Rattle.ct_values.specs.declared.config.Config.{Config}
 use Rattle.ct_frame.specs.declared.event.Event.{Event}
+use Rattle.ct_frame.specs.declared.event.Event.TheVariants as event
 use Rattle.ct_frame.specs.declared.frame.Frame.{Frame}
 use Rattle.ct_call.specs.Rules.{Rules}
-use Rattle.ct_rules_cluster.specs.Cluster.{Cluster, Sent, is_delivered, is_true, is_up, is_waiting, pending_from}
+use Rattle.ct_rules_cluster.specs.Cluster.{Cluster, Sent, is_delivered, is_true, is_up, is_waiting, pending_from, sent_at}
 use Rattle.ct_rules_cluster.specs.Steps.{Stepped, fed}
 use Rattle.ct_rules_cluster.specs.declared.step.Line.{Line}
 use Rattle.ct_rules_cluster.specs.declared.step.PendingCall.{PendingCall}
@@ -13,6 +15,8 @@ use Rattle.ct_rules_cluster.specs.declared.step.Step.{Step}
 use Rattle.ct_rules_cluster.specs.declared.step.StepFault.{StepFault}
 use Rattle.ct_rules_cluster.specs.declared.step.StepFault.TheVariants as fault
 use Rattle.ct_core.specs.Core.{Core}
+use Rattle.ct_mail.specs.Mail.{numbered}
+use Rattle.ct_world.proofs.Numbers.{numbered_so}
 use Rattle.ct_world.specs.Feeding.{Takes}
 use Rattle.ct_world.specs.World.{Applies, World, states_of}
 use Rattle.ct_world.specs.declared.parts.Parts.{Parts}
@@ -26,16 +30,27 @@ fed_as lines r c rules n e f own other w v u h k a =
 pub rule_as : {X : Type 0} (lines : X → List Line) (r : Result X StepFault) (rule other : Result Stepped StepFault) (v u : World) → other ≡ rule → Applies lines r rule v u → Applies lines r other v u
 rule_as lines r rule other v u h a = subst (λ (x : Result Stepped StepFault). Applies lines r x v u) (sym h) a
 
--- a message that is there
-pub at_frame : (o : Option Frame) (f : Frame) (so : Option Sent) → MatchOption o (so ≡ None) (λ g. (s : Sent) × (so ≡ Some s) × (s.frame ≡ g)) → o ≡ Some f → (s : Sent) × (so ≡ Some s) × (s.frame ≡ f)
-at_frame None f so m e = absurd (cc)
-at_frame (Some g) f so m e = (let same : g ≡ f = cc in subst (λ (h : Frame). (s : Sent) × (so ≡ Some s) × (s.frame ≡ h)) same m)
+-- the message of a number, where it was sent
+pub at_frame : (k : ℕ) (w : Cluster) (o : Option (Bor Frame)) (f : Bor Frame) → MatchOption o (numbered k w.sent ≡ None) (λ g. (s : Sent) × (numbered k w.sent ≡ Some s) × (s.frame ≡ g.now)) → o ≡ Some f → (s : Sent) × (sent_at k w ≡ Some s) × (s.frame ≡ f.now)
+at_frame k w None f m e = absurd (cc)
+at_frame k w (Some g) f m e = (let same : g ≡ f = cc in subst (λ (h : Bor Frame). (s : Sent) × (sent_at k w ≡ Some s) × (s.frame ≡ h.now)) same (m.0, sym (numbered_so k w) ∙ m.1, m.2))
+
+pub no_frame : (k : ℕ) (w : Cluster) (o : Option (Bor Frame)) → MatchOption o (numbered k w.sent ≡ None) (λ g. (s : Sent) × (numbered k w.sent ≡ Some s) × (s.frame ≡ g.now)) → ((f : Bor Frame) → o ≡ Some f → ⊥) → sent_at k w ≡ None
+no_frame k w None m h = sym (numbered_so k w) ∙ m
+no_frame k w (Some g) m h = absurd (h g refl)
+
+pub not_both : (o : Option Sent) (s : Sent) → o ≡ None → o ≡ Some s → ⊥
+not_both o s e f = cc
+
+-- what comes of it is what comes of the message that has the number
+same_sent : (s t : Sent) → Some s ≡ Some t → s ≡ t
+same_sent s t e = cc
+
+pub arrived_as : {X : Type 0} (lines : X → List Line) (r : Result X StepFault) (c : Config) (rules : Rules) (w : Cluster) (v u : World) (o : Option Sent) (s t : Sent) (f : Frame) → o ≡ Some s → s.frame ≡ f → o ≡ Some t → Applies lines r (fed c rules f.receiver (event.Arrive f) [] w) v u → Applies lines r (fed c rules t.frame.receiver (event.Arrive t.frame) [] w) v u
+arrived_as lines r c rules w v u o s t f at same there h =
+    subst (λ (g : Frame). Applies lines r (fed c rules g.receiver (event.Arrive g) [] w) v u) (sym same ∙ ap (λ (x : Sent). x.frame) (same_sent s t (sym at ∙ there))) h
 
 -- one that waits, or was delivered, is there
-pub no_frame : (o : Option Frame) (so : Option Sent) → MatchOption o (so ≡ None) (λ g. (s : Sent) × (so ≡ Some s) × (s.frame ≡ g)) → ((f : Frame) → o ≡ Some f → ⊥) → so ≡ None
-no_frame None so m h = m
-no_frame (Some g) so m h = absurd (h g refl)
-
 pub none_waits : (so : Option Sent) → so ≡ None → is_waiting so ≡ true → ⊥
 unfolding is_waiting
 none_waits None e w = cc

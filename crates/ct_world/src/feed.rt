@@ -1,8 +1,9 @@
 //! An event is given to a node.
-ghost use Rattle.std.specs.Prelude.{◌≡◌, ◌<◌, ◌++◌, ◌&&◌, ◌^◌, true, OnOk, OnErr, Some, length, map, nat_lt, slice_get, slice_set};
+ghost use Rattle.std.specs.Prelude.{◌≡◌, ◌<◌, ◌++◌, ◌&&◌, ◌^◌, [], true, OnOk, OnErr, Some, length, map, nat_lt, slice_get, slice_set};
 ghost use Rattle.ct_call.specs.Shown.{rules_of};
-ghost use Rattle.ct_rules_cluster.specs.Cluster.{node_at};
+ghost use Rattle.ct_rules_cluster.specs.Cluster.{Sent, node_at, sent_at};
 ghost use Rattle.ct_rules_cluster.specs.Steps.{fed};
+ghost use Rattle.ct_frame.specs.declared.event.Event.TheVariants as events;
 ghost use Rattle.ct_core.specs.Core.{Core, IsChangeOf, IsPlanOf};
 ghost use Rattle.ct_mail.specs.Mail.{posted};
 ghost use Rattle.ct_node_plan.specs.Changes.{changed_by};
@@ -36,6 +37,19 @@ fn plan_at(
     ensures { (x : Core) → slice_get cores.now node ≡ Some x → PlansAt result (stepped x.config (rules_of table.now) x.pnn event.now x.node) x }
 {
     match cores[node as usize].plan(table, event) {
+        Ok(planned) => Ok(planned),
+        Err(CoreFault::Exhausted) => Err(StepFault::Exhausted),
+        Err(CoreFault::NoMemory) => Err(StepFault::NoMemory),
+    }
+}
+
+/// What comes of a message that arrives at its receiver, as a plan. The message is lent.
+fn arrival_at(cores: &[Core], table: &CallTable, frame: &Frame) -> Result<Planned, StepFault>
+    requires there { frame.now.receiver < length cores.now }
+    requires coming { (x : Core) → slice_get cores.now frame.now.receiver ≡ Some x → may_come x.config x.pnn x.node (events.Arrive frame.now) ≡ true }
+    ensures { (x : Core) → slice_get cores.now frame.now.receiver ≡ Some x → PlansAt result (stepped x.config (rules_of table.now) x.pnn (events.Arrive frame.now) x.node) x }
+{
+    match cores[frame.receiver as usize].plan_arrival(table, frame) {
         Ok(planned) => Ok(planned),
         Err(CoreFault::Exhausted) => Err(StepFault::Exhausted),
         Err(CoreFault::NoMemory) => Err(StepFault::NoMemory),
@@ -81,7 +95,7 @@ impl Parts {
     }
 
     /// What was planned of the node of this number is carried out, and the books become these. The step's own lines come
-    /// first. A step that is refused changes nothing.
+    /// first. It is refused where the ticket or the calls reach their limit, and then nothing is changed.
     fn carry_out(
         &mut self,
         node: u32,
@@ -92,11 +106,14 @@ impl Parts {
         requires sent { length self.old.mail < 2 ^ 62 }
         requires seats { AreSeated self.old.config self.old.cores }
         requires there { node < length self.old.cores }
-        requires counted { (nat_lt books.ticket (2 ^ 62) && nat_lt books.calls (2 ^ 62)) ≡ true }
         requires planned { (x : Core) → slice_get self.old.cores node ≡ Some x → IsPlanOf x planned }
         ensures step { CarriesOut (λ lines. lines.items) result node planned own.items books self.old self.new }
         ensures seats { AreSeated self.new.config self.new.cores }
     {
+        if !are_counted(books) {
+            drop(planned);
+            return Err(StepFault::Exhausted);
+        }
         let first = self.mail.len() as u64 + 1;
         let Planned { change, outs } = planned;
         let told = match told(self.alloc, node, first, own, outs) {
@@ -129,10 +146,22 @@ impl Parts {
         ensures seats { AreSeated self.new.config self.new.cores }
     {
         let planned = plan_at(self.cores.as_slice(), table, node, event)?;
-        if !are_counted(books) {
-            drop(planned);
-            return Err(StepFault::Exhausted);
-        }
         self.carry_out(node, planned, own, books)
+    }
+
+    /// The message of this number arrives at its receiver, where it was sent. It is lent, and stays where it lies. A step that
+    /// is refused changes nothing.
+    pub(crate) fn arrive(&mut self, table: &CallTable, number: u64) -> Result<Vec<Line>, StepFault>
+        requires { PartsInForm self.old }
+        ensures step { (s : Sent) → sent_at number (cluster_of self.old) ≡ Some s → Applies (λ lines. lines.items) result (fed self.old.config (rules_of table.now) s.frame.receiver (events.Arrive s.frame) [] (cluster_of self.old)) (world_of self.old) (world_of self.new) }
+        ensures seats { AreSeated self.new.config self.new.cores }
+    {
+        let Some(frame) = self.mail.frame(number) else {
+            return Ok(Vec::new(self.alloc));
+        };
+        let receiver = frame.receiver;
+        let planned = arrival_at(self.cores.as_slice(), table, frame)?;
+        let own = Vec::new(self.alloc);
+        self.carry_out(receiver, planned, own, self.books)
     }
 }

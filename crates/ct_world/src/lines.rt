@@ -1,9 +1,8 @@
 //! What a step prints, and the messages that it sends.
-ghost use Rattle.std.specs.Prelude.{◌≡◌, ◌∷◌, ◌++◌, ◌+◌, ◌^◌, ◌<◌, ◌≤◌, [], IfOk, OnOk, length, map};
+ghost use Rattle.std.specs.Prelude.{◌≡◌, ◌∷◌, ◌++◌, ◌+◌, ◌^◌, ◌<◌, ◌≤◌, [], IfOk, OnOk, length};
 ghost use Rattle.ct_rules_cluster.specs.Cluster.{able_from};
 ghost use Rattle.ct_rules_cluster.specs.Steps.{frames_of, gone, lines_of};
 ghost use Rattle.ct_rules_cluster.specs.declared.step.Line.TheVariants as line;
-ghost use Rattle.ct_mail.specs.Mail.{posted};
 ghost use Rattle.ct_world.specs.Feeding.{TellsAll, TellsOne};
 
 use crate::parts::Told;

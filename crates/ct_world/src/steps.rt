@@ -1,17 +1,15 @@
 //! Every step that is not refused at once.
-ghost use Rattle.std.specs.Prelude.{◌≡◌, ◌<◌, [], true, false, IfOk, MatchOption, None, Some, length, slice_get, slice_set};
+ghost use Rattle.std.specs.Prelude.{◌≡◌, ◌<◌, true, false, IfOk, Some, length, slice_get, slice_set};
 ghost use Rattle.ct_call.specs.Rules.{Rules};
 ghost use Rattle.ct_call.specs.Shown.{rules_of};
-ghost use Rattle.ct_rules_cluster.specs.Cluster.{Sent, is_up, node_at, pending_in, sent_at};
-ghost use Rattle.ct_rules_cluster.specs.Steps.{fed, without_holder};
+ghost use Rattle.ct_rules_cluster.specs.Cluster.{Sent, is_up, pending_in, sent_at};
+ghost use Rattle.ct_rules_cluster.specs.Steps.{without_holder};
 ghost use Rattle.ct_rules_cluster.specs.declared.step.Step.TheVariants as step;
 ghost use Rattle.ct_core.specs.Core as machine;
-ghost use Rattle.ct_frame.specs.declared.event.Event.TheVariants as event;
-ghost use Rattle.ct_rules_node.specs.Coming.{may_come};
 ghost use Rattle.ct_rules_node.specs.Node.{restarted};
 ghost use Rattle.ct_rules_node.specs.Numbered.{by_number};
 ghost use Rattle.ct_world.specs.Feeding.{MayTake, Takes};
-ghost use Rattle.ct_world.specs.World.{Applies, AreSeated, PartsInForm, cluster_of, world_of};
+ghost use Rattle.ct_world.specs.World.{AreSeated, cluster_of};
 
 use crate::faults::is_marked;
 use crate::lines::{able_nodes, one, stopped};
@@ -19,7 +17,6 @@ use crate::parts::Parts;
 use ct_call::table::CallTable;
 use ct_core::machine::Core;
 use ct_frame::event::Event;
-use ct_frame::frame::Frame;
 use ct_rules_cluster::step::{Line, PendingCall, Step, StepFault};
 use ct_values::client::ClientOp;
 use ct_values::copies::Duplicate;
@@ -59,16 +56,6 @@ fn without_holder(node: u32, holder: Option<u32>) -> Option<u32>
 }
 
 impl Parts {
-    /// A copy of the message of this number, where it was sent.
-    fn message(&self, number: u64) -> Result<Option<Frame>, NoMemory>
-        ensures { IfOk result (λ f. MatchOption f (sent_at number (cluster_of self.now) ≡ None) (λ f. (s : Sent) × (sent_at number (cluster_of self.now) ≡ Some s) × (s.frame ≡ f))) }
-    {
-        match self.mail.frame(number) {
-            Some(frame) => Ok(Some(frame.copy()?)),
-            None => Ok(None),
-        }
-    }
-
     /// A client asks a node, and its call gets the next number.
     fn client(
         &mut self,
@@ -91,37 +78,14 @@ impl Parts {
         answer
     }
 
-    /// A message arrives at its receiver.
-    fn arrive(&mut self, table: &CallTable, frame: Frame) -> Result<Vec<Line>, StepFault>
-        requires form { PartsInForm self.old }
-        requires there { frame.receiver < self.old.config.nodes }
-        requires coming { may_come self.old.config frame.receiver (node_at frame.receiver (cluster_of self.old)) (event.Arrive frame) ≡ true }
-        ensures step { Applies (λ lines. lines.items) result (fed self.old.config (rules_of table.now) frame.receiver (event.Arrive frame) [] (cluster_of self.old)) (world_of self.old) (world_of self.new) }
-        ensures seats { AreSeated self.new.config self.new.cores }
-    {
-        let receiver = frame.receiver;
-        let own = Vec::new(self.alloc);
-        let books = self.books;
-        let event = Event::Arrive(frame);
-        let answer = self.feed(table, receiver, &event, own, books);
-        drop(event);
-        answer
-    }
-
     /// A message that waits comes to its receiver, which runs.
-    fn hand_over(
-        &mut self,
-        table: &CallTable,
-        number: u64,
-        frame: Frame,
-    ) -> Result<Vec<Line>, StepFault>
+    fn hand_over(&mut self, table: &CallTable, number: u64) -> Result<Vec<Line>, StepFault>
         requires may { MayTake (step.Deliver number) self.old }
-        requires at { (s : Sent) × (sent_at number (cluster_of self.old) ≡ Some s) × (s.frame ≡ frame) }
-        requires up { is_up frame.receiver (cluster_of self.old) ≡ true }
+        requires at { (s : Sent) × (sent_at number (cluster_of self.old) ≡ Some s) × (is_up s.frame.receiver (cluster_of self.old) ≡ true) }
         ensures step { Takes (λ lines. lines.items) result (rules_of table.now) (step.Deliver number) self.old self.new }
         ensures seats { AreSeated self.new.config self.new.cores }
     {
-        let lines = self.arrive(table, frame)?;
+        let lines = self.arrive(table, number)?;
         self.mail.deliver(number);
         Ok(lines)
     }
@@ -145,14 +109,13 @@ impl Parts {
         ensures step { Takes (λ lines. lines.items) result (rules_of table.now) (step.Deliver number) self.old self.new }
         ensures seats { AreSeated self.new.config self.new.cores }
     {
-        let Some(frame) = self.message(number)? else {
+        let Some(frame) = self.mail.frame(number) else {
             return Ok(Vec::new(self.alloc));
         };
-        if is_marked(self.running.as_slice(), frame.receiver) {
-            return self.hand_over(table, number, frame);
-        }
         let receiver = frame.receiver;
-        drop(frame);
+        if is_marked(self.running.as_slice(), receiver) {
+            return self.hand_over(table, number);
+        }
         self.lose(number, receiver)
     }
 
@@ -172,13 +135,13 @@ impl Parts {
         ensures step { Takes (λ lines. lines.items) result (rules_of table.now) (step.Repeat number) self.old self.new }
         ensures seats { AreSeated self.new.config self.new.cores }
     {
-        let Some(frame) = self.message(number)? else {
+        let Some(frame) = self.mail.frame(number) else {
             return Ok(Vec::new(self.alloc));
         };
-        if is_marked(self.running.as_slice(), frame.receiver) {
-            return self.arrive(table, frame);
+        let receiver = frame.receiver;
+        if is_marked(self.running.as_slice(), receiver) {
+            return self.arrive(table, number);
         }
-        drop(frame);
         Ok(one(self.alloc, Line::Lost(number))?)
     }
 

@@ -1,25 +1,28 @@
-use Rattle.std.proofs.Common.{refl}
-use Rattle.ct_rules_cluster.specs.Cluster.{sent_at}
-use Rattle.std.specs.Prelude.{Vec}
-use Rattle.std.specs.declared.alloc.Global.{Global}
-use Rattle.ct_rules_cluster.specs.declared.step.Line.{Line}
+use Rattle.std.proofs.Common.{◌≡◌, ℕ, ap, refl, subst, sym, true}
+use Rattle.ct_rules_cluster.specs.Cluster.{is_up, sent_at}
+use Rattle.ct_frame.specs.declared.frame.Frame.{Frame}
 use Rattle.ct_world.specs.World.{cluster_of}
 use Rattle.ct_world.proofs.Asked.{deliver_waits}
-use Rattle.ct_world.proofs.Given.{no_frame, no_memory, none_waits, up_as}
+use Rattle.ct_world.proofs.Given.{at_frame, no_frame, none_waits, up_as}
 use Rattle.ct_world.proofs.parts.Parts.deliver.Goals as goal
 
 pub returns-in_default-clause-step : goal.returns-in_default-clause-step
 returns-in_default-clause-step g c =
-    let so = sent_at c.args.number (cluster_of c.args.self.now) in
-    absurd (none_waits so (no_frame c.in_ok-frame.field-0 so c.in_ok-frame.ensures c.in_default.not-Some) (deliver_waits c.args.self.now c.args.number c.requires))
+    let w = cluster_of c.args.self.now in
+    absurd (none_waits (sent_at c.args.number w) (no_frame c.args.number w c.frame.result c.frame.ensures c.in_default.not-Some) (deliver_waits c.args.self.now c.args.number c.requires))
 
-pub hand_over-requires-clause-up : goal.hand_over-requires-clause-up
-hand_over-requires-clause-up g c =
-    up_as c.as_slice.result.now c.args.self.now.running c.in-Some.frame.receiver _ (cluster_of c.args.self.now) c.as_slice.ensures refl c.if-is_marked.ensures
+pub hand_over-requires-clause-at : goal.hand_over-requires-clause-at
+hand_over-requires-clause-at g c =
+    let w = cluster_of c.args.self.now in
+    let s = at_frame c.args.number w c.frame.result c.in-Some.frame c.frame.ensures c.in-Some.is in
+    let up = up_as c.as_slice.result.now c.args.self.now.running c.in-Some.frame.now.receiver _ w c.as_slice.ensures refl c.if-is_marked.ensures in
+    (s.0, s.1, subst (λ (f : Frame). is_up f.receiver w ≡ true) (sym s.2) up)
+
+pub lose-requires-clause-at : goal.lose-requires-clause-at
+lose-requires-clause-at g c =
+    let s = at_frame c.args.number (cluster_of c.args.self.now) c.frame.result c.in-Some.frame c.frame.ensures c.in-Some.is in
+    (s.0, s.1, ap (λ (f : Frame). f.receiver) s.2)
 
 pub lose-requires-clause-down : goal.lose-requires-clause-down
 lose-requires-clause-down g c =
-    up_as c.as_slice.result.now c.args.self.now.running c.in-Some.frame.receiver _ (cluster_of c.args.self.now) c.as_slice.ensures refl c.if-is_marked.ensures
-
-pub returns-in_err-frame-clause-step : goal.returns-in_err-frame-clause-step
-returns-in_err-frame-clause-step g c = no_memory (λ (v : Vec Line Global). v.items) c.from_residual.result _ _ c.from_residual.ensures.1
+    up_as c.as_slice.result.now c.args.self.now.running c.in-Some.frame.now.receiver _ (cluster_of c.args.self.now) c.as_slice.ensures refl c.if-is_marked.ensures
