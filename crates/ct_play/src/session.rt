@@ -118,10 +118,7 @@ impl Session {
         ensures { Plays result (put self.old.places (line_effect (rules_of table.now) (world_at self.old.places self.old.world) self.old.walker line)) self.new }
     {
         if let Some(world) = &mut self.world {
-            return match line_effect(alloc, world, &mut self.walker, table, line) {
-                Ok(texts) => Ok(texts),
-                Err(fault) => Err(fault),
-            };
+            return line_effect(alloc, world, &mut self.walker, table, line);
         }
         let mut world = match opened(alloc, &self.places) {
             Ok(world) => world,

@@ -2,7 +2,6 @@
 ghost use Rattle.std.specs.Prelude.{◌≡◌};
 
 use ct_lines::line::LineKind;
-use ct_rules_cluster::step::StepFault;
 use ct_values::memory::NoMemory;
 use std::alloc::AllocFailed;
 
