@@ -7,9 +7,9 @@ ghost use Rattle.ct_bus_run.specs.Numbers.{HasExchangeRange};
 ghost use Rattle.ct_script.specs.Scripts.{drawn, generator_of};
 
 use ct_bus::message::Message;
+use ct_spelling::number::push_decimal;
 use ct_values::items::Items;
 use ct_values::memory::NoMemory;
-use ct_values::number::push_decimal;
 use ct_values::value::Value;
 use rand_core::utils::NextWord;
 use rand_pcg::Lcg64Xsh32;

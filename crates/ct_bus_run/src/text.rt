@@ -4,9 +4,9 @@ ghost use Rattle.std.specs.Fmt.{decimal};
 ghost use Rattle.ct_bus_run.specs.Text.{answers_in, bus_line, bytes_in, lengths, pair_text, row_text, rows_text};
 
 use ct_bus_exchange::handled::Handled;
+use ct_spelling::number::push_decimal;
 use ct_values::items::Items;
 use ct_values::memory::NoMemory;
-use ct_values::number::push_decimal;
 use std::alloc::Global;
 
 /// How many bytes these answers have together. None from 2^64 on.

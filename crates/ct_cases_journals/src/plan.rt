@@ -1,10 +1,10 @@
 //! Scripts of plans, against a program that makes them in another language.
 use ct_frame::plan::{Plan, PlanItem};
 use ct_script::scripts::cluster_plan;
+use ct_spelling::number::push_decimal;
 use ct_values::client::{ClientOp, Pair};
 use ct_values::items::Items;
 use ct_values::key::Key;
-use ct_values::number::push_decimal;
 use std::alloc::Global;
 use std::test::Fail;
 

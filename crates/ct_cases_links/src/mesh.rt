@@ -1,6 +1,6 @@
 //! What one node writes to another, that one reads, and no other.
 use ct_links::link::Peer;
-use ct_troupe_threads::mesh::mesh;
+use ct_links::mesh::mesh;
 use std::io::{ErrorKind, Read, Write};
 use std::net::TcpStream;
 use std::test::Fail;

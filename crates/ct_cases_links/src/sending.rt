@@ -4,8 +4,8 @@ ghost use Rattle.std.specs.List.{list_all};
 ghost use Rattle.ct_wire_link.specs.Sending.{is_sendable};
 
 use ct_frame::event::{Note, Out};
-use ct_frame::fields::well_formed;
 use ct_frame::frame::{CallKind, Frame, Msg, TableRow};
+use ct_frame_fields::fields::well_formed;
 use ct_outside::link::Piece;
 use ct_outside::memory_link::MemLink;
 use ct_values::boxed::BoxedItems;

@@ -1,6 +1,6 @@
 //! One call of traverses after the other.
 use crate::playing::{Call, Row, Turn, plays};
-use ct_traverse::line::TPending;
+use ct_traverse_parts::line::TPending;
 use std::test::Fail;
 
 const ONE_NODE_IS_ASKED: [Row; 9] = [

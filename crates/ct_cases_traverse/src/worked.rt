@@ -1,6 +1,6 @@
 //! Worked traverses.
 use crate::playing::{Call, Row, Turn, plays};
-use ct_traverse::line::TPending;
+use ct_traverse_parts::line::TPending;
 use std::test::Fail;
 
 const WHOLE: [Row; 4] = [

@@ -1,6 +1,6 @@
-use ct_frame::fields::well_formed;
 use ct_frame::frame::{Assigned, CallKind, Frame, Msg, PTable, TableRow};
 use ct_frame::header::LIMIT;
+use ct_frame_fields::fields::well_formed;
 use ct_values::address::Address;
 use ct_values::boxed::BoxedItems;
 use ct_values::client::Pair;

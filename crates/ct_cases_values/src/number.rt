@@ -1,4 +1,4 @@
-use ct_values::number::{parse_decimal, push_decimal};
+use ct_spelling::number::{parse_decimal, push_decimal};
 use std::alloc::Global;
 use std::test::Fail;
 

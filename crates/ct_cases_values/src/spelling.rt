@@ -1,4 +1,4 @@
-use ct_values::spelling::{SpellFault, push_spelling, spell, unspell};
+use ct_spelling::spelling::{SpellFault, push_spelling, spell, unspell};
 use std::alloc::Global;
 use std::test::Fail;
 

@@ -5,8 +5,8 @@ ghost use Rattle.ct_rules_node.specs.Coming.{is_after_pending, is_allowed_op, ma
 
 use crate::machine::Core;
 use ct_frame::event::Event;
-use ct_frame::fields::well_formed;
 use ct_frame::order::ascends;
+use ct_frame_fields::fields::well_formed;
 use ct_lead::runs::is_among;
 use ct_rules_cluster::step::PendingCall;
 use ct_values::client::ClientOp;

@@ -3,7 +3,6 @@
 #![tactic(auto)]
 
 pub mod event;
-pub mod fields;
 pub mod frame;
 pub mod header;
 pub mod order;

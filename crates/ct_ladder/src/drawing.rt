@@ -13,9 +13,9 @@ use ct_picture::drawing::{
 };
 use ct_picture::row::{Look, Row, RowKind, copy_of, push};
 use ct_picture::shape::{Group, Hand, Lane, Picture, Shape, Tip};
+use ct_spelling::number::push_decimal;
 use ct_values::items::Items;
 use ct_values::memory::NoMemory;
-use ct_values::number::push_decimal;
 use std::alloc::Global;
 
 /// Puts an ending behind those of its message. A message that was never sent has none.

@@ -19,12 +19,12 @@ use Rattle.ct_law_readings.specs.Fresh.{Moment, IsMarked}
 use Rattle.ct_law_readings.specs.Greatest.{Later, ComesOn, end_of, Showed, HadCopy, IsSeenAt, IsSeen, IsLookedFor}
 use Rattle.ct_law_readings.specs.Moments.{moment_of}
 use Rattle.ct_law_readings.proofs.Greatest.{greatest_copy_was_read, greatest_entry_was_read}
-use Rattle.ct_traverse.specs.Kept.{Batch, rows_for, all_for, IsSameRow, IsAmong, IsBestOf, IsKeptOf, IsAboveAll}
-use Rattle.ct_traverse.specs.Rows.{one_row}
-use Rattle.ct_traverse.specs.declared.best.Best.{Best}
-use Rattle.ct_traverse.specs.declared.line.Pass.{Pass}
-use Rattle.ct_traverse.specs.declared.line.Pass.TheVariants.{Copies, Entries}
-use Rattle.ct_traverse.proofs.Keeping.{entry_is_above}
+use Rattle.ct_traverse_parts.specs.Kept.{Batch, rows_for, all_for, IsSameRow, IsAmong, IsBestOf, IsKeptOf, IsAboveAll}
+use Rattle.ct_traverse_parts.specs.Rows.{one_row}
+use Rattle.ct_traverse_parts.specs.declared.best.Best.{Best}
+use Rattle.ct_traverse_parts.specs.declared.line.Pass.{Pass}
+use Rattle.ct_traverse_parts.specs.declared.line.Pass.TheVariants.{Copies, Entries}
+use Rattle.ct_traverse_parts.proofs.Keeping.{entry_is_above}
 use Rattle.ct_law_traverse.proofs.History.{Stage, last_lines, last_marks, later_in, later_more, end_is, Comes, comes_front, AtSome, showed_front, showed_last}
 use Rattle.ct_law_traverse.proofs.Sights.{SawCopy, SawEntry, CopySight, EntrySight}
 

@@ -14,10 +14,10 @@ use Rattle.ct_promise.specs.Marked.{AllMarks, MarksHoldIn}
 use Rattle.ct_node_view.specs.Had.{entry_row, entries_of}
 use Rattle.ct_law_readings.specs.Fresh.{Moment}
 use Rattle.ct_law_readings.specs.Moments.{moment_of}
-use Rattle.ct_traverse.specs.Kept.{rows_for}
-use Rattle.ct_traverse.specs.Rows.{one_row}
-use Rattle.ct_traverse.specs.declared.line.Pass.TheVariants.{Copies, Entries}
-use Rattle.ct_traverse.proofs.Exact.{rows_are_exact}
+use Rattle.ct_traverse_parts.specs.Kept.{rows_for}
+use Rattle.ct_traverse_parts.specs.Rows.{one_row}
+use Rattle.ct_traverse_parts.specs.declared.line.Pass.TheVariants.{Copies, Entries}
+use Rattle.ct_traverse_parts.proofs.Exact.{rows_are_exact}
 
 -- a node that is present has this copy of a record at this moment, or none
 pub record SawCopy (n : ℕ) (o : Option RecCopy) (m : Moment) : Type 0 where

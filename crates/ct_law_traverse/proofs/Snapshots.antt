@@ -15,11 +15,11 @@ use Rattle.ct_frame.specs.declared.frame.TableRow.{TableRow}
 use Rattle.ct_store.specs.Map.{Pairs, Ascends, look}
 use Rattle.ct_store.proofs.Maps.{empty_ascends, write_ascends, key_total, apart}
 use Rattle.ct_register.specs.Lines.{Lines}
-use Rattle.ct_traverse.proofs.Exact.{all_apart}
-use Rattle.ct_traverse.specs.Best.{is_shown, merged, gathered, shown}
-use Rattle.ct_traverse.specs.Kept.{Batch, kept_of}
-use Rattle.ct_traverse.specs.declared.best.Best.{Best}
-use Rattle.ct_traverse.specs.declared.line.Pass.{Pass}
+use Rattle.ct_traverse_parts.proofs.Exact.{all_apart}
+use Rattle.ct_traverse_parts.specs.Best.{is_shown, merged, gathered, shown}
+use Rattle.ct_traverse_parts.specs.Kept.{Batch, kept_of}
+use Rattle.ct_traverse_parts.specs.declared.best.Best.{Best}
+use Rattle.ct_traverse_parts.specs.declared.line.Pass.{Pass}
 use Rattle.ct_law_traverse.specs.Snapshot.{WasReadIn, value_shown, IsShownSince, IsSnapshot}
 
 -- ---- what is kept

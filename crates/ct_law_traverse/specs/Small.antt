@@ -7,9 +7,9 @@ use Rattle.ct_promise.specs.Promises.{IsConfig}
 use Rattle.ct_promise.specs.Small.{config, a, x}
 use Rattle.ct_traverse.specs.Walk.{no_walk}
 use Rattle.ct_traverse.specs.Moves.{Move, Stepped, Begin, Carry, moves_ran}
-use Rattle.ct_traverse.specs.declared.line.Pass.TheVariants.{Copies, Entries}
-use Rattle.ct_traverse.specs.declared.line.TLine.{TLine}
-use Rattle.ct_traverse.specs.declared.line.TLine.TheVariants as line
+use Rattle.ct_traverse_parts.specs.declared.line.Pass.TheVariants.{Copies, Entries}
+use Rattle.ct_traverse_parts.specs.declared.line.TLine.{TLine}
+use Rattle.ct_traverse_parts.specs.declared.line.TLine.TheVariants as line
 
 -- of two nodes node 1 writes a value, node 0 begins a traverse, and all its messages come, one after the other
 abbrev pub moves : List Move

@@ -12,7 +12,7 @@ use Rattle.ct_values.proofs.Words.{this_node_is}
 use Rattle.ct_frame.specs.declared.frame.Assigned.{Assigned}
 use Rattle.ct_lcp2.specs.Distance.{squared, sum_to, imbalance}
 use Rattle.ct_lcp2.specs.Best.{better, best_from, best}
-use Rattle.ct_lcp2.specs.Leavers.{AreLeavers, IsLeaver, address_at, blank, is_beaten, is_behind}
+use Rattle.ct_lcp2.specs.Leavers.{AreLeavers, IsLeaver, address_at, unplaced, is_beaten, is_behind}
 use Rattle.ct_lcp2.specs.Placing.{Ascend, held, places, places_at, others, may_fail_back, failbacks_of, failbacks, choice_before, source_before, source_of, sources, with_source}
 use Rattle.ct_lcp2.specs.declared.choice.Choice.{Choice}
 use Rattle.ct_lcp2.specs.declared.choice.Source.{Source}
@@ -122,7 +122,7 @@ address_more target here there xs ls i d b new whole t h m is k =
     by false e n = ap (λ c. best_from choice_before c rest) n ∙ sym (ap (λ u. best_from choice_before b (if u then back target here there a ∷ rest else rest)) e)
 
 -- the addresses at the node are listed: one more
-pub leaver_more : (s : ℕ) (xs : List Assigned) (i : ℕ) (ls more : List Leaver) (l : Leaver) → Ascend xs → i < length xs → is_this_node s (get_or xs i blank).node ≡ true → l.place ≡ i → more ≡ ls ++ l ∷ []
+pub leaver_more : (s : ℕ) (xs : List Assigned) (i : ℕ) (ls more : List Leaver) (l : Leaver) → Ascend xs → i < length xs → is_this_node s (get_or xs i unplaced).node ≡ true → l.place ≡ i → more ≡ ls ++ l ∷ []
     → map (λ x. address_at xs x.place) ls ++ held s (drop i xs) ≡ held s xs → map (λ x. address_at xs x.place) more ++ held s (drop (i + 1) xs) ≡ held s xs
 leaver_more s xs i ls more l asc h e p is k =
     let rest = held s (drop (suc i) xs) in
@@ -131,26 +131,26 @@ leaver_more s xs i ls more l asc h e p is k =
     ∙ ap (λ m. m ++ rest) (map-append (λ (x : Leaver). address_at xs x.place) ls (l ∷ []))
     ∙ append_assoc (map (λ (x : Leaver). address_at xs x.place) ls) (address_at xs l.place ∷ []) rest
     ∙ ap (λ j. map (λ (x : Leaver). address_at xs x.place) ls ++ address_at xs j ∷ rest) p
-    ∙ ap (λ m. map (λ (x : Leaver). address_at xs x.place) ls ++ m) (sym (held_at xs s i blank asc h e))
+    ∙ ap (λ m. map (λ (x : Leaver). address_at xs x.place) ls ++ m) (sym (held_at xs s i unplaced asc h e))
     ∙ k
 
 -- and one that is not at the node
-pub leaver_passed : (s : ℕ) (xs : List Assigned) (i : ℕ) (ls more : List Leaver) → i < length xs → is_this_node s (get_or xs i blank).node ≡ false → more ≡ ls
+pub leaver_passed : (s : ℕ) (xs : List Assigned) (i : ℕ) (ls more : List Leaver) → i < length xs → is_this_node s (get_or xs i unplaced).node ≡ false → more ≡ ls
     → map (λ x. address_at xs x.place) ls ++ held s (drop i xs) ≡ held s xs → map (λ x. address_at xs x.place) more ++ held s (drop (i + 1) xs) ≡ held s xs
 unfolding held
 leaver_passed s xs i ls more h e is k =
     ap (λ j. map (λ x. address_at xs x.place) more ++ held s (drop j xs)) (add-one i)
     ∙ ap (λ m. map (λ x. address_at xs x.place) m ++ held s (drop (suc i) xs)) is
     ∙ sym (ap (λ m. map (λ (x : Leaver). address_at xs x.place) ls ++ m)
-    (ap (held s) (drop-cons xs i blank h) ∙ ap (λ u. if u then (get_or xs i blank).address ∷ held s (drop (suc i) xs) else held s (drop (suc i) xs)) e))
+    (ap (held s) (drop-cons xs i unplaced h) ∙ ap (λ u. if u then (get_or xs i unplaced).address ∷ held s (drop (suc i) xs) else held s (drop (suc i) xs)) e))
     ∙ k
 
 -- what an address leaves behind
-pub leaver_at : (s : ℕ) (xs : List Assigned) (i own sum square : ℕ) → Ascend xs → i < length xs → is_this_node s (get_or xs i blank).node ≡ true
+pub leaver_at : (s : ℕ) (xs : List Assigned) (i own sum square : ℕ) → Ascend xs → i < length xs → is_this_node s (get_or xs i unplaced).node ≡ true
     → own ≡ sum - square → sum ≡ sum_to (address_at xs i) (held s xs) → square ≡ squared (address_at xs i) (address_at xs i) → IsLeaver (held s xs) xs (record { place = i; sum = own })
 leaver_at s xs i own sum square asc h e o f g =
-    let is = own_is xs s i blank asc h e own sum square o f g in
-    record { within = h; sum = is; without = ap (λ n. imbalance (others (address_at xs i) (held s xs)) + n) is ∙ left_at xs s i blank asc h e }
+    let is = own_is xs s i unplaced asc h e own sum square o f g in
+    record { within = h; sum = is; without = ap (λ n. imbalance (others (address_at xs i) (held s xs)) + n) is ∙ left_at xs s i unplaced asc h e }
 
 pub target_more : (source : ℕ) (targets : List Tally) (i : ℕ) (one : Tally) (xs : List Assigned) (b new whole : Option Choice) (t : Bool) → i < length targets → one ≡ get_or targets i one → nat_eq (one.node) source ≡ t
     → new ≡ (if t then b else best_from choice_before b (failbacks_of (one.node) (held source xs) (held (one.node) xs) (held source xs)))
@@ -184,28 +184,28 @@ places_more able i one xs b new whole h at is k =
     ∙ k
 
 -- one address more that may be placed, where it has no node
-pub place_added : (node : ℕ) (there : List Address) (xs : List Assigned) (i : ℕ) (b new whole : Option Choice) (sum : ℕ) (t : Bool) → i < length xs → is_some (get_or xs i blank).node ≡ t → sum ≡ sum_to (get_or xs i blank).address there
-    → new ≡ (if t then b else better choice_before b (record { sum = sum; address = (get_or xs i blank).address; node = node }))
+pub place_added : (node : ℕ) (there : List Address) (xs : List Assigned) (i : ℕ) (b new whole : Option Choice) (sum : ℕ) (t : Bool) → i < length xs → is_some (get_or xs i unplaced).node ≡ t → sum ≡ sum_to (get_or xs i unplaced).address there
+    → new ≡ (if t then b else better choice_before b (record { sum = sum; address = (get_or xs i unplaced).address; node = node }))
     → best_from choice_before b (places_at node there (drop i xs)) ≡ whole → best_from choice_before new (places_at node there (drop (i + 1) xs)) ≡ whole
 unfolding places_at best_from
 place_added node there xs i b new whole sum t h e s is k =
     ap (λ j. best_from choice_before new (places_at node there (drop j xs))) (add-one i)
     ∙ by t e is
-    ∙ ap (λ l. best_from choice_before b (places_at node there l)) (sym (drop-cons xs i blank h))
+    ∙ ap (λ l. best_from choice_before b (places_at node there l)) (sym (drop-cons xs i unplaced h))
     ∙ k
   where
     rest : List Choice
     rest = places_at node there (drop (suc i) xs)
 
     place : ℕ → Choice
-    place n = record { sum = n; address = (get_or xs i blank).address; node = node }
+    place n = record { sum = n; address = (get_or xs i unplaced).address; node = node }
 
-    by : (u : Bool) → is_some (get_or xs i blank).node ≡ u → new ≡ (if u then b else better choice_before b (place sum))
-        → best_from choice_before new rest ≡ best_from choice_before b (if is_some (get_or xs i blank).node then rest else place (sum_to (get_or xs i blank).address there) ∷ rest)
-    by true f n = ap (λ c. best_from choice_before c rest) n ∙ sym (ap (λ u. best_from choice_before b (if u then rest else place (sum_to (get_or xs i blank).address there) ∷ rest)) f)
+    by : (u : Bool) → is_some (get_or xs i unplaced).node ≡ u → new ≡ (if u then b else better choice_before b (place sum))
+        → best_from choice_before new rest ≡ best_from choice_before b (if is_some (get_or xs i unplaced).node then rest else place (sum_to (get_or xs i unplaced).address there) ∷ rest)
+    by true f n = ap (λ c. best_from choice_before c rest) n ∙ sym (ap (λ u. best_from choice_before b (if u then rest else place (sum_to (get_or xs i unplaced).address there) ∷ rest)) f)
     by false f n =
         ap (λ c. best_from choice_before c rest) n ∙ ap (λ m. best_from choice_before (better choice_before b (place m)) rest) s
-        ∙ sym (ap (λ u. best_from choice_before b (if u then rest else place (sum_to (get_or xs i blank).address there) ∷ rest)) f)
+        ∙ sym (ap (λ u. best_from choice_before b (if u then rest else place (sum_to (get_or xs i unplaced).address there) ∷ rest)) f)
 
 source_added : (node weight : ℕ) (o : Option Choice) (b : Option Source) → best_from source_before b (source_of node weight o) ≡ with_source node weight o b
 unfolding best_from

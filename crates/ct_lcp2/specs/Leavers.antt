@@ -11,12 +11,12 @@ use Rattle.ct_lcp2.specs.declared.choice.Source.{Source}
 use Rattle.ct_lcp2.specs.declared.leaver.Leaver.{Leaver}
 
 -- an address at no node
-abbrev pub blank : Assigned
-blank = record { address = V4 0; node = None }
+abbrev pub unplaced : Assigned
+unplaced = record { address = V4 0; node = None }
 
 -- the address at this place of a placement
 abbrev pub address_at : List Assigned → ℕ → Address
-address_at xs i = (get_or xs i blank).address
+address_at xs i = (get_or xs i unplaced).address
 
 -- Its place is one of the placement, its sum is the one to the others here, and by so much the imbalance falls without it.
 pub record IsLeaver (here : List Address) (xs : List Assigned) (l : Leaver) : Type 0 where

@@ -4,7 +4,7 @@ use Rattle.std.proofs.lemmas.Bool.Decides.{nat_tests}
 use Rattle.std.specs.List.{filter, range_with_len}
 use Rattle.std.specs.Prelude.{if◌then◌else◌, is_none, is_some, nat_eq, nat_le, nat_lt, not, ◌&&◌, ◌||◌, codes, option_map}
 use Rattle.std.specs.Str.{bytes_eq}
-use Rattle.ct_values.specs.Number.{number_of}
+use Rattle.ct_spelling.specs.Number.{number_of}
 use Rattle.ct_values.specs.Words.{is_nil}
 use Rattle.ct_values.specs.declared.address.Address.{Address}
 use Rattle.ct_lines.specs.Grammar.{words_of}

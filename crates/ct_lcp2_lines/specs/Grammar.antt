@@ -1,7 +1,7 @@
 -- The grammar of the lines that say nodes and addresses.
 use Rattle.std.specs.Prelude.{ℕ, if◌then◌else◌, List, [], ◌∷◌, codes, Option, None, Some, option_map}
 use Rattle.std.specs.Str.{bytes_eq}
-use Rattle.ct_values.specs.Number.{number_of}
+use Rattle.ct_spelling.specs.Number.{number_of}
 use Rattle.ct_values.specs.declared.address.Address.{Address}
 use Rattle.ct_lines.specs.Grammar.{words_of}
 use Rattle.ct_lines.specs.Words.{address_word, number_word, within}

@@ -11,11 +11,11 @@ use crate::placing::is_disabled;
 use ct_frame::frame::Assigned;
 use ct_lcp2::distance::imbalance;
 use ct_lcp2::placement::{Addresses, place};
+use ct_spelling::number::push_decimal;
 use ct_text::words::{push, push_number};
 use ct_values::address::{Address, push_address};
 use ct_values::items::Items;
 use ct_values::memory::NoMemory;
-use ct_values::number::push_decimal;
 use std::alloc::Global;
 
 /// The node comes behind the able ones, where it is not disabled.

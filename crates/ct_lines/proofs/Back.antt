@@ -4,8 +4,8 @@ use Rattle.std.specs.Fmt.{decimal}
 use Rattle.std.specs.List.{join_with_byte}
 use Rattle.std.specs.Prelude.{option_map}
 use Rattle.ct_values.specs.Address.{address_text}
-use Rattle.ct_values.specs.Number.{number_of}
-use Rattle.ct_values.specs.Spelling.{spelling}
+use Rattle.ct_spelling.specs.Number.{number_of}
+use Rattle.ct_spelling.specs.Spelling.{spelling}
 use Rattle.ct_rules_cluster.specs.declared.step.Step.{Step}
 use Rattle.ct_rules_cluster.specs.declared.step.Step.TheVariants as step
 use Rattle.ct_values.specs.declared.client.Pair.{Pair}

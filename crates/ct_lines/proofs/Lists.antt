@@ -5,7 +5,7 @@ use Rattle.std.proofs.lemmas.List.Splits.{join_with_byte-slice_split}
 use Rattle.std.specs.Fmt.{decimal}
 use Rattle.std.specs.List.{slice_split, join_with_byte}
 use Rattle.std.specs.Prelude.{nat_lt, ◌==◌}
-use Rattle.ct_values.specs.Spelling.{spelling}
+use Rattle.ct_spelling.specs.Spelling.{spelling}
 use Rattle.ct_frame.specs.Fields.{ascends, is_one_to_sixteen}
 use Rattle.ct_values.specs.declared.client.Pair.{Pair}
 use Rattle.ct_lines.specs.Words.{number_word, key_word, value_word, each_of, pair_from, pair_of, pair_word, pairs_of, in_order, if_in_order, numbers_of, members_word}

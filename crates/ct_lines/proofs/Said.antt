@@ -10,10 +10,10 @@ use Rattle.ct_values.specs.declared.address.Address.TheVariants.{V4, V6}
 use Rattle.ct_values.specs.Address.{address_of, address_text, IsAddress}
 use Rattle.ct_values.proofs.Reading.{read_back, read_only}
 use Rattle.ct_values.specs.Name.{bad_byte}
-use Rattle.ct_values.specs.Number.{number_of}
-use Rattle.ct_values.specs.Spelling.{spelling, unspelled}
-use Rattle.ct_values.proofs.Numbers.{number_only, number_back}
-use Rattle.ct_values.proofs.Spellings.{spelling-unspelled, unspelled-spelling}
+use Rattle.ct_spelling.specs.Number.{number_of}
+use Rattle.ct_spelling.specs.Spelling.{spelling, unspelled}
+use Rattle.ct_spelling.proofs.Numbers.{number_only, number_back}
+use Rattle.ct_spelling.proofs.Spellings.{spelling-unspelled, unspelled-spelling}
 use Rattle.ct_values.specs.declared.config.DbKind.{DbKind}
 use Rattle.ct_values.specs.declared.config.DbKind.TheVariants.{Volatile, ReadOnly, Persistent}
 use Rattle.ct_lines.specs.Words.{within, of_length, number_word, message_word, address_word, if_address, is_address, key_word, value_word, name_word, kind_word}

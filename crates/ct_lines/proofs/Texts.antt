@@ -11,10 +11,10 @@ use Rattle.ct_values.specs.declared.address.Address.{Address}
 use Rattle.ct_values.specs.declared.address.Address.TheVariants.{V4, V6}
 use Rattle.ct_values.specs.Address.{octets, groups, address_text}
 use Rattle.ct_values.specs.Name.{is_allowed, is_letter, is_name_byte, bad_from}
-use Rattle.ct_values.specs.Number.{IsDigit}
-use Rattle.ct_values.specs.Spelling.{AreBytes, IsWordByte, spelling}
-use Rattle.ct_values.proofs.Numbers.{decimal_digits}
-use Rattle.ct_values.proofs.Spellings.{spelling_word_bytes}
+use Rattle.ct_spelling.specs.Number.{IsDigit}
+use Rattle.ct_spelling.specs.Spelling.{AreBytes, IsWordByte, spelling}
+use Rattle.ct_spelling.proofs.Numbers.{decimal_digits}
+use Rattle.ct_spelling.proofs.Spellings.{spelling_word_bytes}
 use Rattle.ct_values.proofs.Addresses.{bytes_small, groups_small, below}
 
 -- none of these bytes is c

@@ -4,7 +4,7 @@ use Rattle.std.specs.Fmt.{decimal}
 use Rattle.std.specs.List.{All, join_with_byte}
 use Rattle.ct_values.specs.Address.{address_text, IsAddress}
 use Rattle.ct_values.specs.Name.{bad_byte}
-use Rattle.ct_values.specs.Spelling.{AreBytes, spelling}
+use Rattle.ct_spelling.specs.Spelling.{AreBytes, spelling}
 use Rattle.ct_rules_cluster.specs.declared.step.Step.{Step}
 use Rattle.ct_rules_cluster.specs.declared.step.Step.TheVariants as step
 use Rattle.ct_frame.specs.Fields.{ascends}

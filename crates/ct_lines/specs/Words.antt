@@ -6,8 +6,8 @@ use Rattle.ct_values.specs.declared.address.Address.{Address}
 use Rattle.ct_values.specs.declared.address.Address.TheVariants.{V4, V6}
 use Rattle.ct_values.specs.Address.{address_of}
 use Rattle.ct_values.specs.Name.{bad_byte}
-use Rattle.ct_values.specs.Number.{number_of}
-use Rattle.ct_values.specs.Spelling.{unspelled}
+use Rattle.ct_spelling.specs.Number.{number_of}
+use Rattle.ct_spelling.specs.Spelling.{unspelled}
 use Rattle.ct_frame.specs.Fields.{ascends, is_one_to_sixteen}
 use Rattle.ct_values.specs.declared.client.Pair.{Pair}
 use Rattle.ct_values.specs.declared.config.DbKind.{DbKind}

@@ -2,19 +2,19 @@
 ghost use Rattle.std.specs.Prelude.{◌≡◌, ◌++◌, ◌∷◌, [], IfOk, OnOk, codes, map};
 ghost use Rattle.std.specs.Fmt.{decimal};
 ghost use Rattle.std.specs.List.{join_with_byte};
-ghost use Rattle.ct_values.specs.Spelling.{spelling};
+ghost use Rattle.ct_spelling.specs.Spelling.{spelling};
 ghost use Rattle.ct_lines.specs.Spelled.{command_words, config_words, kind_text, members_text, op_text, op_words, pair_text, show_command_words, spelled_line, step_command_words, step_words, traverse_words};
 
 use crate::line::{
     Command, ConfigLine, NamedOp, ScenarioLine, ShowCommand, StepCommand, TraverseLine,
 };
 use ct_rules_cluster::step::Step;
+use ct_spelling::number::push_decimal;
+use ct_spelling::spelling::push_spelling;
 use ct_values::address::push_address;
 use ct_values::client::Pair;
 use ct_values::config::DbKind;
 use ct_values::memory::NoMemory;
-use ct_values::number::push_decimal;
-use ct_values::spelling::push_spelling;
 use std::alloc::Global;
 
 fn push_word(text: &mut Vec<u8>, word: &[u8]) -> Result<(), NoMemory>

@@ -2,13 +2,15 @@
 ghost use Rattle.std.specs.Prelude.{◌≡◌, ◌==◌, ◌<◌, ◌≤◌, ◌^◌, IfOk, map};
 ghost use Rattle.std.specs.List.{slice_split};
 ghost use Rattle.std.specs.Str.{bytes_eq};
-ghost use Rattle.ct_values.specs.Number.{number_of};
-ghost use Rattle.ct_values.specs.Spelling.{unspelled};
+ghost use Rattle.ct_spelling.specs.Number.{number_of};
+ghost use Rattle.ct_spelling.specs.Spelling.{unspelled};
 ghost use Rattle.ct_lines.specs.Reading.{Reads, ReadsBytes};
 ghost use Rattle.ct_lines.specs.Words.{address_word, each_of, in_order, key_word, kind_word, message_word, name_word, number_word, numbers_of, members_word, pair_of, pair_word, pairs_of, value_word, within};
 
 use crate::line::WordFault;
 use ct_frame::order::ascends;
+use ct_spelling::number::parse_decimal;
+use ct_spelling::spelling::{SpellFault, unspell};
 use ct_values::address::Address;
 use ct_values::client::Pair;
 use ct_values::config::DbKind;
@@ -16,8 +18,6 @@ use ct_values::items::Items;
 use ct_values::key::Key;
 use ct_values::memory::{BytesFault, NoMemory};
 use ct_values::name::DbName;
-use ct_values::number::parse_decimal;
-use ct_values::spelling::{SpellFault, unspell};
 use ct_values::value::Value;
 use std::alloc::Global;
 

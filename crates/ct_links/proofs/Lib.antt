@@ -1,3 +1,4 @@
 pub mod Steps
 pub mod Handing
 pub mod Passing
+pub mod Joining

@@ -3,3 +3,4 @@ pub mod Boxes
 pub mod Hub
 pub mod Lanes
 pub mod Streams
+pub mod Meshes

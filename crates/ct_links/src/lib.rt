@@ -5,6 +5,8 @@
 //!
 //! The link of a node over streams that do not block, as TCP's are: one stream for each other node, and a queue for what
 //! the node sends to itself.
+//!
+//! A mesh: each of so many nodes has streams over this machine to all others.
 #![tactic(auto)]
 
 pub mod book;
@@ -12,4 +14,5 @@ pub mod boxes;
 pub mod hub;
 mod lanes;
 pub mod link;
+pub mod mesh;
 pub mod seats;

@@ -1,4 +1,3 @@
 pub mod Keys
 pub mod Beside
-pub mod Lengths
 pub mod Sending

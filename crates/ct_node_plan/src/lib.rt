@@ -1,10 +1,9 @@
-//! A step of a node as a plan: what it changes and does, as it is planned before anything changes, and how it is then done.
+//! A step of a node as a plan: what it changes and does, as it is planned before anything changes.
 //!
 //! Messages to several nodes, behind what is done before.
 #![tactic(auto)]
 
 pub mod change;
-pub mod commit;
 pub mod plans;
 pub mod posts;
 pub mod record;

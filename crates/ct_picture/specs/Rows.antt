@@ -2,7 +2,7 @@
 use Rattle.std.specs.Prelude.{ℕ, ◌&&◌, ◌||◌, ◌==◌, nat_le, nat_lt, Bool, if◌then◌else◌, List, [], ◌++◌, codes, slice_get, Option, None, Some}
 use Rattle.std.specs.List.{list_all, list_any, slice_split}
 use Rattle.std.specs.Str.{bytes_eq}
-use Rattle.ct_values.specs.Number.{number_of}
+use Rattle.ct_spelling.specs.Number.{number_of}
 use Rattle.ct_picture.specs.declared.row.Look.{Look}
 use Rattle.ct_picture.specs.declared.row.Look.TheVariants as look
 use Rattle.ct_picture.specs.declared.row.Row.{Row}

@@ -8,9 +8,9 @@ ghost use Rattle.ct_picture.specs.Drawing.{aside, back_of, begun, behind_comma, 
 
 use crate::row::{Look, Row, RowKind, copy_of, push};
 use crate::shape::{Group, Hand, Lane, Picture, Shape, Tip};
+use ct_spelling::number::push_decimal;
 use ct_values::items::Items;
 use ct_values::memory::NoMemory;
-use ct_values::number::push_decimal;
 use std::alloc::Global;
 
 /// Where the lifeline of a node stands.

@@ -4,9 +4,9 @@ ghost use Rattle.std.specs.List.{list_all, list_any, slice_split};
 ghost use Rattle.std.specs.Str.{bytes_eq};
 ghost use Rattle.ct_picture.specs.Rows.{at_node, if_node, installed, is_at_first, is_at_second, is_beside, has_sign, is_count, is_of_addresses, is_of_commit, is_of_copies, is_of_record, is_of_round, is_of_traverse, is_message, is_printed, is_shown, kind_of, label_of, look_of, node_at, number_at, or_empty, row_of, sent, sent_label, started, stopped, where_number, word_at, words_of};
 
+use ct_spelling::number::parse_decimal;
 use ct_values::items::Items;
 use ct_values::memory::NoMemory;
-use ct_values::number::parse_decimal;
 use std::alloc::Global;
 
 /// What a message is of, which its colour tells.

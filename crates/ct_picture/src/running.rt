@@ -11,8 +11,8 @@ use crate::svg::svg_of;
 use ct_outside::fault::SinkFault;
 use ct_outside::sink::{Sink, write_all};
 use ct_outside::source::Source;
+use ct_spelling::number::push_decimal;
 use ct_values::memory::NoMemory;
-use ct_values::number::push_decimal;
 use std::alloc::Global;
 
 /// How it ends. A line is told by its number, counted from 1.

@@ -7,8 +7,8 @@ ghost use Rattle.ct_picture.specs.Svg.{class_of, cross_marker, cross_path, look_
 
 use crate::row::{Look, push};
 use crate::shape::{Group, Hand, Picture, Shape, Tip};
+use ct_spelling::number::push_decimal;
 use ct_values::memory::NoMemory;
-use ct_values::number::push_decimal;
 use std::alloc::Global;
 
 fn push_byte(text: &mut Vec<u8>, b: u8) -> Result<(), NoMemory>

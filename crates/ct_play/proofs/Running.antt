@@ -13,10 +13,10 @@ use Rattle.ct_rules_cluster.specs.declared.step.Step.TheVariants as step
 use Rattle.ct_rules_cluster.specs.declared.step.StepFault.{StepFault}
 use Rattle.ct_mail.specs.Mail.{next_waiting}
 use Rattle.ct_traverse.specs.Moves.{Move, Stepped as Took, Begin, Carry, Lose, Again, Moved, and_more, going_on, moves_ran, stepped_by, walked_by, walked_or}
-use Rattle.ct_traverse.specs.Posts.{next_waiting as next_post}
+use Rattle.ct_traverse_parts.specs.Posts.{next_waiting as next_post}
 use Rattle.ct_traverse.specs.Walk.{Walk, Walked, begun, carried, lost, repeated}
-use Rattle.ct_traverse.specs.declared.line.TFault.{TFault}
-use Rattle.ct_traverse.specs.declared.line.TLine.{TLine}
+use Rattle.ct_traverse_parts.specs.declared.line.TFault.{TFault}
+use Rattle.ct_traverse_parts.specs.declared.line.TLine.{TLine}
 use Rattle.ct_traverse.proofs.Moving.{moves_append}
 use Rattle.ct_values.specs.declared.config.Config.{Config}
 use Rattle.ct_world.specs.World.{World}

@@ -5,7 +5,7 @@ use Rattle.ct_rules_cluster.specs.declared.step.Line.{Line}
 use Rattle.ct_rules_cluster.specs.declared.step.Step.{Step}
 use Rattle.ct_traverse.specs.Moves.{Move, steps_in}
 use Rattle.ct_traverse.specs.Walk.{Walk}
-use Rattle.ct_traverse.specs.declared.line.TLine.{TLine}
+use Rattle.ct_traverse_parts.specs.declared.line.TLine.{TLine}
 use Rattle.ct_world.specs.World.{World}
 use Rattle.ct_play.specs.declared.what.PlayFault.{PlayFault}
 use Rattle.ct_play.specs.declared.what.PlayFault.TheVariants.{Refused, NoMemory}

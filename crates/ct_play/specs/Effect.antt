@@ -17,11 +17,11 @@ use Rattle.ct_text_commands.specs.Command.{command_text}
 use Rattle.ct_text_commands.specs.declared.command.TextFault.{TextFault}
 use Rattle.ct_text_commands.specs.declared.command.TextFault.TheVariants as untold
 use Rattle.ct_traverse.specs.Moves.{Move, Stepped as Took, Begin, Carry, Lose, Again, going_on}
-use Rattle.ct_traverse.specs.Posts.{next_waiting as next_post}
+use Rattle.ct_traverse_parts.specs.Posts.{next_waiting as next_post}
 use Rattle.ct_traverse.specs.Walk.{Walk, Walked, begun, carried, lost, repeated}
-use Rattle.ct_traverse.specs.declared.line.TFault.{TFault}
-use Rattle.ct_traverse.specs.declared.line.TFault.TheVariants as unmoved
-use Rattle.ct_traverse.specs.declared.line.TLine.{TLine}
+use Rattle.ct_traverse_parts.specs.declared.line.TFault.{TFault}
+use Rattle.ct_traverse_parts.specs.declared.line.TFault.TheVariants as unmoved
+use Rattle.ct_traverse_parts.specs.declared.line.TLine.{TLine}
 use Rattle.ct_lines.specs.declared.line.Command.{Command}
 use Rattle.ct_lines.specs.declared.line.Command.TheVariants.{Shows, Steps, CatDb}
 use Rattle.ct_lines.specs.declared.line.ScenarioLine.{ScenarioLine}
@@ -32,7 +32,7 @@ use Rattle.ct_lines.specs.declared.line.TraverseLine.{TraverseLine}
 use Rattle.ct_lines.specs.declared.line.TraverseLine.TheVariants as traverse
 use Rattle.ct_values.specs.declared.config.Config.{Config}
 use Rattle.ct_text.specs.Line.{line_text}
-use Rattle.ct_traverse.specs.Text.{traverse_text}
+use Rattle.ct_traverse_parts.specs.Text.{traverse_text}
 use Rattle.ct_world.specs.World.{World}
 use Rattle.ct_play.specs.Course.{Effect, still, up_to}
 use Rattle.ct_named.specs.Named.{command_step, named_step, number_in_step}

@@ -11,7 +11,7 @@ use Rattle.ct_lines.specs.declared.line.LineKind.TheVariants.{Long, Words}
 use Rattle.ct_lines.specs.declared.line.ScenarioLine.{ScenarioLine}
 use Rattle.ct_lines.specs.declared.line.ScenarioLine.TheVariants as item
 use Rattle.ct_text.specs.Line.{pending_text}
-use Rattle.ct_traverse.specs.Text.{pending_traverse_text}
+use Rattle.ct_traverse_parts.specs.Text.{pending_traverse_text}
 use Rattle.ct_world.specs.World.{World}
 use Rattle.ct_play.specs.Course.{Deed, Effect}
 use Rattle.ct_play.specs.Effect.{line_effect}

@@ -10,11 +10,11 @@ use Rattle.ct_values.specs.declared.address.Address.{Address}
 use Rattle.ct_values.specs.declared.address.Address.TheVariants.{V4, V6}
 use Rattle.ct_values.specs.Address.{octets, groups, address_text}
 use Rattle.ct_values.specs.Name.{is_allowed, is_letter, is_name_byte, bad_from}
-use Rattle.ct_values.specs.Spelling.{AreBytes, IsWordByte, spelling}
+use Rattle.ct_spelling.specs.Spelling.{AreBytes, IsWordByte, spelling}
 use Rattle.ct_values.specs.declared.client.Pair.{Pair}
 use Rattle.ct_values.specs.declared.config.DbKind.{DbKind}
 use Rattle.ct_values.specs.declared.config.DbKind.TheVariants.{Volatile, ReadOnly, Persistent}
-use Rattle.ct_values.proofs.Spellings.{spelling_word_bytes}
+use Rattle.ct_spelling.proofs.Spellings.{spelling_word_bytes}
 use Rattle.ct_values.proofs.Addresses.{bytes_small, groups_small, below}
 use Rattle.ct_rules_cluster.specs.declared.step.Step.{Step}
 use Rattle.ct_rules_cluster.specs.declared.step.Step.TheVariants as step

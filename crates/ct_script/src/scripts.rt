@@ -6,13 +6,13 @@ ghost use Rattle.ct_script.specs.Scripts.{asked_by, asked_db, asked_key, asked_k
 ghost use Rattle.ct_script.specs.Sound.{IsSound};
 
 use ct_frame::plan::{Plan, PlanItem};
+use ct_spelling::number::push_decimal;
 use ct_values::client::{ClientOp, Pair};
 use ct_values::config::Config;
 use ct_values::generated::generated_config;
 use ct_values::items::Items;
 use ct_values::key::Key;
 use ct_values::memory::NoMemory;
-use ct_values::number::push_decimal;
 use ct_values::value::Value;
 use rand_core::utils::NextWord;
 use rand_pcg::Lcg64Xsh32;

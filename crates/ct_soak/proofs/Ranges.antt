@@ -6,7 +6,7 @@ use Rattle.std.proofs.lemmas.List.Elements.{All-from_recursion}
 use Rattle.std.specs.Fmt.{decimal}
 use Rattle.std.specs.List.{AllByRecursion}
 use Rattle.std.specs.Prelude.{if◌then◌else◌, ◌||◌, codes}
-use Rattle.ct_values.proofs.Numbers.{decimal_digits}
+use Rattle.ct_spelling.proofs.Numbers.{decimal_digits}
 use Rattle.ct_frame.specs.Fields.{ascends}
 use Rattle.ct_lines.specs.Spelled.{IsInRange, IsKey, IsMessage, IsName, IsPair, IsSmall, IsValue, ArePairs, AreMembers}
 use Rattle.ct_lines.specs.declared.line.ScenarioLine.{ScenarioLine}

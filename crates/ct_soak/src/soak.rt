@@ -9,12 +9,12 @@ ghost use Rattle.ct_soak.specs.Soak.{IsView, call, commit_line, is_first, key_in
 
 use ct_lines::line::{Command, NamedOp, ScenarioLine, StepCommand};
 use ct_rules_cluster::step::Step;
+use ct_spelling::number::push_decimal;
 use ct_values::client::Pair;
 use ct_values::items::Items;
 use ct_values::key::Key;
 use ct_values::memory::{BytesFault, NoMemory};
 use ct_values::name::DbName;
-use ct_values::number::push_decimal;
 use ct_values::value::Value;
 use std::alloc::Global;
 

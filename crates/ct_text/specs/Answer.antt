@@ -1,7 +1,7 @@
 -- The text of an answer.
 use Rattle.std.specs.Prelude.{ℕ, List, ◌++◌, codes}
 use Rattle.std.specs.Fmt.{decimal}
-use Rattle.ct_values.specs.Spelling.{spelling}
+use Rattle.ct_spelling.specs.Spelling.{spelling}
 use Rattle.ct_values.specs.declared.client.Answer.{Answer}
 use Rattle.ct_values.specs.declared.client.Answer.TheVariants as answer
 use Rattle.ct_values.specs.declared.client.Why.{Why}

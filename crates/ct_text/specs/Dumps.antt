@@ -2,7 +2,7 @@
 use Rattle.std.specs.Prelude.{ℕ, List, ◌++◌, length, codes}
 use Rattle.std.specs.Fmt.{decimal}
 use Rattle.std.specs.List.{flat_map}
-use Rattle.ct_values.specs.Spelling.{spelling}
+use Rattle.ct_spelling.specs.Spelling.{spelling}
 use Rattle.ct_values.specs.declared.client.Pair.{Pair}
 use Rattle.ct_frame.specs.declared.header.RecCopy.{RecCopy}
 

@@ -2,7 +2,7 @@
 use Rattle.std.specs.Prelude.{ℕ, ◌+◌, List, [], ◌∷◌, ◌++◌, length, codes}
 use Rattle.std.specs.Fmt.{decimal}
 use Rattle.ct_values.specs.Address.{address_text}
-use Rattle.ct_values.specs.Spelling.{spelling}
+use Rattle.ct_spelling.specs.Spelling.{spelling}
 use Rattle.ct_values.specs.declared.config.Config.{Config}
 use Rattle.ct_frame.specs.declared.frame.CallKind.{CallKind}
 use Rattle.ct_frame.specs.declared.frame.CallKind.TheVariants as kind

@@ -1,7 +1,7 @@
 //! The text of a message between nodes.
 ghost use Rattle.std.specs.Prelude.{◌≡◌, ◌++◌, codes, length, IfOk, OnOk};
 ghost use Rattle.std.specs.Fmt.{decimal};
-ghost use Rattle.ct_values.specs.Spelling.{spelling};
+ghost use Rattle.ct_spelling.specs.Spelling.{spelling};
 ghost use Rattle.ct_rules_node.specs.Node.{name_of};
 ghost use Rattle.ct_text.specs.Message.{counts_text, kind_text, message_text, pairs_in, rsn_text};
 ghost use Rattle.ct_text.specs.Words.{items_text};

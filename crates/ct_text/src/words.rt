@@ -2,17 +2,17 @@
 ghost use Rattle.std.specs.Prelude.{◌≡◌, ◌++◌, OnOk};
 ghost use Rattle.std.specs.Fmt.{decimal};
 ghost use Rattle.ct_values.specs.Address.{address_text};
-ghost use Rattle.ct_values.specs.Spelling.{spelling};
+ghost use Rattle.ct_spelling.specs.Spelling.{spelling};
 ghost use Rattle.ct_text.specs.Words.{assigned_text, items_text, more_items, node_text, record_text};
 
 use ct_frame::frame::Assigned;
 use ct_node_state::kinds::name_of;
+use ct_spelling::number::push_decimal;
+use ct_spelling::spelling::push_spelling;
 use ct_values::address::{Address, push_address};
 use ct_values::config::Config;
 use ct_values::key::Key;
 use ct_values::memory::NoMemory;
-use ct_values::number::push_decimal;
-use ct_values::spelling::push_spelling;
 
 /// A piece of text.
 pub fn push(text: &mut Vec<u8>, more: &[u8]) -> Result<(), NoMemory>

@@ -8,11 +8,11 @@ ghost use Rattle.ct_text_commands.specs.Status.{current_text, generation_text, l
 use crate::lines::push_number_line;
 use ct_frame::frame::Assigned;
 use ct_node_state::placing::holder_in;
+use ct_spelling::number::push_decimal;
 use ct_text::words::{push, push_number};
 use ct_values::address::{Address, push_address};
 use ct_values::config::Config;
 use ct_values::memory::NoMemory;
-use ct_values::number::push_decimal;
 
 /// The number of a node.
 pub(crate) fn push_pnn(text: &mut Vec<u8>, node: u32) -> Result<(), NoMemory>

@@ -4,15 +4,15 @@ use Rattle.std.specs.Prelude.{Ok, Err, is_none, nat_eq, nat_lt, slice_get, slice
 use Rattle.std.specs.List.{remove}
 use Rattle.std.proofs.lemmas.Bool.{and_parts, cond_both}
 use Rattle.ct_mail.specs.declared.sent.Fate.TheVariants.{Dropped}
-use Rattle.ct_traverse.specs.Posts.{before_waiting, is_waiting, numbered, ended_as, waits}
+use Rattle.ct_traverse_parts.specs.Posts.{before_waiting, is_waiting, numbered, ended_as, waits}
 use Rattle.ct_frame.specs.declared.frame.TableRow.{TableRow}
 use Rattle.ct_rules_node.specs.Node.{is_present_in, is_serving, kind_at}
 use Rattle.ct_rules_cluster.specs.Cluster.{is_up, node_at}
 use Rattle.ct_world.specs.World.{World}
 use Rattle.ct_traverse.specs.Walk.{Walk, begin_fault, is_taken, is_there, lost, lost_of, questions, told}
-use Rattle.ct_traverse.specs.declared.line.Pass.{Pass}
-use Rattle.ct_traverse.specs.declared.line.TFault.TheVariants as fault
-use Rattle.ct_traverse.specs.declared.post.Post.{Post}
+use Rattle.ct_traverse_parts.specs.declared.line.Pass.{Pass}
+use Rattle.ct_traverse_parts.specs.declared.line.TFault.TheVariants as fault
+use Rattle.ct_traverse_parts.specs.declared.post.Post.{Post}
 use Rattle.ct_traverse.specs.declared.traverse.Traverse.{Traverse}
 
 -- questions wait

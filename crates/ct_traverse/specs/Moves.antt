@@ -8,8 +8,8 @@ use Rattle.ct_rules_cluster.specs.Traces.{OpenCall, Ran, after, idle, ran_one}
 use Rattle.ct_rules_cluster.specs.declared.step.Step.{Step}
 use Rattle.ct_world.specs.World.{World}
 use Rattle.ct_traverse.specs.Walk.{Walk, Walked, begun, carried, end_lines, goes_on, lost, repeated}
-use Rattle.ct_traverse.specs.declared.line.TFault.{TFault}
-use Rattle.ct_traverse.specs.declared.line.TLine.{TLine}
+use Rattle.ct_traverse_parts.specs.declared.line.TFault.{TFault}
+use Rattle.ct_traverse_parts.specs.declared.line.TLine.{TLine}
 
 -- a step of the cluster; or a node begins a traverse of a database, or a message of this number comes, is lost, or comes again
 pub data Move : Type 0 where

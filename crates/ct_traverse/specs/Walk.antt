@@ -9,16 +9,16 @@ use Rattle.ct_rules_node.specs.Node.{Node, db_at, is_among, is_present_in, is_se
 use Rattle.ct_rules_node.specs.Rounds.{rows_of}
 use Rattle.ct_rules_cluster.specs.Cluster.{is_up, node_at}
 use Rattle.ct_world.specs.World.{World}
-use Rattle.ct_traverse.specs.Best.{gathered, shown}
-use Rattle.ct_traverse.specs.Posts.{ended_as, is_delivered, is_waiting, numbered}
-use Rattle.ct_traverse.specs.declared.line.Pass.{Pass}
-use Rattle.ct_traverse.specs.declared.line.Pass.TheVariants.{Copies, Entries}
-use Rattle.ct_traverse.specs.declared.line.TFault.{TFault}
-use Rattle.ct_traverse.specs.declared.line.TFault.TheVariants as fault
-use Rattle.ct_traverse.specs.declared.line.TLine.{TLine}
-use Rattle.ct_traverse.specs.declared.line.TLine.TheVariants as line
-use Rattle.ct_traverse.specs.declared.line.TPending.{TPending}
-use Rattle.ct_traverse.specs.declared.post.Post.{Post}
+use Rattle.ct_traverse_parts.specs.Best.{gathered, shown}
+use Rattle.ct_traverse_parts.specs.Posts.{ended_as, is_delivered, is_waiting, numbered}
+use Rattle.ct_traverse_parts.specs.declared.line.Pass.{Pass}
+use Rattle.ct_traverse_parts.specs.declared.line.Pass.TheVariants.{Copies, Entries}
+use Rattle.ct_traverse_parts.specs.declared.line.TFault.{TFault}
+use Rattle.ct_traverse_parts.specs.declared.line.TFault.TheVariants as fault
+use Rattle.ct_traverse_parts.specs.declared.line.TLine.{TLine}
+use Rattle.ct_traverse_parts.specs.declared.line.TLine.TheVariants as line
+use Rattle.ct_traverse_parts.specs.declared.line.TPending.{TPending}
+use Rattle.ct_traverse_parts.specs.declared.post.Post.{Post}
 use Rattle.ct_traverse.specs.declared.traverse.Traverse.{Traverse}
 
 -- the number of the last traverse that was begun; those that have neither ended nor were answered, by number; all messages

@@ -1,17 +1,17 @@
 //! One traverse that goes on.
 ghost use Rattle.std.specs.Prelude.{◌≡◌, ◌∷◌, [], ◌≤◌, ◌+◌, ◌^◌, IfOk, OnOk, OnErr, length};
-ghost use Rattle.ct_traverse.specs.declared.line.Pass.TheVariants as passes;
-ghost use Rattle.ct_traverse.specs.declared.line.TLine.TheVariants as line;
-ghost use Rattle.ct_traverse.specs.Best.{gathered, shown};
+ghost use Rattle.ct_traverse_parts.specs.declared.line.Pass.TheVariants as passes;
+ghost use Rattle.ct_traverse_parts.specs.declared.line.TLine.TheVariants as line;
+ghost use Rattle.ct_traverse_parts.specs.Best.{gathered, shown};
 ghost use Rattle.ct_traverse.specs.Walk.{ask_lines, asks, counts, is_same_pass, pending_one, question, question_lines, questions, second_pass, without_member};
 
-use crate::best::{Best, answer, gather};
-use crate::kept::Kept;
-use crate::line::{Pass, TLine, TPending};
-use crate::post::Post;
-use crate::rows::Row;
 use ct_lead::runs::is_among;
 use ct_mail::sent::Fate;
+use ct_traverse_parts::best::{Best, answer, gather};
+use ct_traverse_parts::kept::Kept;
+use ct_traverse_parts::line::{Pass, TLine, TPending};
+use ct_traverse_parts::post::Post;
+use ct_traverse_parts::rows::Row;
 use ct_values::items::Items;
 use ct_values::memory::NoMemory;
 use std::alloc::Global;

@@ -1,5 +1,4 @@
 pub mod Leaving
-pub mod Joining
 pub mod Serving
 pub mod Seating
 pub mod Settling

@@ -1,5 +1,4 @@
 pub mod Meshed
-pub mod Meshes
 pub mod Seated
 pub mod Threaded
 pub mod Threads

@@ -6,8 +6,8 @@ use Rattle.ct_frame.specs.declared.plan.Plan.{Plan}
 use Rattle.ct_links.specs.declared.link.LinkTally.{LinkTally}
 use Rattle.ct_troupe_threads.specs.Threaded.{HasServed}
 use Rattle.ct_troupe_threads.specs.declared.node.NodeEnd.{NodeEnd}
-use Rattle.ct_troupe_threads.specs.declared.mesh.MeshFault.{MeshFault}
-use Rattle.ct_troupe_threads.specs.declared.mesh.MeshFault.TheVariants as mesh
+use Rattle.ct_links.specs.declared.mesh.MeshFault.{MeshFault}
+use Rattle.ct_links.specs.declared.mesh.MeshFault.TheVariants as mesh
 use Rattle.ct_troupe.specs.declared.troupe.PlayFault.{PlayFault}
 use Rattle.ct_troupe.specs.declared.troupe.PlayFault.TheVariants as fault
 

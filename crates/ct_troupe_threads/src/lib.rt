@@ -10,8 +10,6 @@
 //! let journals = threads.journals();
 //! ```
 //!
-//! Nodes that are joined by TCP over this machine: a stream between each two of them.
-//!
 //! A plan is played by nodes that are joined by TCP over this machine, with a thread for each of them.
 //!
 //! ```
@@ -36,7 +34,6 @@ pub mod column_threads;
 pub mod gate;
 pub mod last_play;
 pub mod loopback;
-pub mod mesh;
 pub mod meshed;
 mod node;
 mod seated;

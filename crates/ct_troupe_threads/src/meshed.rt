@@ -8,13 +8,13 @@ ghost use Rattle.ct_troupe_threads.specs.Threaded.{served};
 ghost use Rattle.ct_troupe.specs.Played.{ArePlayed};
 ghost use Rattle.ct_troupe.specs.declared.troupe.PlayFault.TheVariants as fault;
 
-use crate::mesh::{MeshFault, mesh};
 use crate::node::{NodeEnd, serve_over};
 use ct_call::table::CallTable;
 use ct_frame::plan::Plan;
 use ct_journal::journal::Journal;
 use ct_journal_order::order::in_order;
 use ct_links::link::{LinkTally, Peer};
+use ct_links::mesh::{MeshFault, mesh};
 use ct_links::seats::LockBook;
 use ct_troupe::troupe::PlayFault;
 use ct_values::memory::NoMemory;
@@ -78,7 +78,7 @@ fn joining_fault(fault: MeshFault) -> PlayFault
 }
 
 /// Joins the nodes of the plan: for each node the streams to all others. `Link` where the system would not join them.
-#[tactic(auto, using(crate::proofs::Joining::count_joined))]
+#[tactic(auto, using(ct_links::proofs::Joining::count_joined))]
 pub fn join_nodes<R: Net<Listener = TcpListener, Stream = TcpStream>>(
     rt: &R,
     alloc: Global,

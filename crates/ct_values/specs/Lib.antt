@@ -3,8 +3,6 @@ pub mod Hash
 pub mod Key
 pub mod Lending
 pub mod Name
-pub mod Number
-pub mod Spelling
 pub mod Words
 pub mod Client
 pub mod Config

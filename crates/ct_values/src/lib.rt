@@ -1,6 +1,6 @@
 //! Plain values: bytes, keys, names, addresses and lists; what a cluster is made of, what clients ask and are answered.
 //!
-//! Plain bytes: keys, values, names and addresses, their spelling, the hash, lists of nodes, and lists as contracts see them.
+//! Plain bytes: keys, values, names and addresses, the hash, lists of nodes, and lists as contracts see them.
 //!
 //! Plain values: what a cluster is made of, what clients ask and what they are answered.
 //!
@@ -20,7 +20,5 @@ pub mod map;
 pub mod memory;
 pub mod name;
 pub mod nodes;
-pub mod number;
 mod same;
-pub mod spelling;
 pub mod value;

@@ -12,8 +12,8 @@
 ghost use Rattle.std.specs.Prelude.{◌≤◌};
 
 use anyhow::{Context, Result, bail, ensure};
-use ct_frame::fields::well_formed;
 use ct_frame::frame::Frame;
+use ct_frame_fields::fields::well_formed;
 use ct_wire::decode::{WireFault, decode};
 use ct_wire::decoder::Decoder;
 use ct_wire::encode::{Encoder, encode};

@@ -1,6 +1,6 @@
 //! Reads or writes the frame that a line spells in hexadecimal, many times, and counts its bytes.
 use anyhow::{Result, bail, ensure};
-use ct_frame::fields::well_formed;
+use ct_frame_fields::fields::well_formed;
 use ct_wire::decode::decode;
 use ct_wire::encode::encode;
 use std::alloc::Global;

@@ -15,7 +15,7 @@ use Rattle.clap.specs.Words.{subcommand_of}
 use Rattle.clap.specs.declared.error.kind.ErrorKind.{ErrorKind}
 use Rattle.clap.specs.declared.error.kind.ErrorKind.TheVariants as kind
 use Rattle.clap.proofs.OnLiterals.{clap_on_literals}
-use Rattle.ct_values.specs.Number.{number_of}
+use Rattle.ct_spelling.specs.Number.{number_of}
 use Rattle.ct_words.specs.Command as command
 use Rattle.ct_words.specs.Matched.{bus_in, chains_in, matched, plan_in, soak_in}
 use Rattle.ct_words.specs.Reading.{IsRanged, Reads, alone, bus, bus_numbers, bus_numbers_of, chain_numbers, chain_numbers_of, chains, numbers, numbers_of, plan, reading, soak, soak_of, without_dashes}

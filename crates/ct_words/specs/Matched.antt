@@ -3,7 +3,7 @@ use Rattle.std.specs.Prelude.{if◌then◌else◌, List, codes, Option, None, So
 use Rattle.std.specs.Option.{option_map}
 use Rattle.std.specs.Str.{bytes_eq}
 use Rattle.clap.specs.Words.{Row, Text, first_of}
-use Rattle.ct_values.specs.Number.{number_of}
+use Rattle.ct_spelling.specs.Number.{number_of}
 use Rattle.ct_words.specs.Reading.{bus_numbers_of, chain_numbers_of, numbers_of, soak_of}
 use Rattle.ct_words.specs.declared.words.BusNumbers.{BusNumbers}
 use Rattle.ct_words.specs.declared.words.ChainNumbers.{ChainNumbers}

@@ -2,7 +2,7 @@
 use Rattle.std.specs.Prelude.{◌≡◌, ◌≤◌, ℕ, nat_le, ◌&&◌, if◌then◌else◌, List, [], ◌∷◌, codes, Option, None, Some, Result, Ok, Err}
 use Rattle.std.specs.Option.{option_map}
 use Rattle.std.specs.Str.{bytes_eq}
-use Rattle.ct_values.specs.Number.{number_of}
+use Rattle.ct_spelling.specs.Number.{number_of}
 use Rattle.ct_words.specs.declared.words.BusNumbers.{BusNumbers}
 use Rattle.ct_words.specs.declared.words.ChainNumbers.{ChainNumbers}
 use Rattle.ct_words.specs.declared.words.PlanNumbers.{PlanNumbers}

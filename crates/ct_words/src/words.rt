@@ -1,15 +1,15 @@
 //! The program's words, and what they ask for.
 ghost use Rattle.std.specs.Prelude.{◌≡◌, IfOk, IfSome, map, string_bytes};
 ghost use Rattle.clap.specs.Words.{found_of, rows_of, subcommand_rows_of};
-ghost use Rattle.ct_values.specs.Number.{number_of};
+ghost use Rattle.ct_spelling.specs.Number.{number_of};
 ghost use Rattle.ct_words.specs.Matched.{bus_numbers_in, chain_numbers_in, matched, numbers_in, soak_in};
 ghost use Rattle.ct_words.specs.Reading.{HasBusRange, HasChainRange, HasRange, IsRanged, Reads, bus_numbers_of, chain_numbers_of, numbers_of, reading, soak_of};
 
 use crate::command::program;
 use clap::ArgMatches;
 use clap::error::ErrorKind;
+use ct_spelling::number::parse_decimal;
 use ct_values::memory::NoMemory;
-use ct_values::number::parse_decimal;
 use std::alloc::{AllocError, Global};
 use thiserror::Error;
 

@@ -1,6 +1,6 @@
 use Rattle.std.proofs.Common.{◌∙◌, ◌+◌, sym, ap, true, false, get_or, arith}
 use Rattle.ct_lcp2.specs.Best.{better}
-use Rattle.ct_lcp2.specs.Leavers.{address_at, blank}
+use Rattle.ct_lcp2.specs.Leavers.{address_at, unplaced}
 use Rattle.ct_lcp2.specs.Distance.{imbalance}
 use Rattle.ct_lcp2.specs.Placing.{choice_before, held, others}
 use Rattle.ct_lcp2.specs.declared.leaver.Leaver.{Leaver}
@@ -20,7 +20,7 @@ overflow_add-sum c =
     let l = get_or c.args.leavers.now c.loop-x.x-index none in
     let one = leaver_of c.args.source.now.node xs c.args.leavers.now c.loop-x.x-index none c.requires.leavers c.loop-x-test.true in
     weight_fits c.args.target.now.node xs _ (get_or c.as_slice-sums_there.result.now l.place 0) c.args.target.now.imbalance c.requires.few
-    (sum_at (held c.args.target.now.node xs) xs c.as_slice-sums_there.result.now l.place blank (c.as_slice-sums_there.ensures ∙ ap (λ t. t.sums) c.requires.target) one.within) (ap (λ t. t.imbalance) c.requires.target)
+    (sum_at (held c.args.target.now.node xs) xs c.as_slice-sums_there.result.now l.place unplaced (c.as_slice-sums_there.ensures ∙ ap (λ t. t.sums) c.requires.target) one.within) (ap (λ t. t.imbalance) c.requires.target)
 
 pub overflow_add-whole-then-sum-x : goal.overflow_add-whole-then-sum-x
 overflow_add-whole-then-sum-x c =
@@ -46,7 +46,7 @@ loop-x-preserved c =
     let sum = get_or c.as_slice-sums_there.result.now l.place 0 in
     let weight = c.args.source.now.imbalance in
     let weight_there = c.args.target.now.imbalance in
-    let far = sum_at there xs c.as_slice-sums_there.result.now l.place blank (c.as_slice-sums_there.ensures ∙ ap (λ t. t.sums) c.requires.target) one.within in
+    let far = sum_at there xs c.as_slice-sums_there.result.now l.place unplaced (c.as_slice-sums_there.ensures ∙ ap (λ t. t.sums) c.requires.target) one.within in
     let w = ap (λ t. t.imbalance) c.requires.source in
     let t = ap (λ t. t.imbalance) c.requires.target in
     let whole = new_sum a here there sum weight_there weight l.sum far t w one.sum (ap (λ s. imbalance (others a here) + s) (sym one.sum) ∙ one.without) in

@@ -1,5 +1,5 @@
 use Rattle.std.proofs.Common.{◌≡◌, ◌++◌, map, drop}
-use Rattle.ct_traverse.specs.Text.{pending_traverse_text}
+use Rattle.ct_traverse_parts.specs.Text.{pending_traverse_text}
 use Rattle.ct_play.proofs.session.add_texts.Given as goal
 
 -- the texts so far, and those of the traverses that are left

@@ -1,5 +1,5 @@
 use Rattle.std.proofs.Common.{◌∙◌, ◌+◌, ◌-◌, sym, ap, arith}
-use Rattle.ct_traverse.specs.Posts.{next_waiting}
+use Rattle.ct_traverse_parts.specs.Posts.{next_waiting}
 use Rattle.ct_play.specs.Effect.{carriage, message_carried}
 use Rattle.ct_play.proofs.Coming.{Next, begins, came, ends, fails, none_comes}
 use Rattle.ct_play.proofs.walking.walk.Goals as goal

@@ -1,5 +1,5 @@
 use Rattle.std.proofs.Common.{◌-◌, ◌≤◌}
-use Rattle.ct_traverse.specs.Posts.{next_waiting}
+use Rattle.ct_traverse_parts.specs.Posts.{next_waiting}
 use Rattle.ct_play.specs.Effect.{carriage}
 use Rattle.ct_play.proofs.Coming.{Coming}
 use Rattle.ct_play.proofs.walking.walk.Given as goal

@@ -1,5 +1,5 @@
 use Rattle.std.proofs.Common.{List, Ok, ◌∙◌, sym, ap}
-use Rattle.ct_traverse.specs.declared.line.TLine.{TLine}
+use Rattle.ct_traverse_parts.specs.declared.line.TLine.{TLine}
 use Rattle.ct_traverse.proofs.Walking.{lost_view}
 use Rattle.ct_traverse.proofs.walker.Walker.lose.Goals as goal
 

@@ -1,0 +1,4 @@
+//! What a node planned is done.
+#![tactic(auto)]
+
+pub mod commit;

@@ -1,0 +1,5 @@
+//! One spelling of bytes and of numbers, exact both ways.
+#![tactic(auto)]
+
+pub mod number;
+pub mod spelling;

@@ -1,5 +1,0 @@
-use Rattle.ct_traverse.proofs.Keeping.{entry_is_above}
-use Rattle.ct_traverse.proofs.laws.a_kept_entry_is_above_copies.Goals as goal
-
-pub returns : goal.returns
-returns c = entry_is_above

@@ -1,0 +1,5 @@
+pub mod Back
+pub mod Exact
+pub mod Keeping
+pub mod Packing
+pub mod Waiting

@@ -1,0 +1,6 @@
+pub mod Best
+pub mod Kept
+pub mod Rows
+pub mod Packed
+pub mod Posts
+pub mod Text
