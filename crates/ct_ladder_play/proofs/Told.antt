@@ -7,10 +7,9 @@ use Rattle.std.proofs.lemmas.Grind.{flat_map-append}
 use Rattle.std.proofs.lemmas.List.{length-take, map-append}
 use Rattle.ct_call.specs.Rules.{Rules}
 use Rattle.ct_mail.specs.Mail.{next_waiting, waiting_from}
-use Rattle.ct_rules_cluster.specs.Cluster.{opening}
+use Rattle.ct_rules_cluster.specs.Cluster.{opening, World}
 use Rattle.ct_rules_cluster.specs.declared.step.Step.TheVariants as step
-use Rattle.ct_traverse.specs.Walk.{Walk}
-use Rattle.ct_world.specs.World.{World}
+use Rattle.ct_traverse_parts.specs.Walk.{Walk}
 use Rattle.ct_lines.proofs.Whole.{line_back, line_only}
 use Rattle.ct_lines.specs.Grammar.{line_of}
 use Rattle.ct_lines.specs.Places.{Accepted, later_refusal, with_later}

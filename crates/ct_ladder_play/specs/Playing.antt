@@ -8,7 +8,7 @@ use Rattle.ct_mail.specs.Mail.{next_waiting}
 use Rattle.ct_lines.specs.Grammar.{line_of}
 use Rattle.ct_lines.specs.declared.line.ScenarioLine.{ScenarioLine}
 use Rattle.ct_lines.specs.declared.line.ScenarioLine.TheVariants as item
-use Rattle.ct_world.specs.World.{World}
+use Rattle.ct_rules_cluster.specs.Cluster.{World}
 use Rattle.ct_play.specs.Session.{Played, line_played, pending_texts, start}
 use Rattle.ct_play.specs.declared.session.Session.{Session}
 use Rattle.ct_play.specs.declared.what.PlayFault.{PlayFault}

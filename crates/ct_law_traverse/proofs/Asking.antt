@@ -8,19 +8,18 @@ use Rattle.ct_frame.specs.declared.frame.TableRow.{TableRow}
 use Rattle.ct_mail.specs.declared.sent.Fate.{Fate}
 use Rattle.ct_store.specs.Map.{Ascends}
 use Rattle.ct_rules_node.specs.Node.{Phase, Idle, Serving, Installed, Freezing, Frozen, db_at, is_among, is_present, is_present_in, is_serving, kind_at}
-use Rattle.ct_rules_cluster.specs.Cluster.{Cluster, is_up, node_at}
+use Rattle.ct_rules_cluster.specs.Cluster.{Cluster, is_up, node_at, World}
 use Rattle.ct_register.specs.Lines.{Lines}
 use Rattle.ct_promise.specs.Marked.{AllMarks, MarksHold, MarksHoldIn}
-use Rattle.ct_world.specs.World.{World}
 use Rattle.ct_traverse_parts.specs.Kept.{kept_of}
-use Rattle.ct_traverse.specs.Walk.{Walk, Walked, asked_all, asks, begin_fault, begun, begun_as, begun_or, first_pass, have_numbers, is_there, limited, question_lines, questions, replied, reply, sent_back, told_rows, with_fate}
+use Rattle.ct_traverse_parts.specs.Walk.{Walk, Walked, asked_all, asks, begin_fault, begun, begun_as, begun_or, first_pass, have_numbers, is_there, limited, question_lines, questions, replied, reply, sent_back, told_rows, with_fate}
 use Rattle.ct_traverse_parts.specs.declared.line.Pass.{Pass}
 use Rattle.ct_traverse_parts.specs.declared.line.Pass.TheVariants.{Copies, Entries}
 use Rattle.ct_traverse_parts.specs.declared.line.TFault.{TFault}
 use Rattle.ct_traverse_parts.specs.declared.line.TFault.TheVariants as fault
 use Rattle.ct_traverse_parts.specs.declared.line.TLine.{TLine}
 use Rattle.ct_traverse_parts.specs.declared.post.Post.{Post}
-use Rattle.ct_traverse.specs.declared.traverse.Traverse.{Traverse}
+use Rattle.ct_traverse_parts.specs.declared.traverse.Traverse.{Traverse}
 use Rattle.ct_law_readings.specs.Greatest.{ComesOn}
 use Rattle.ct_law_traverse.specs.Told.{TellsAnswer}
 use Rattle.ct_law_traverse.proofs.History.{Stage, last_lines, last_marks, later_in, AtSome, some_last}

@@ -12,12 +12,12 @@ use Rattle.ct_promise.specs.Marked.{AllMarks}
 use Rattle.ct_law_generation.proofs.BornStarts.{master_in}
 use Rattle.ct_traverse_parts.specs.Best.{shown}
 use Rattle.ct_traverse_parts.specs.Kept.{Batch, all_for, kept_of}
-use Rattle.ct_traverse.specs.Walk.{Walk, Walked, asked_all, asks, ask_lines, counted, counts, gave, gave_at, have_numbers, is_same_pass, limited, passed, place_from, place_of, second_pass, with_rows, with_traverse}
+use Rattle.ct_traverse_parts.specs.Walk.{Walk, Walked, asked_all, asks, ask_lines, counted, counts, gave, gave_at, have_numbers, is_same_pass, limited, passed, place_from, place_of, second_pass, with_rows, with_traverse}
 use Rattle.ct_traverse_parts.specs.declared.line.Pass.{Pass}
 use Rattle.ct_traverse_parts.specs.declared.line.Pass.TheVariants.{Copies, Entries}
 use Rattle.ct_traverse_parts.specs.declared.best.Best.{Best}
 use Rattle.ct_traverse_parts.specs.declared.post.Post.{Post}
-use Rattle.ct_traverse.specs.declared.traverse.Traverse.{Traverse}
+use Rattle.ct_traverse_parts.specs.declared.traverse.Traverse.{Traverse}
 use Rattle.ct_traverse_parts.proofs.Keeping.{kept_is_unbeaten}
 use Rattle.ct_law_readings.specs.Greatest.{Showed}
 use Rattle.ct_law_readings.specs.Moments.{moment_of}

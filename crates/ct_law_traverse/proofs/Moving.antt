@@ -8,15 +8,14 @@ use Rattle.ct_mail.specs.declared.sent.Fate.{Fate}
 use Rattle.ct_mail.specs.declared.sent.Fate.TheVariants.{Delivered, Dropped}
 use Rattle.ct_store.specs.Map.{Ascends}
 use Rattle.ct_rules_node.specs.Node.{db_at}
-use Rattle.ct_rules_cluster.specs.Cluster.{node_at}
+use Rattle.ct_rules_cluster.specs.Cluster.{node_at, World}
 use Rattle.ct_register.specs.Lines.{Lines}
 use Rattle.ct_register.proofs.Places.{at_same, at_other}
 use Rattle.ct_register.specs.Words.{at}
 use Rattle.ct_promise.specs.Marked.{AllMarks, MarksHold}
-use Rattle.ct_world.specs.World.{World}
 use Rattle.ct_traverse_parts.specs.Posts.{is_delivered, is_waiting, numbered}
-use Rattle.ct_traverse.specs.Walk.{Walk, Walked, asked_all, asks, begun, carried, carried_of, counted, counts, delivered, gave, gave_at, given, have_numbers, is_taken, is_there, limited, lost, lost_of, passed, place_of, repeated, repeated_of, replied, reply, second_pass, told_rows, with_fate, with_rows, with_traverse}
-use Rattle.ct_traverse.specs.Moves.{Move, Stepped, Begin, Carry, Lose, Again, walked_by, walked_or}
+use Rattle.ct_traverse_parts.specs.Walk.{Walk, Walked, asked_all, asks, begun, carried, carried_of, counted, counts, delivered, gave, gave_at, given, have_numbers, is_taken, is_there, limited, lost, lost_of, passed, place_of, repeated, repeated_of, replied, reply, second_pass, told_rows, with_fate, with_rows, with_traverse}
+use Rattle.ct_traverse_parts.specs.Moves.{Move, Stepped, Begin, Carry, Lose, Again, walked_by, walked_or}
 use Rattle.ct_traverse_parts.specs.declared.line.Pass.{Pass}
 use Rattle.ct_traverse_parts.specs.declared.line.Pass.TheVariants.{Copies, Entries}
 use Rattle.ct_traverse_parts.specs.declared.line.TFault.{TFault}
@@ -24,7 +23,7 @@ use Rattle.ct_traverse_parts.specs.declared.line.TFault.TheVariants as fault
 use Rattle.ct_traverse_parts.specs.declared.line.TLine.{TLine}
 use Rattle.ct_traverse_parts.specs.declared.line.TLine.TheVariants as line
 use Rattle.ct_traverse_parts.specs.declared.post.Post.{Post}
-use Rattle.ct_traverse.specs.declared.traverse.Traverse.{Traverse}
+use Rattle.ct_traverse_parts.specs.declared.traverse.Traverse.{Traverse}
 use Rattle.ct_law_traverse.specs.Told.{ShowsSnapshot, TellsAnswer, brought, since_by, standing, traverse_of}
 use Rattle.ct_law_traverse.proofs.Sound.{WalkSound, got_first}
 use Rattle.ct_law_traverse.proofs.Asking.{ResultSound, limited_sound, fated, resince, begun_sound, reply_walk}

@@ -4,7 +4,7 @@ use Rattle.ct_values.specs.declared.config.Config.{Config}
 use Rattle.ct_call.specs.Rules.{Rules}
 use Rattle.ct_store.specs.Map.{Ascends}
 use Rattle.ct_rules_node.specs.Node.{db_at}
-use Rattle.ct_rules_cluster.specs.Cluster.{Cluster, node_at, opening}
+use Rattle.ct_rules_cluster.specs.Cluster.{Cluster, node_at, opening, World}
 use Rattle.ct_rules_cluster.specs.Traces.{OpenCall, ran_one, idle}
 use Rattle.ct_register.specs.Lines
 use Rattle.ct_register.specs.Lines.{Lines}
@@ -17,9 +17,8 @@ use Rattle.ct_law_generation.proofs.CallsTold.{by_log}
 use Rattle.ct_law_generation.proofs.CallsRun.{one_logs, opened_calls}
 use Rattle.ct_law_readings.specs.Readings.{ReadingsRun}
 use Rattle.ct_law_readings.proofs.Running.{law_of_readings}
-use Rattle.ct_world.specs.World.{World}
-use Rattle.ct_traverse.specs.Walk.{Walk, no_walk, goes_on}
-use Rattle.ct_traverse.specs.Moves.{Move, Stepped, Begin, Carry, Lose, Again, stepped_by, steps_in, walked_by}
+use Rattle.ct_traverse_parts.specs.Walk.{Walk, no_walk, goes_on}
+use Rattle.ct_traverse_parts.specs.Moves.{Move, Stepped, Begin, Carry, Lose, Again, stepped_by, steps_in, walked_by}
 use Rattle.ct_law_traverse.specs.Told.{since_by, TraversesRun, LawOfTraverses}
 use Rattle.ct_law_traverse.proofs.Members.{Counted, labels_stay, opening_counted}
 use Rattle.ct_law_traverse.proofs.Sound.{Apart, WalkSound}

@@ -30,9 +30,9 @@ use Rattle.ct_lcp2.specs.Distance.{agreed, sum_to, imbalance}
 use Rattle.ct_lcp2.specs.Placing.{held, repeated, moves_away, places_at, places, homeless, failbacks_of, failbacks, sources, total, placement}
 use Rattle.ct_promise.proofs.Born.{is_config}
 use Rattle.ct_traverse_parts.specs.Best.{gathered, shown}
-use Rattle.ct_traverse.specs.Moves.{walked_by, stepped_by, moves_ran}
+use Rattle.ct_traverse_parts.specs.Moves.{walked_by, stepped_by, moves_ran}
 use Rattle.ct_traverse_parts.specs.Posts.{numbered as post_numbered, is_waiting as post_waits, is_delivered as post_delivered}
-use Rattle.ct_traverse.specs.Walk.{is_there, begin_fault, questions, question_lines, begun_or, place_from, without_member, passed, counted, gave, is_taken, gave_at, given as rows_given, delivered, carried_of, end_lines}
+use Rattle.ct_traverse_parts.specs.Walk.{is_there, begin_fault, questions, question_lines, begun_or, place_from, without_member, passed, counted, gave, is_taken, gave_at, given as rows_given, delivered, carried_of, end_lines}
 use Rattle.ct_law_traverse.specs.Small.{AnswerIsThere}
 
 pub answer_is_there : AnswerIsThere

@@ -13,12 +13,12 @@ use Rattle.ct_law_readings.specs.Fresh.{IsMarked}
 use Rattle.ct_law_readings.specs.Moments.{moment_of}
 use Rattle.ct_traverse_parts.specs.Best.{gathered}
 use Rattle.ct_traverse_parts.specs.Kept.{Batch, kept_of}
-use Rattle.ct_traverse.specs.Walk.{Walk, counts, is_same_pass, second_pass, with_rows, without_member}
+use Rattle.ct_traverse_parts.specs.Walk.{Walk, counts, is_same_pass, second_pass, with_rows, without_member}
 use Rattle.ct_traverse_parts.specs.declared.line.Pass.{Pass}
 use Rattle.ct_traverse_parts.specs.declared.line.Pass.TheVariants.{Copies, Entries}
 use Rattle.ct_traverse_parts.specs.declared.best.Best.{Best}
 use Rattle.ct_traverse_parts.specs.declared.post.Post.{Post}
-use Rattle.ct_traverse.specs.declared.traverse.Traverse.{Traverse}
+use Rattle.ct_traverse_parts.specs.declared.traverse.Traverse.{Traverse}
 use Rattle.ct_law_traverse.proofs.History.{Stage, last_lines, last_marks, all_lines, Comes, AtSome}
 use Rattle.ct_law_traverse.proofs.Sights.{CopySight}
 use Rattle.ct_law_traverse.proofs.Assembly.{HasOf, CopiesSeen, EntrySeen, EntriesSeen, IsAway}

@@ -10,11 +10,11 @@ use Rattle.ct_register.specs.Marks.{MarksStep}
 use Rattle.ct_promise.specs.Marked.{AllMarks, MarksHold, MarksGoOn, is_removed}
 use Rattle.ct_law_readings.specs.Readings.{VersionsGoOn, VersionsStep}
 use Rattle.ct_traverse_parts.specs.Kept.{Batch}
-use Rattle.ct_traverse.specs.Walk.{Walk}
+use Rattle.ct_traverse_parts.specs.Walk.{Walk}
 use Rattle.ct_traverse_parts.specs.declared.line.Pass.{Pass}
 use Rattle.ct_traverse_parts.specs.declared.line.Pass.TheVariants.{Copies, Entries}
 use Rattle.ct_traverse_parts.specs.declared.post.Post.{Post}
-use Rattle.ct_traverse.specs.declared.traverse.Traverse.{Traverse}
+use Rattle.ct_traverse_parts.specs.declared.traverse.Traverse.{Traverse}
 use Rattle.ct_law_traverse.proofs.History.{Stage, last_lines, last_marks, all_lines, last_lines_more, last_marks_more, lines_more, Comes, comes_more, AtSome, some_front}
 use Rattle.ct_law_traverse.proofs.Sights.{CopySight, EntrySight}
 use Rattle.ct_law_traverse.proofs.Assembly.{CopiesSeen, EntrySeen, EntriesSeen}

@@ -5,8 +5,8 @@ use Rattle.ct_rules_cluster.specs.Cluster.{opening}
 use Rattle.ct_rules_cluster.specs.declared.step.Step.TheVariants as step
 use Rattle.ct_promise.specs.Promises.{IsConfig}
 use Rattle.ct_promise.specs.Small.{config, a, x}
-use Rattle.ct_traverse.specs.Walk.{no_walk}
-use Rattle.ct_traverse.specs.Moves.{Move, Stepped, Begin, Carry, moves_ran}
+use Rattle.ct_traverse_parts.specs.Walk.{no_walk}
+use Rattle.ct_traverse_parts.specs.Moves.{Move, Stepped, Begin, Carry, moves_ran}
 use Rattle.ct_traverse_parts.specs.declared.line.Pass.TheVariants.{Copies, Entries}
 use Rattle.ct_traverse_parts.specs.declared.line.TLine.{TLine}
 use Rattle.ct_traverse_parts.specs.declared.line.TLine.TheVariants as line

@@ -15,12 +15,12 @@ use Rattle.ct_promise.specs.Promises.{IsConfig, CallsStand}
 use Rattle.ct_promise.specs.Marked.{AllMarks, no_marks, MarksHold, MarksGoOn}
 use Rattle.ct_law_readings.specs.Readings.{VersionsGoOn}
 use Rattle.ct_traverse_parts.specs.Posts.{numbered}
-use Rattle.ct_traverse.specs.Walk.{Walk, no_walk, place_of}
-use Rattle.ct_traverse.specs.Moves.{Move, Stepped, Begin, Carry, Lose, Again, moved}
+use Rattle.ct_traverse_parts.specs.Walk.{Walk, no_walk, place_of}
+use Rattle.ct_traverse_parts.specs.Moves.{Move, Stepped, Begin, Carry, Lose, Again, moved}
 use Rattle.ct_traverse_parts.specs.declared.line.TLine.{TLine}
 use Rattle.ct_traverse_parts.specs.declared.line.TLine.TheVariants as line
 use Rattle.ct_traverse_parts.specs.declared.post.Post.{Post}
-use Rattle.ct_traverse.specs.declared.traverse.Traverse.{Traverse}
+use Rattle.ct_traverse_parts.specs.declared.traverse.Traverse.{Traverse}
 use Rattle.ct_law_traverse.specs.Snapshot.{IsSnapshot}
 
 -- ---- which traverse a move answers

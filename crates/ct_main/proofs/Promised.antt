@@ -1,7 +1,7 @@
 -- Every run of the bytes of a scenario keeps the promise.
 use Rattle.std.proofs.Common.{ℕ, List, Option, None, Some}
 use Rattle.ct_call.specs.Rules.{Rules}
-use Rattle.ct_world.specs.World.{World}
+use Rattle.ct_rules_cluster.specs.Cluster.{World}
 use Rattle.ct_troupe_run.proofs.Told.{law_of_marks, promise}
 use Rattle.ct_law_traverse.proofs.Running.{law_of_traverses}
 use Rattle.ct_play.specs.Course.{Deed, moves_of, steps_of}

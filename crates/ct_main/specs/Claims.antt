@@ -8,12 +8,11 @@ use Rattle.ct_outside.specs.declared.fault.SinkFault.{SinkFault}
 use Rattle.ct_outside.specs.declared.fault.SinkFault.TheVariants as sink
 use Rattle.ct_call.specs.Rules.{Rules}
 use Rattle.ct_rules_config.specs.Configured.{IsConfig}
-use Rattle.ct_rules_cluster.specs.Cluster.{opening}
+use Rattle.ct_rules_cluster.specs.Cluster.{opening, World}
 use Rattle.ct_rules_cluster.specs.Traces.{ran}
 use Rattle.ct_promise.specs.Marked.{MarksRun, no_marks}
 use Rattle.ct_promise.specs.Promises.{Keeps}
 use Rattle.ct_register.specs.Lines as lines
-use Rattle.ct_world.specs.World.{World}
 use Rattle.ct_play.specs.Session.{start}
 use Rattle.ct_law_traverse.specs.Told.{TraversesRun}
 use Rattle.ct_play.specs.Course.{Deed, moves_of, printed, steps_of}

@@ -9,12 +9,13 @@ use Rattle.ct_rules_cluster.specs.declared.step.Step.{Step}
 use Rattle.ct_rules_cluster.specs.declared.step.StepFault.{StepFault}
 use Rattle.ct_rules_cluster.specs.declared.step.StepFault.TheVariants as fault
 use Rattle.ct_text.specs.Line.{line_text}
-use Rattle.ct_traverse.specs.Moves.{Move, going_on}
-use Rattle.ct_traverse.specs.Walk.{Walk, Walked, Walks, ended_after}
+use Rattle.ct_traverse_parts.specs.Moves.{Move, going_on}
+use Rattle.ct_traverse_parts.specs.Walk.{Walk, Walked, Walks, ended_after}
 use Rattle.ct_traverse_parts.specs.declared.line.TFault.{TFault}
 use Rattle.ct_traverse_parts.specs.declared.line.TFault.TheVariants as unmoved
 use Rattle.ct_traverse_parts.specs.declared.line.TLine.{TLine}
-use Rattle.ct_world.specs.World.{Applies, World}
+use Rattle.ct_world.specs.World.{Applies}
+use Rattle.ct_rules_cluster.specs.Cluster.{World}
 use Rattle.ct_play.specs.Course.{Adds, AddsAll, Effect}
 use Rattle.ct_play.specs.Effect.{IsEffect, ShowsLines, TellsMove, Works, move_effect, refused_by, step_effect, stepped, taken, text_effect, traverse_texts, unmoved_by, what_of}
 use Rattle.ct_play.specs.declared.what.PlayFault.{PlayFault}

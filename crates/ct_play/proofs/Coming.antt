@@ -1,7 +1,7 @@
 -- What comes next, so many times one after the other.
 use Rattle.std.proofs.Common.{◌≡◌, ◌∙◌, ℕ, zero, suc, List, [], ◌∷◌, ◌++◌, Option, None, Some, Result, Ok, Err, refl, sym, ap, subst, append_assoc, append-nil}
-use Rattle.ct_traverse.specs.Walk.{Walk}
-use Rattle.ct_world.specs.World.{World}
+use Rattle.ct_traverse_parts.specs.Walk.{Walk}
+use Rattle.ct_rules_cluster.specs.Cluster.{World}
 use Rattle.ct_play.specs.Course.{Adds, AddsAll, Deed, Effect, after, and_then, next_first, still, up_to}
 use Rattle.ct_play.specs.declared.what.PlayFault.{PlayFault}
 use Rattle.ct_play.specs.declared.what.PlayFault.TheVariants.{Refused, NoMemory}

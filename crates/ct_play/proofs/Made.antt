@@ -13,7 +13,7 @@ use Rattle.ct_values.specs.declared.config.ConfigFault.TheVariants.{BadNodes, To
 use Rattle.ct_values.specs.declared.config.DbDecl.{DbDecl}
 use Rattle.ct_values.proofs.Repeats.{all_distinct}
 use Rattle.ct_rules_config.specs.Configured.{IsConfig}
-use Rattle.ct_world.specs.World.{World}
+use Rattle.ct_rules_cluster.specs.Cluster.{World}
 use Rattle.ct_values.specs.declared.memory.NoMemory.{NoMemory}
 use Rattle.ct_play.specs.Opening.{ascending, config_of, world_opened, world_at}
 use Rattle.ct_play.proofs.Ascending.{ascending_permutes, ascending_sorted, sorted_is}

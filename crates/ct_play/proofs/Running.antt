@@ -3,7 +3,7 @@ use Rattle.std.proofs.Common.{◌≡◌, ℕ, zero, suc, true, cond, List, [], �
 use Rattle.std.proofs.lemmas.Grind.{flat_map-append}
 use Rattle.std.proofs.lemmas.List.{map-append}
 use Rattle.ct_call.specs.Rules.{Rules}
-use Rattle.ct_rules_cluster.specs.Cluster.{Cluster}
+use Rattle.ct_rules_cluster.specs.Cluster.{Cluster, World}
 use Rattle.ct_rules_cluster.specs.Faults.{is_allowed}
 use Rattle.ct_rules_cluster.specs.Steps.{Stepped, applied}
 use Rattle.ct_rules_cluster.specs.Traces.{OpenCall, Ran, after as ran_after, idle, ran_one, taken}
@@ -12,14 +12,13 @@ use Rattle.ct_rules_cluster.specs.declared.step.Step.{Step}
 use Rattle.ct_rules_cluster.specs.declared.step.Step.TheVariants as step
 use Rattle.ct_rules_cluster.specs.declared.step.StepFault.{StepFault}
 use Rattle.ct_mail.specs.Mail.{next_waiting}
-use Rattle.ct_traverse.specs.Moves.{Move, Stepped as Took, Begin, Carry, Lose, Again, Moved, and_more, going_on, moves_ran, stepped_by, walked_by, walked_or}
+use Rattle.ct_traverse_parts.specs.Moves.{Move, Stepped as Took, Begin, Carry, Lose, Again, Moved, and_more, going_on, moves_ran, stepped_by, walked_by, walked_or}
 use Rattle.ct_traverse_parts.specs.Posts.{next_waiting as next_post}
-use Rattle.ct_traverse.specs.Walk.{Walk, Walked, begun, carried, lost, repeated}
+use Rattle.ct_traverse_parts.specs.Walk.{Walk, Walked, begun, carried, lost, repeated}
 use Rattle.ct_traverse_parts.specs.declared.line.TFault.{TFault}
 use Rattle.ct_traverse_parts.specs.declared.line.TLine.{TLine}
-use Rattle.ct_traverse.proofs.Moving.{moves_append}
+use Rattle.ct_traverse_parts.proofs.Moving.{moves_append}
 use Rattle.ct_values.specs.declared.config.Config.{Config}
-use Rattle.ct_world.specs.World.{World}
 use Rattle.ct_play.specs.Course.{Deed, Effect, after, and_then, moves_of, next_first, printed, still, told, up_to}
 use Rattle.ct_play.specs.Effect.{carriage, delivery, message_carried, message_lost, message_repeated, move_effect, settled, step_effect, stepped, taken as effect_taken, traverse_begun, traverse_texts, walked}
 use Rattle.ct_play.specs.declared.what.What.{What}

@@ -2,12 +2,12 @@
 use Rattle.std.proofs.Common.{◌≡◌, ℕ, Bool, true, false, cond, List, [], ◌∷◌, ◌++◌, length, Option, None, Some, Result, Ok, Err, refl, sym, ap, subst, ◌∙◌, append_assoc, append-nil}
 use Rattle.std.specs.Prelude.{nat_lt}
 use Rattle.ct_call.specs.Rules.{Rules}
-use Rattle.ct_rules_cluster.specs.Cluster.{opening}
+use Rattle.ct_rules_cluster.specs.Cluster.{opening, World}
 use Rattle.ct_rules_cluster.specs.Traces.{OpenCall, Ran, idle}
 use Rattle.ct_rules_node.specs.Node.{is_persistent, kind_at}
-use Rattle.ct_traverse.specs.Moves.{moves_ran}
-use Rattle.ct_traverse.specs.Walk.{Walk, no_walk}
-use Rattle.ct_traverse.proofs.Moving.{steps_run}
+use Rattle.ct_traverse_parts.specs.Moves.{moves_ran}
+use Rattle.ct_traverse_parts.specs.Walk.{Walk, no_walk}
+use Rattle.ct_traverse_parts.proofs.Moving.{steps_run}
 use Rattle.ct_lines.proofs.Placed.{address_accepted, db_accepted, nodes_accepted}
 use Rattle.ct_lines.proofs.Whole.{line_only}
 use Rattle.ct_lines.specs.Grammar.{line_of}
@@ -23,7 +23,6 @@ use Rattle.ct_lines.specs.declared.line.ScenarioLine.TheVariants as item
 use Rattle.ct_lines.specs.declared.line.ShowCommand.TheVariants as show
 use Rattle.ct_lines.specs.declared.line.TraverseLine.{TraverseLine}
 use Rattle.ct_lines.specs.declared.line.TraverseLine.TheVariants as traverse
-use Rattle.ct_world.specs.World.{World}
 use Rattle.ct_play.specs.Course.{Deed, Effect, moves_of}
 use Rattle.ct_play.specs.Effect.{commanded, line_effect, shown, text_effect, traverse_begun, traversed}
 use Rattle.ct_named.specs.Named.{command_step, named_step, number_in_step}

@@ -1,13 +1,12 @@
 -- A node at which no step is refused runs.
 use Rattle.std.proofs.Common.{◌≡◌, ℕ, Bool, true, false, not, [], ◌∷◌, None, refl}
 use Rattle.std.specs.Prelude.{nat_lt}
-use Rattle.ct_rules_cluster.specs.Cluster.{is_up}
+use Rattle.ct_rules_cluster.specs.Cluster.{is_up, World}
 use Rattle.ct_rules_cluster.specs.Faults.{fault_of, no_such_node, node_down}
 use Rattle.ct_rules_cluster.specs.declared.step.Step.TheVariants as step
 use Rattle.ct_rules_cluster.specs.declared.step.StepFault.{StepFault}
 use Rattle.ct_rules_cluster.specs.declared.step.StepFault.TheVariants as fault
 use Rattle.ct_rules_node.specs.Refusals.{first_of, refused_if}
-use Rattle.ct_world.specs.World.{World}
 
 up_by : (a b : Bool) (f g : StepFault) → first_of (refused_if (not a) f ∷ refused_if (not b) g ∷ []) ≡ None → b ≡ true
 unfolding first_of refused_if

@@ -3,10 +3,10 @@ use Rattle.std.specs.Prelude.{◌≡◌, ℕ, zero, suc, List, [], ◌++◌, map
 use Rattle.std.specs.List.{flat_map}
 use Rattle.ct_rules_cluster.specs.declared.step.Line.{Line}
 use Rattle.ct_rules_cluster.specs.declared.step.Step.{Step}
-use Rattle.ct_traverse.specs.Moves.{Move, steps_in}
-use Rattle.ct_traverse.specs.Walk.{Walk}
+use Rattle.ct_traverse_parts.specs.Moves.{Move, steps_in}
+use Rattle.ct_traverse_parts.specs.Walk.{Walk}
 use Rattle.ct_traverse_parts.specs.declared.line.TLine.{TLine}
-use Rattle.ct_world.specs.World.{World}
+use Rattle.ct_rules_cluster.specs.Cluster.{World}
 use Rattle.ct_play.specs.declared.what.PlayFault.{PlayFault}
 use Rattle.ct_play.specs.declared.what.PlayFault.TheVariants.{Refused, NoMemory}
 use Rattle.ct_play.specs.declared.what.What.{What}

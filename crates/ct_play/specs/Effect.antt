@@ -3,7 +3,7 @@ use Rattle.std.specs.Prelude.{◌≡◌, ℕ, ◌==◌, if◌then◌else◌, Lis
 use Rattle.std.specs.declared.alloc.Global.{Global}
 use Rattle.std.specs.List.{flat_map}
 use Rattle.ct_call.specs.Rules.{Rules}
-use Rattle.ct_rules_cluster.specs.Cluster.{node_at}
+use Rattle.ct_rules_cluster.specs.Cluster.{node_at, World}
 use Rattle.ct_rules_cluster.specs.Faults.{fault_of}
 use Rattle.ct_rules_cluster.specs.Steps.{Stepped, applied}
 use Rattle.ct_rules_cluster.specs.declared.step.Line.{Line}
@@ -16,9 +16,9 @@ use Rattle.ct_mail.specs.Mail.{next_waiting}
 use Rattle.ct_text_commands.specs.Command.{command_text}
 use Rattle.ct_text_commands.specs.declared.command.TextFault.{TextFault}
 use Rattle.ct_text_commands.specs.declared.command.TextFault.TheVariants as untold
-use Rattle.ct_traverse.specs.Moves.{Move, Stepped as Took, Begin, Carry, Lose, Again, going_on}
+use Rattle.ct_traverse_parts.specs.Moves.{Move, Stepped as Took, Begin, Carry, Lose, Again, going_on}
 use Rattle.ct_traverse_parts.specs.Posts.{next_waiting as next_post}
-use Rattle.ct_traverse.specs.Walk.{Walk, Walked, begun, carried, lost, repeated}
+use Rattle.ct_traverse_parts.specs.Walk.{Walk, Walked, begun, carried, lost, repeated}
 use Rattle.ct_traverse_parts.specs.declared.line.TFault.{TFault}
 use Rattle.ct_traverse_parts.specs.declared.line.TFault.TheVariants as unmoved
 use Rattle.ct_traverse_parts.specs.declared.line.TLine.{TLine}
@@ -33,7 +33,6 @@ use Rattle.ct_lines.specs.declared.line.TraverseLine.TheVariants as traverse
 use Rattle.ct_values.specs.declared.config.Config.{Config}
 use Rattle.ct_text.specs.Line.{line_text}
 use Rattle.ct_traverse_parts.specs.Text.{traverse_text}
-use Rattle.ct_world.specs.World.{World}
 use Rattle.ct_play.specs.Course.{Effect, still, up_to}
 use Rattle.ct_named.specs.Named.{command_step, named_step, number_in_step}
 use Rattle.ct_play.specs.declared.what.PlayFault.{PlayFault}

@@ -2,11 +2,10 @@
 use Rattle.std.specs.Prelude.{if◌then◌else◌, List, [], ◌∷◌, Option, None, Some}
 use Rattle.ct_values.specs.Address.{address_before}
 use Rattle.ct_values.specs.declared.address.Address.{Address}
-use Rattle.ct_rules_cluster.specs.Cluster.{opening}
+use Rattle.ct_rules_cluster.specs.Cluster.{opening, World}
 use Rattle.ct_lines.specs.Places.{Accepted, or_one}
 use Rattle.ct_values.specs.Config.{lock_db}
 use Rattle.ct_values.specs.declared.config.Config.{Config}
-use Rattle.ct_world.specs.World.{World}
 
 -- an address in its place among these
 abbrev pub in_place : Address → List Address → List Address

@@ -2,13 +2,12 @@
 use Rattle.std.specs.Prelude.{◌≡◌, ℕ, ◌+◌, ◌==◌, nat_lt, if◌then◌else◌, List, [], ◌∷◌, ◌++◌, length, Option, None, Some, Result, Ok, Err}
 use Rattle.std.specs.List.{flat_map}
 use Rattle.ct_call.specs.Rules.{Rules}
-use Rattle.ct_rules_cluster.specs.Cluster.{opening}
+use Rattle.ct_rules_cluster.specs.Cluster.{opening, World}
 use Rattle.ct_rules_cluster.specs.Traces.{ran}
 use Rattle.ct_lines.specs.declared.line.LineKind.TheVariants.{Long}
 use Rattle.ct_rules_config.specs.Configured.{IsConfig}
-use Rattle.ct_world.specs.World.{World}
-use Rattle.ct_traverse.specs.Moves.{moves_ran}
-use Rattle.ct_traverse.specs.Walk.{Walk, no_walk}
+use Rattle.ct_traverse_parts.specs.Moves.{moves_ran}
+use Rattle.ct_traverse_parts.specs.Walk.{Walk, no_walk}
 use Rattle.ct_play.specs.Course.{Deed, moves_of, printed, steps_of, told}
 use Rattle.ct_play.specs.Session.{Played, line_played, longest, pending_texts, start}
 use Rattle.ct_play.specs.declared.session.Session.{Session}

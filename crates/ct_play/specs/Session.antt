@@ -2,8 +2,8 @@
 use Rattle.std.specs.Prelude.{◌≡◌, ℕ, nat_lt, Bool, true, false, if◌then◌else◌, List, [], ◌++◌, length, map, Option, None, Some, Result, Ok, Err, Vec}
 use Rattle.std.specs.declared.alloc.Global.{Global}
 use Rattle.ct_call.specs.Rules.{Rules}
-use Rattle.ct_rules_cluster.specs.Cluster.{pending}
-use Rattle.ct_traverse.specs.Walk.{Walk, no_walk, pending as pending_traverses}
+use Rattle.ct_rules_cluster.specs.Cluster.{pending, World}
+use Rattle.ct_traverse_parts.specs.Walk.{Walk, no_walk, pending as pending_traverses}
 use Rattle.ct_lines.specs.Grammar.{line_of}
 use Rattle.ct_lines.specs.Places.{Accepted, nothing_accepted, refusal, with_line}
 use Rattle.ct_lines.specs.declared.line.LineKind.{LineKind}
@@ -12,7 +12,6 @@ use Rattle.ct_lines.specs.declared.line.ScenarioLine.{ScenarioLine}
 use Rattle.ct_lines.specs.declared.line.ScenarioLine.TheVariants as item
 use Rattle.ct_text.specs.Line.{pending_text}
 use Rattle.ct_traverse_parts.specs.Text.{pending_traverse_text}
-use Rattle.ct_world.specs.World.{World}
 use Rattle.ct_play.specs.Course.{Deed, Effect}
 use Rattle.ct_play.specs.Effect.{line_effect}
 use Rattle.ct_play.specs.Opening.{world_at}

@@ -32,6 +32,11 @@ pub record Cluster : Type 0 where
   pub ticket : ℕ  -- the last one that was given
   pub calls : ℕ  -- how many client calls got a number
 
+-- a cluster with its configuration
+pub record World : Type 0 where
+  pub config : Config
+  pub cluster : Cluster
+
 -- ---- the opening
 
 -- so many numbers from i on

@@ -10,7 +10,7 @@ use Rattle.ct_frame.specs.declared.event.Out.{Out}
 use Rattle.ct_frame.specs.declared.event.Out.TheVariants as out
 use Rattle.ct_rules_node.specs.Turn.{Turn}
 use Rattle.ct_rules_node.specs.Steps.{stepped}
-use Rattle.ct_rules_cluster.specs.Cluster.{Cluster, Delivered, Dropped, Fate, Sent, able_from, is_up, node_at, pending_at, sent_at}
+use Rattle.ct_rules_cluster.specs.Cluster.{Cluster, Delivered, Dropped, Fate, Sent, able_from, is_up, node_at, pending_at, sent_at, World}
 use Rattle.ct_rules_cluster.specs.Faults.{fault_of}
 use Rattle.ct_rules_cluster.specs.Steps.{Stepped, applied, deliver, done, drop, fed, fed_of, frames_of, gone, if_counted, is_counted, lines_of, put, recover, repeat, steps, steps_or, stop, with_fate, with_node}
 use Rattle.ct_rules_cluster.specs.declared.step.Line.{Line}
@@ -20,7 +20,6 @@ use Rattle.ct_rules_cluster.specs.declared.step.Step.{Step}
 use Rattle.ct_rules_cluster.specs.declared.step.Step.TheVariants as step
 use Rattle.ct_rules_cluster.specs.declared.step.StepFault.{StepFault}
 use Rattle.ct_rules_cluster.specs.declared.step.StepFault.TheVariants as fault
-use Rattle.ct_world.specs.World.{World}
 use Rattle.ct_soak.specs.Counts.{IsCounted, calls_after, last_sent, last_ticket}
 
 -- ---- lines

@@ -2,12 +2,11 @@
 use Rattle.std.proofs.Common.{◌≡◌, [], refl, sym, subst}
 use Rattle.std.specs.List.Sorted.{IsStrictlySortedBy}
 use Rattle.std.proofs.lemmas.List.Sorted.{IsPermutation-refl}
-use Rattle.ct_rules_cluster.specs.Cluster.{opening}
+use Rattle.ct_rules_cluster.specs.Cluster.{opening, World}
 use Rattle.ct_rules_cluster.specs.Steps.{is_counted}
 use Rattle.ct_values.specs.Generated.{each_kind}
 use Rattle.ct_values.specs.declared.config.Config.{Config}
 use Rattle.ct_rules_config.specs.Configured.{IsConfig}
-use Rattle.ct_world.specs.World.{World}
 use Rattle.ct_soak.specs.Counts.{IsCounted}
 use Rattle.ct_soak.specs.Soaking.{soak_config}
 

@@ -6,7 +6,7 @@ use Rattle.ct_rules_cluster.specs.declared.step.Line.TheVariants as line
 use Rattle.ct_rules_cluster.specs.declared.step.Step.{Step}
 use Rattle.ct_rules_cluster.specs.declared.step.Step.TheVariants as step
 use Rattle.ct_rules_cluster.specs.declared.step.StepFault.{StepFault}
-use Rattle.ct_world.specs.World.{World}
+use Rattle.ct_rules_cluster.specs.Cluster.{World}
 use Rattle.ct_soak.specs.Soaking.{soak_config}
 
 -- the number of the last message that lines tell of, or one from before

@@ -6,9 +6,9 @@ use Rattle.ct_traverse_parts.specs.Best.{gathered}
 use Rattle.std.proofs.lemmas.Bool.{cond_both}
 use Rattle.ct_frame.specs.declared.frame.TableRow.{TableRow}
 use Rattle.ct_mail.specs.declared.sent.Fate.TheVariants.{Delivered, Dropped}
-use Rattle.ct_world.specs.World.{World}
+use Rattle.ct_rules_cluster.specs.Cluster.{World}
 use Rattle.ct_traverse_parts.specs.Posts.{is_delivered, is_waiting, numbered}
-use Rattle.ct_traverse.specs.Walk.{Walk, Walked, Walks, ask_lines, asked_all, asks, carried, carried_of, counted, counts, delivered, gave, gave_at, given, have_numbers, is_taken, limited, passed, place_of, repeated, repeated_of, second_pass, told, with_fate, with_rows, with_traverse}
+use Rattle.ct_traverse_parts.specs.Walk.{Walk, Walked, Walks, ask_lines, asked_all, asks, carried, carried_of, counted, counts, delivered, gave, gave_at, given, have_numbers, is_taken, limited, passed, place_of, repeated, repeated_of, second_pass, told, with_fate, with_rows, with_traverse}
 use Rattle.ct_traverse_parts.specs.declared.line.Pass.{Pass}
 use Rattle.ct_traverse_parts.specs.declared.line.Pass.TheVariants.{Copies, Entries}
 use Rattle.ct_traverse_parts.specs.declared.line.TFault.{TFault}
@@ -16,7 +16,7 @@ use Rattle.ct_traverse_parts.specs.declared.line.TFault.TheVariants as fault
 use Rattle.ct_traverse_parts.specs.declared.line.TLine.{TLine}
 use Rattle.ct_traverse_parts.specs.declared.line.TLine.TheVariants as line
 use Rattle.ct_traverse_parts.specs.declared.post.Post.{Post}
-use Rattle.ct_traverse.specs.declared.traverse.Traverse.{Traverse}
+use Rattle.ct_traverse_parts.specs.declared.traverse.Traverse.{Traverse}
 use Rattle.ct_traverse.proofs.Walking.{numbered_more}
 
 -- what came of a call has all messages that were there, and perhaps more

@@ -7,13 +7,12 @@ use Rattle.ct_mail.specs.declared.sent.Fate.TheVariants.{Dropped}
 use Rattle.ct_traverse_parts.specs.Posts.{before_waiting, is_waiting, numbered, ended_as, waits}
 use Rattle.ct_frame.specs.declared.frame.TableRow.{TableRow}
 use Rattle.ct_rules_node.specs.Node.{is_present_in, is_serving, kind_at}
-use Rattle.ct_rules_cluster.specs.Cluster.{is_up, node_at}
-use Rattle.ct_world.specs.World.{World}
-use Rattle.ct_traverse.specs.Walk.{Walk, begin_fault, is_taken, is_there, lost, lost_of, questions, told}
+use Rattle.ct_rules_cluster.specs.Cluster.{is_up, node_at, World}
+use Rattle.ct_traverse_parts.specs.Walk.{Walk, begin_fault, is_taken, is_there, lost, lost_of, questions, told}
 use Rattle.ct_traverse_parts.specs.declared.line.Pass.{Pass}
 use Rattle.ct_traverse_parts.specs.declared.line.TFault.TheVariants as fault
 use Rattle.ct_traverse_parts.specs.declared.post.Post.{Post}
-use Rattle.ct_traverse.specs.declared.traverse.Traverse.{Traverse}
+use Rattle.ct_traverse_parts.specs.declared.traverse.Traverse.{Traverse}
 
 -- questions wait
 pub questions_wait : (pass : Pass) (n g k db : ℕ) (members : List ℕ) → before_waiting (questions pass n g k db members) ≡ 0

@@ -7,14 +7,13 @@ ghost use Rattle.ct_mail.specs.declared.sent.Fate.TheVariants as fates;
 ghost use Rattle.ct_traverse_parts.specs.declared.line.Pass.TheVariants as passes;
 ghost use Rattle.ct_traverse_parts.specs.declared.line.TLine.TheVariants as line;
 ghost use Rattle.ct_traverse_parts.specs.declared.post.Post as post;
-ghost use Rattle.ct_traverse.specs.declared.traverse.Traverse as traverse;
+ghost use Rattle.ct_traverse_parts.specs.declared.traverse.Traverse as traverse;
 ghost use Rattle.ct_node_state.specs.Phases.{tells_present};
 ghost use Rattle.ct_rules_node.specs.Node.{is_persistent, is_present_in, kind_at};
 ghost use Rattle.ct_traverse_parts.specs.Posts.{before_waiting, is_delivered, is_waiting, next_waiting, numbered, waits};
-ghost use Rattle.ct_traverse.specs.Walk as walk;
-ghost use Rattle.ct_traverse.specs.Walk.{Walks, ask_lines, asks, begin_fault, begun, begun_as, carried, end_lines, gave, gave_at, given, passed, replied, reply, told, with_fate, with_rows, with_traverse, ended_after, first_pass, goes_on, have_numbers, is_there, lost, no_walk, pending, place_from, repeated, sent_back, told_rows, is_taken};
+ghost use Rattle.ct_traverse_parts.specs.Walk as walk;
+ghost use Rattle.ct_traverse_parts.specs.Walk.{Walks, ask_lines, asks, begin_fault, begun, begun_as, carried, end_lines, gave, gave_at, given, passed, replied, reply, told, with_fate, with_rows, with_traverse, ended_after, first_pass, goes_on, have_numbers, is_there, lost, no_walk, pending, place_from, repeated, sent_back, told_rows, is_taken};
 
-use crate::traverse::{Traverse, without_member};
 use ct_frame::round::Phase;
 use ct_mail::sent::Fate;
 use ct_node_state::kinds::kind_at;
@@ -22,6 +21,7 @@ use ct_traverse_parts::kept::Kept;
 use ct_traverse_parts::line::{Pass, TFault, TLine, TPending};
 use ct_traverse_parts::post::{Post, Posts};
 use ct_traverse_parts::rows::{Row, Rows};
+use ct_traverse_parts::traverse::{Traverse, without_member};
 use ct_values::items::Items;
 use ct_values::memory::NoMemory;
 use ct_world::world::{Core, World};
@@ -42,7 +42,7 @@ pub struct Walker {
 
 impl Model for Walker {
     ghost use Rattle.std.specs.Prelude.{◌<◌, ◌^◌};
-    ghost use Rattle.ct_traverse.specs.Walk as walk;
+    ghost use Rattle.ct_traverse_parts.specs.Walk as walk;
 
     ghost Value = { walk.Walk };
 
@@ -88,7 +88,7 @@ fn is_present_in(generation: u64, core: &Core) -> bool
 }
 
 /// Does the node run, and is it present in the generation?
-#[tactic(auto, unfolding(crate::specs::Walk::is_there))]
+#[tactic(auto, unfolding(ct_traverse_parts::specs::Walk::is_there))]
 fn is_there(world: &World, node: u32, generation: u64) -> bool
     ensures { result ≡ is_there node generation world.now }
 {
@@ -99,7 +99,7 @@ fn is_there(world: &World, node: u32, generation: u64) -> bool
 }
 
 /// Why no traverse begins at the node.
-#[tactic(auto, unfolding(crate::specs::Walk::begin_fault))]
+#[tactic(auto, unfolding(ct_traverse_parts::specs::Walk::begin_fault))]
 fn begin_fault(world: &World, node: u32, db: u32) -> Option<TFault>
     ensures { result ≡ begin_fault node db world.now }
 {
@@ -149,7 +149,7 @@ fn first_pass(
 }
 
 /// Where the traverse of this number stands, if it goes on.
-#[tactic(auto, unfolding(crate::specs::Walk::place_from))]
+#[tactic(auto, unfolding(ct_traverse_parts::specs::Walk::place_from))]
 fn place_of(running: &[Traverse], number: u64) -> Option<usize>
     ensures place { result ≡ place_from 0 number running.now }
     ensures there { IfSome result (λ i. i < length running.now) }
@@ -174,7 +174,7 @@ fn rows_at(alloc: Global, pass: Pass, core: &Core, db: u32) -> Result<Rows, NoMe
 }
 
 /// A line for each traverse whose node is in its generation no more.
-#[tactic(auto, unfolding(crate::specs::Walk::end_lines))]
+#[tactic(auto, unfolding(ct_traverse_parts::specs::Walk::end_lines))]
 fn end_lines(alloc: Global, world: &World, running: &[Traverse]) -> Result<Vec<TLine>, NoMemory>
     ensures { IfOk result (λ lines. lines.items ≡ end_lines world.now running.now) }
 {
@@ -330,7 +330,7 @@ impl Walker {
 
     /// A node begins a traverse of a database, which is not a persistent one: its members are asked for all copies of the
     /// database first. A refusal changes nothing, and want of memory neither.
-    #[tactic(auto, using(crate::proofs::Walking::up_begins), unfolding(crate::specs::Walk::begun_or))]
+    #[tactic(auto, using(crate::proofs::Walking::up_begins), unfolding(ct_traverse_parts::specs::Walk::begun_or))]
     pub fn begin(&mut self, world: &World, node: u32, db: u32) -> Result<Vec<TLine>, TFault>
         requires { is_persistent (kind_at world.now.config db) ≡ false }
         ensures { Walks (λ lines. lines.items) result (begun node db world.now self.old) self.old self.new }
@@ -368,7 +368,7 @@ impl Walker {
     }
 
     /// Does anybody take the message?
-    #[tactic(auto, unfolding(crate::specs::Walk::is_taken))]
+    #[tactic(auto, unfolding(ct_traverse_parts::specs::Walk::is_taken))]
     fn is_taken(&self, world: &World, post: &Post) -> bool
         ensures { result ≡ is_taken post.now post.now.rows world.now self.now }
     {
@@ -481,7 +481,7 @@ impl Walker {
 
     /// The traverse at a place has these rows, the last ones of its first pass, and asks for entries. A refusal changes nothing,
     /// and want of memory neither.
-    #[tactic(auto, using(crate::proofs::Walking::questions_wait, crate::proofs::Walking::cut_off), unfolding(crate::specs::Walk::passed))]
+    #[tactic(auto, using(crate::proofs::Walking::questions_wait, crate::proofs::Walking::cut_off), unfolding(ct_traverse_parts::specs::Walk::passed))]
     fn turn(&mut self, post: &Post, rows: &[Row], place: usize) -> Result<Vec<TLine>, TFault>
         requires { place < length self.old.running }
         ensures { (t : traverse.Traverse) → slice_get self.old.running place ≡ Some t → Walks (λ lines. lines.items) result (passed passes.Copies place (with_rows post.now rows.now t) self.old) self.old self.new }
@@ -502,7 +502,7 @@ impl Walker {
     }
 
     /// The traverse at a place has these rows, the last ones of all, and is answered. Want of memory changes nothing.
-    #[tactic(auto, unfolding(crate::specs::Walk::passed))]
+    #[tactic(auto, unfolding(ct_traverse_parts::specs::Walk::passed))]
     fn answer(&mut self, post: &Post, rows: &[Row], place: usize) -> Result<Vec<TLine>, TFault>
         requires { place < length self.old.running }
         ensures { (t : traverse.Traverse) → slice_get self.old.running place ≡ Some t → Walks (λ lines. lines.items) result (passed passes.Entries place (with_rows post.now rows.now t) self.old) self.old self.new }
@@ -511,7 +511,7 @@ impl Walker {
     }
 
     /// Rows come to the traverse at a place. A refusal changes nothing, and want of memory neither.
-    #[tactic(auto, unfolding(crate::specs::Walk::gave, crate::specs::Walk::counted))]
+    #[tactic(auto, unfolding(ct_traverse_parts::specs::Walk::gave, ct_traverse_parts::specs::Walk::counted))]
     fn gave_to(&mut self, post: &Post, rows: &[Row], place: usize) -> Result<Vec<TLine>, TFault>
         requires { place < length self.old.running }
         ensures { Walks (λ lines. lines.items) result (gave post.now rows.now place (slice_get self.old.running place) self.old) self.old self.new }
@@ -534,7 +534,7 @@ impl Walker {
     }
 
     /// Rows come to their traverse. A refusal changes nothing, and want of memory neither.
-    #[tactic(auto, unfolding(crate::specs::Walk::gave_at))]
+    #[tactic(auto, unfolding(ct_traverse_parts::specs::Walk::gave_at))]
     fn gave(&mut self, post: &Post, rows: &[Row]) -> Result<Vec<TLine>, TFault>
         ensures { Walks (λ lines. lines.items) result (gave_at post.now rows.now (place_from 0 post.now.traverse self.old.running) self.old) self.old self.new }
     {
@@ -545,7 +545,7 @@ impl Walker {
     }
 
     /// A message comes to who takes it. A refusal changes nothing, and want of memory neither.
-    #[tactic(auto, using(crate::proofs::Walking::taken_up), unfolding(crate::specs::Walk::given))]
+    #[tactic(auto, using(crate::proofs::Walking::taken_up), unfolding(ct_traverse_parts::specs::Walk::given))]
     fn give(&mut self, world: &World, post: &Post) -> Result<Vec<TLine>, TFault>
         requires { is_taken post.now post.now.rows world.now self.old ≡ true }
         ensures { Walks (λ lines. lines.items) result (given post.now post.now.rows world.now self.old) self.old self.new }

@@ -3,3 +3,4 @@ pub mod Exact
 pub mod Keeping
 pub mod Packing
 pub mod Waiting
+pub mod Moving

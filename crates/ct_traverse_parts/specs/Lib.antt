@@ -4,3 +4,5 @@ pub mod Rows
 pub mod Packed
 pub mod Posts
 pub mod Text
+pub mod Walk
+pub mod Moves

@@ -9,3 +9,4 @@ pub mod part;
 pub mod post;
 pub mod rows;
 pub mod text;
+pub mod traverse;

@@ -7,7 +7,7 @@ use Rattle.ct_frame.specs.declared.event.Event.{Event}
 use Rattle.ct_frame.specs.declared.event.Event.TheVariants as event
 use Rattle.ct_frame.specs.declared.frame.Frame.{Frame}
 use Rattle.ct_call.specs.Rules.{Rules}
-use Rattle.ct_rules_cluster.specs.Cluster.{Cluster, Sent, is_delivered, is_true, is_up, is_waiting, pending_from, sent_at}
+use Rattle.ct_rules_cluster.specs.Cluster.{Cluster, Sent, is_delivered, is_true, is_up, is_waiting, pending_from, sent_at, World}
 use Rattle.ct_rules_cluster.specs.Steps.{Stepped, fed}
 use Rattle.ct_rules_cluster.specs.declared.step.Line.{Line}
 use Rattle.ct_rules_cluster.specs.declared.step.PendingCall.{PendingCall}
@@ -18,7 +18,7 @@ use Rattle.ct_core.specs.Core.{Core}
 use Rattle.ct_mail.specs.Mail.{numbered}
 use Rattle.ct_world.proofs.Numbers.{numbered_so}
 use Rattle.ct_world.specs.Feeding.{Takes}
-use Rattle.ct_world.specs.World.{Applies, World, states_of}
+use Rattle.ct_world.specs.World.{Applies, states_of}
 use Rattle.ct_world.specs.declared.parts.Parts.{Parts}
 
 -- the same event, and the same lines

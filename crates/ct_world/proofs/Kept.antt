@@ -7,7 +7,7 @@ use Rattle.ct_values.specs.declared.config.Config.{Config}
 use Rattle.ct_frame.specs.declared.event.Event.{Event}
 use Rattle.ct_frame.specs.declared.event.Event.TheVariants as event
 use Rattle.ct_call.specs.Rules.{Rules}
-use Rattle.ct_rules_cluster.specs.Cluster.{Cluster, Dropped, Delivered, Fate, Sent, able_from, is_up, node_at, sent_at}
+use Rattle.ct_rules_cluster.specs.Cluster.{Cluster, Dropped, Delivered, Fate, Sent, able_from, is_up, node_at, sent_at, World}
 use Rattle.ct_rules_cluster.specs.Faults.{fault_of}
 use Rattle.ct_rules_cluster.specs.Steps.{Stepped, applied, deliver, done, drop, fed, fed_of, if_counted, is_counted, put, recover, repeat, steps, steps_or, stop, with_fate, with_node}
 use Rattle.ct_rules_cluster.specs.declared.step.Line.{Line}
@@ -20,7 +20,7 @@ use Rattle.ct_law_form_cluster.proofs.WholeCluster.{stays_in_form}
 use Rattle.ct_rules_node.specs.Steps.{stepped}
 use Rattle.ct_rules_node.specs.Turn.{Turn}
 use Rattle.ct_world.specs.Feeding.{MayTake, Takes}
-use Rattle.ct_world.specs.World.{Applies, AreSeated, PartsInForm, World, cluster_of, world_of}
+use Rattle.ct_world.specs.World.{Applies, AreSeated, PartsInForm, cluster_of, world_of}
 use Rattle.ct_world.specs.declared.parts.Parts.{Parts}
 
 -- as many marks as before, and no number that reaches its limit where none did

@@ -7,7 +7,7 @@ use Rattle.ct_frame.specs.declared.event.Event.{Event}
 use Rattle.ct_frame.specs.declared.event.Event.TheVariants as event
 use Rattle.ct_frame.specs.declared.frame.Frame.{Frame}
 use Rattle.ct_call.specs.Rules.{Rules}
-use Rattle.ct_rules_cluster.specs.Cluster.{Cluster, Delivered, Dropped, Fate, Sent, is_up, node_at, sent_at}
+use Rattle.ct_rules_cluster.specs.Cluster.{Cluster, Delivered, Dropped, Fate, Sent, is_up, node_at, sent_at, World}
 use Rattle.ct_rules_cluster.specs.Steps.{Stepped, deliver, done, drop, fed, fed_of, frames_of, if_counted, is_counted, lines_of, put, repeat, with_fate, with_node}
 use Rattle.ct_rules_cluster.specs.declared.step.Line.{Line}
 use Rattle.ct_rules_cluster.specs.declared.step.Line.TheVariants as line
@@ -15,7 +15,7 @@ use Rattle.ct_rules_cluster.specs.declared.step.StepFault.{StepFault}
 use Rattle.ct_rules_cluster.specs.declared.step.StepFault.TheVariants as fault
 use Rattle.ct_rules_node.specs.Steps.{stepped}
 use Rattle.ct_rules_node.specs.Turn.{Turn}
-use Rattle.ct_world.specs.World.{Applies, World, cluster_of, world_of}
+use Rattle.ct_world.specs.World.{Applies, cluster_of, world_of}
 use Rattle.ct_world.specs.declared.parts.Parts.{Parts}
 
 -- ---- lists

@@ -3,11 +3,11 @@ use Rattle.std.proofs.Common.{◌≡◌, ℕ, zero, suc, ◌<◌, Bool, true, fa
 use Rattle.std.specs.Prelude.{nat_lt, slice_get, slice_index_or}
 use Rattle.std.proofs.lemmas.Bool.{lt-ltb, ltb-false, ltb-true}
 use Rattle.ct_values.specs.declared.config.Config.{Config}
-use Rattle.ct_rules_cluster.specs.Cluster.{Cluster, is_true, is_up, node_at, or_absent}
+use Rattle.ct_rules_cluster.specs.Cluster.{Cluster, is_true, is_up, node_at, or_absent, World}
 use Rattle.ct_core.specs.Core.{Core}
 use Rattle.ct_law_form.specs.Whole.{HasLimits, is_node_of}
 use Rattle.ct_rules_node.specs.Node.{Node}
-use Rattle.ct_world.specs.World.{World, WorldInForm, states_of}
+use Rattle.ct_world.specs.World.{WorldInForm, states_of}
 use Rattle.ct_world.specs.View.{core_at}
 use Rattle.ct_world.proofs.Cores.{core_there}
 

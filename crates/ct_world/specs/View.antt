@@ -1,8 +1,7 @@
 -- What a command at a node may read.
 use Rattle.std.specs.Prelude.{ℕ}
-use Rattle.ct_rules_cluster.specs.Cluster.{node_at}
+use Rattle.ct_rules_cluster.specs.Cluster.{node_at, World}
 use Rattle.ct_core.specs.Core.{Core}
-use Rattle.ct_world.specs.World.{World}
 
 -- the node of this number, with the number and the configuration
 abbrev pub core_at : ℕ → World → Core

@@ -1,7 +1,7 @@
 -- The cluster in code.
 use Rattle.std.specs.Prelude.{◌≡◌, ℕ, true, List, map, length, Result, Ok, Err, Some, slice_get}
 use Rattle.ct_values.specs.declared.config.Config.{Config}
-use Rattle.ct_rules_cluster.specs.Cluster.{Cluster, everyone}
+use Rattle.ct_rules_cluster.specs.Cluster.{Cluster, World, everyone}
 use Rattle.ct_rules_cluster.specs.Steps.{Stepped, is_counted}
 use Rattle.ct_rules_cluster.specs.declared.step.Line.{Line}
 use Rattle.ct_rules_cluster.specs.declared.step.StepFault.{StepFault}
@@ -10,11 +10,6 @@ use Rattle.ct_law_form_cluster.specs.Form.{ClusterInForm}
 use Rattle.ct_core.specs.Core.{Core}
 use Rattle.ct_rules_node.specs.Node.{Node, opening}
 use Rattle.ct_world.specs.declared.parts.Parts.{Parts}
-
--- a cluster with its configuration
-pub record World : Type 0 where
-  pub config : Config
-  pub cluster : Cluster
 
 -- the states of these nodes
 abbrev pub states_of : List Core → List Node

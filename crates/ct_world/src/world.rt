@@ -32,9 +32,10 @@ pub struct World {
 }
 
 impl Model for World {
+    ghost use Rattle.ct_rules_cluster.specs.Cluster as cluster;
     ghost use Rattle.ct_world.specs.World as world;
 
-    ghost Value = { world.World };
+    ghost Value = { cluster.World };
 
     ghost view = { λ w. world.world_of w.parts };
 

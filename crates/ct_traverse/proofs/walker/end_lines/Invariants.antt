@@ -1,5 +1,5 @@
 use Rattle.std.proofs.Common.{◌≡◌, ◌++◌, drop}
-use Rattle.ct_traverse.specs.Walk.{end_lines}
+use Rattle.ct_traverse_parts.specs.Walk.{end_lines}
 use Rattle.ct_traverse.proofs.walker.end_lines.Given as goal
 
 -- the lines before and those of the traverses that are left

@@ -1,5 +1,5 @@
 use Rattle.std.proofs.Common.{◌≡◌, drop}
-use Rattle.ct_traverse.specs.Walk.{place_from}
+use Rattle.ct_traverse_parts.specs.Walk.{place_from}
 use Rattle.ct_traverse.proofs.walker.place_of.Given as goal
 
 -- it stands where it stands among those that are left

@@ -1,5 +1,5 @@
 use Rattle.std.proofs.Common.{◌≡◌, ◌++◌, drop, map}
-use Rattle.ct_traverse.specs.Walk.{pending_one}
+use Rattle.ct_traverse_parts.specs.Walk.{pending_one}
 use Rattle.ct_traverse.proofs.walker.Walker.pending.Given as goal
 
 -- those before and those that are left

@@ -1,5 +1,5 @@
 use Rattle.std.proofs.Common.{◌∙◌, ap}
-use Rattle.ct_traverse.specs.Walk.{Walk}
+use Rattle.ct_traverse_parts.specs.Walk.{Walk}
 use Rattle.std.specs.Prelude.{slice_get}
 use Rattle.ct_traverse.proofs.Carrying.{on_ok, turned_so}
 use Rattle.ct_traverse.proofs.walker.Walker.turn.Goals as goal

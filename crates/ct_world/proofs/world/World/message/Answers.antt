@@ -1,7 +1,6 @@
 use Rattle.std.proofs.Common.{◌≡◌, Option, None, Some, ap, subst, sym}
 use Rattle.std.specs.Prelude.{MatchOption}
-use Rattle.ct_rules_cluster.specs.Cluster.{Sent}
-use Rattle.ct_world.specs.World.{World}
+use Rattle.ct_rules_cluster.specs.Cluster.{Sent, World}
 use Rattle.ct_world.proofs.Numbers.{sent_numbered}
 use Rattle.ct_world.proofs.world.World.message.Goals as goal
 

@@ -1,6 +1,5 @@
 use Rattle.std.proofs.Common.{◌∙◌, ap, sym}
-use Rattle.ct_rules_cluster.specs.Cluster.{is_waiting}
-use Rattle.ct_world.specs.World.{World}
+use Rattle.ct_rules_cluster.specs.Cluster.{is_waiting, World}
 use Rattle.ct_world.proofs.Numbers.{sent_numbered}
 use Rattle.ct_world.proofs.world.World.waits.Goals as goal
 

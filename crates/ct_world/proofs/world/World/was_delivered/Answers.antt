@@ -1,6 +1,5 @@
 use Rattle.std.proofs.Common.{◌∙◌, ap, sym}
-use Rattle.ct_rules_cluster.specs.Cluster.{is_delivered}
-use Rattle.ct_world.specs.World.{World}
+use Rattle.ct_rules_cluster.specs.Cluster.{is_delivered, World}
 use Rattle.ct_world.proofs.Numbers.{sent_numbered}
 use Rattle.ct_world.proofs.world.World.was_delivered.Goals as goal
 

@@ -1,6 +1,6 @@
 use Rattle.std.proofs.Common.{◌≡◌, ◌++◌, drop}
-use Rattle.ct_traverse.specs.Walk.{questions}
-use Rattle.ct_traverse.proofs.traverse.Traverse.questions.Given as goal
+use Rattle.ct_traverse_parts.specs.Walk.{questions}
+use Rattle.ct_traverse_parts.proofs.traverse.Traverse.questions.Given as goal
 
 -- the questions before and those to the members that are left
 abbrev pub invariant-loop-member : goal.invariant-loop-member

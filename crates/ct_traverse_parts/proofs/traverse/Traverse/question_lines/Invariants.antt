@@ -1,6 +1,6 @@
 use Rattle.std.proofs.Common.{◌≡◌, ◌+◌, ◌++◌, drop}
-use Rattle.ct_traverse.specs.Walk.{question_lines}
-use Rattle.ct_traverse.proofs.traverse.Traverse.question_lines.Given as goal
+use Rattle.ct_traverse_parts.specs.Walk.{question_lines}
+use Rattle.ct_traverse_parts.proofs.traverse.Traverse.question_lines.Given as goal
 
 -- the lines before and those of the members that are left, under the next numbers
 abbrev pub invariant-loop-member : goal.invariant-loop-member

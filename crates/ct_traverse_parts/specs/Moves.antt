@@ -3,11 +3,10 @@ use Rattle.std.specs.Prelude.{List, [], ◌∷◌, ◌++◌, ℕ, Result, Ok, Er
 use Rattle.std.specs.List.{filter, flat_map}
 use Rattle.ct_values.specs.declared.config.Config.{Config}
 use Rattle.ct_call.specs.Rules.{Rules}
-use Rattle.ct_rules_cluster.specs.Cluster.{Cluster}
+use Rattle.ct_rules_cluster.specs.Cluster.{Cluster, World}
 use Rattle.ct_rules_cluster.specs.Traces.{OpenCall, Ran, after, idle, ran_one}
 use Rattle.ct_rules_cluster.specs.declared.step.Step.{Step}
-use Rattle.ct_world.specs.World.{World}
-use Rattle.ct_traverse.specs.Walk.{Walk, Walked, begun, carried, end_lines, goes_on, lost, repeated}
+use Rattle.ct_traverse_parts.specs.Walk.{Walk, Walked, begun, carried, end_lines, goes_on, lost, repeated}
 use Rattle.ct_traverse_parts.specs.declared.line.TFault.{TFault}
 use Rattle.ct_traverse_parts.specs.declared.line.TLine.{TLine}
 

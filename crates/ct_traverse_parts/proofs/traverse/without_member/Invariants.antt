@@ -1,6 +1,6 @@
 use Rattle.std.proofs.Common.{◌≡◌, ◌++◌, drop}
-use Rattle.ct_traverse.specs.Walk.{without_member}
-use Rattle.ct_traverse.proofs.traverse.without_member.Given as goal
+use Rattle.ct_traverse_parts.specs.Walk.{without_member}
+use Rattle.ct_traverse_parts.proofs.traverse.without_member.Given as goal
 
 -- those before and those that are left
 abbrev pub invariant-loop-member : goal.invariant-loop-member

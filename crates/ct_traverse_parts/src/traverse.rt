@@ -3,15 +3,15 @@ ghost use Rattle.std.specs.Prelude.{◌≡◌, ◌∷◌, [], ◌≤◌, ◌+◌
 ghost use Rattle.ct_traverse_parts.specs.declared.line.Pass.TheVariants as passes;
 ghost use Rattle.ct_traverse_parts.specs.declared.line.TLine.TheVariants as line;
 ghost use Rattle.ct_traverse_parts.specs.Best.{gathered, shown};
-ghost use Rattle.ct_traverse.specs.Walk.{ask_lines, asks, counts, is_same_pass, pending_one, question, question_lines, questions, second_pass, without_member};
+ghost use Rattle.ct_traverse_parts.specs.Walk.{ask_lines, asks, counts, is_same_pass, pending_one, question, question_lines, questions, second_pass, without_member};
 
+use crate::best::{Best, answer, gather};
+use crate::kept::Kept;
+use crate::line::{Pass, TLine, TPending};
+use crate::post::Post;
+use crate::rows::Row;
 use ct_lead::runs::is_among;
 use ct_mail::sent::Fate;
-use ct_traverse_parts::best::{Best, answer, gather};
-use ct_traverse_parts::kept::Kept;
-use ct_traverse_parts::line::{Pass, TLine, TPending};
-use ct_traverse_parts::post::Post;
-use ct_traverse_parts::rows::Row;
 use ct_values::items::Items;
 use ct_values::memory::NoMemory;
 use std::alloc::Global;
@@ -48,11 +48,7 @@ fn is_same_pass(a: Pass, b: Pass) -> bool
 
 /// These numbers without this one.
 #[tactic(auto, unfolding(crate::specs::Walk::without_member))]
-pub(crate) fn without_member(
-    alloc: Global,
-    node: u32,
-    members: &[u32],
-) -> Result<Items<u32>, NoMemory>
+pub fn without_member(alloc: Global, node: u32, members: &[u32]) -> Result<Items<u32>, NoMemory>
     ensures { IfOk result (λ left. left ≡ without_member node members.now) }
 {
     let mut left = Items::empty(alloc);
@@ -83,7 +79,7 @@ impl Traverse {
 
     /// The messages by which it asks all members in a pass.
     #[tactic(auto, unfolding(crate::specs::Walk::questions))]
-    pub(crate) fn questions(&self, alloc: Global, pass: Pass) -> Result<Vec<Post>, NoMemory>
+    pub fn questions(&self, alloc: Global, pass: Pass) -> Result<Vec<Post>, NoMemory>
         ensures { IfOk result (λ posts. posts.items ≡ asks pass self.now) }
     {
         let mut posts = Vec::new(alloc);
@@ -95,7 +91,7 @@ impl Traverse {
 
     /// The lines of these messages, the first of which gets this number.
     #[tactic(auto, unfolding(crate::specs::Walk::question_lines))]
-    pub(crate) fn question_lines(
+    pub fn question_lines(
         &self,
         alloc: Global,
         pass: Pass,
@@ -121,14 +117,14 @@ impl Traverse {
     }
 
     /// Do these rows count?
-    pub(crate) fn counts(&self, post: &Post) -> bool
+    pub fn counts(&self, post: &Post) -> bool
         ensures { result ≡ counts post.now self.now }
     {
         is_same_pass(post.pass, self.pass) && is_among(post.sender, self.missing.as_slice())
     }
 
     /// It has these rows of its pass, and these members are missing yet. Without memory nothing changes.
-    pub(crate) fn count(
+    pub fn count(
         &mut self,
         alloc: Global,
         pass: Pass,
@@ -145,7 +141,7 @@ impl Traverse {
     }
 
     /// It has these rows, the last ones of its first pass, and asks for entries. Without memory nothing changes.
-    pub(crate) fn turn(
+    pub fn turn(
         &mut self,
         alloc: Global,
         pass: Pass,
@@ -163,7 +159,7 @@ impl Traverse {
     }
 
     /// The line of its answer, once it has these rows. Without memory nothing changes.
-    pub(crate) fn answer(
+    pub fn answer(
         &mut self,
         alloc: Global,
         pass: Pass,
@@ -177,7 +173,7 @@ impl Traverse {
     }
 
     /// What waits to be answered.
-    pub(crate) fn pending(&self) -> TPending
+    pub fn pending(&self) -> TPending
         ensures { result ≡ pending_one self.now }
     {
         TPending {

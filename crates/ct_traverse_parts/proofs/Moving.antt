@@ -4,8 +4,8 @@ use Rattle.ct_values.specs.declared.config.Config.{Config}
 use Rattle.ct_call.specs.Rules.{Rules}
 use Rattle.ct_rules_cluster.specs.Cluster.{Cluster}
 use Rattle.ct_rules_cluster.specs.Traces.{OpenCall, Ran, after, idle, ran}
-use Rattle.ct_traverse.specs.Moves.{Move, Stepped, Begin, Carry, Lose, Again, Moved, and_more, moved, moves_ran, stepped_by, steps_in}
-use Rattle.ct_traverse.specs.Walk.{Walk}
+use Rattle.ct_traverse_parts.specs.Moves.{Move, Stepped, Begin, Carry, Lose, Again, Moved, and_more, moved, moves_ran, stepped_by, steps_in}
+use Rattle.ct_traverse_parts.specs.Walk.{Walk}
 
 after_after : (q r t : Ran) → after q (after r t) ≡ after (after q r) t
 unfolding after

@@ -7,8 +7,7 @@ use Rattle.ct_frame.specs.declared.frame.TableRow.{TableRow}
 use Rattle.ct_node_view.specs.Had.{entries_of}
 use Rattle.ct_rules_node.specs.Node.{Node, db_at, is_among, is_present_in, is_serving, kind_at}
 use Rattle.ct_rules_node.specs.Rounds.{rows_of}
-use Rattle.ct_rules_cluster.specs.Cluster.{is_up, node_at}
-use Rattle.ct_world.specs.World.{World}
+use Rattle.ct_rules_cluster.specs.Cluster.{is_up, node_at, World}
 use Rattle.ct_traverse_parts.specs.Best.{gathered, shown}
 use Rattle.ct_traverse_parts.specs.Posts.{ended_as, is_delivered, is_waiting, numbered}
 use Rattle.ct_traverse_parts.specs.declared.line.Pass.{Pass}
@@ -19,7 +18,7 @@ use Rattle.ct_traverse_parts.specs.declared.line.TLine.{TLine}
 use Rattle.ct_traverse_parts.specs.declared.line.TLine.TheVariants as line
 use Rattle.ct_traverse_parts.specs.declared.line.TPending.{TPending}
 use Rattle.ct_traverse_parts.specs.declared.post.Post.{Post}
-use Rattle.ct_traverse.specs.declared.traverse.Traverse.{Traverse}
+use Rattle.ct_traverse_parts.specs.declared.traverse.Traverse.{Traverse}
 
 -- the number of the last traverse that was begun; those that have neither ended nor were answered, by number; all messages
 pub record Walk : Type 0 where
