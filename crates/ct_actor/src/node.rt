@@ -21,10 +21,19 @@ use std::marker::Model;
 
 /// A node with its journal. It is run by the rules of a table where its entries are a run by these rules, from the opening
 /// of its node to the state that its core is in.
-#[derive(Drop)]
 pub struct Node {
     core: Core,
     entries: Vec<JournalEntry>,
+}
+
+impl Drop for Node {
+    /// All that it holds is let go.
+    fn drop(self) {
+        let Node {
+            core: _,
+            entries: _,
+        } = self;
+    }
 }
 
 impl Model for Node {
@@ -104,9 +113,10 @@ impl Node {
         ensures { result ≡ record { node = self.core.pnn; entries = self.entries } }
     {
         let node = self.core.pnn();
+        let Node { core: _, entries } = self;
         Journal {
             node,
-            entries: Items::new(self.entries),
+            entries: Items::new(entries),
         }
     }
 }

@@ -33,11 +33,21 @@ use std::marker::Model;
 use std::mem;
 
 /// One node, with its number and its configuration.
-#[derive(Drop)]
 pub struct Core {
     pub(crate) pnn: u32,
     pub(crate) config: Config,
     pub(crate) node: Node,
+}
+
+impl Drop for Core {
+    /// All that it holds is let go.
+    fn drop(self) {
+        let Core {
+            pnn: _,
+            config: _,
+            node: _,
+        } = self;
+    }
 }
 
 impl Model for Core {

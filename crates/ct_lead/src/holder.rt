@@ -14,11 +14,22 @@ use std::alloc::Global;
 use std::marker::Model;
 
 /// The addresses that are held, ascending, and the number of the last run that was followed, or 0.
-#[derive(Debug, Drop)]
+#[derive(Debug)]
 pub struct Holder {
     alloc: Global,
     held: Vec<Address>,
     last_run: u64,
+}
+
+impl Drop for Holder {
+    /// All that it holds is let go.
+    fn drop(self) {
+        let Holder {
+            alloc: _,
+            held: _,
+            last_run: _,
+        } = self;
+    }
 }
 
 impl Model for Holder {

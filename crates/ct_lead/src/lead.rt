@@ -37,10 +37,16 @@ pub(crate) enum Led {
 }
 
 /// What a node leads: nothing, or a round by what it waits for, or a completed one.
-#[derive(Drop)]
 pub struct Lead {
     pub(crate) alloc: Global,
     pub(crate) led: Led,
+}
+
+impl Drop for Lead {
+    /// All that it holds is let go.
+    fn drop(self) {
+        let Lead { alloc: _, led: _ } = self;
+    }
 }
 
 impl Model for Lead {

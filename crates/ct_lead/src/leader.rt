@@ -20,7 +20,7 @@ use std::marker::Model;
 
 /// The leader of a round: itself, the generation, the members, what it waits for and from whom, and what it gathered. It
 /// has room for all members to be missing in every stage.
-#[derive(Debug, Drop)]
+#[derive(Debug)]
 pub struct Leader {
     alloc: Global,
     me: u32,
@@ -28,6 +28,20 @@ pub struct Leader {
     members: Awaited,
     stage: Stage,
     merging: Merging,
+}
+
+impl Drop for Leader {
+    /// All that it holds is let go.
+    fn drop(self) {
+        let Leader {
+            alloc: _,
+            me: _,
+            generation: _,
+            members: _,
+            stage: _,
+            merging: _,
+        } = self;
+    }
 }
 
 impl Model for Leader {

@@ -17,12 +17,24 @@ use std::marker::Model;
 
 /// A run: its number, the placement that is made, the members, and those of them that have not released yet. No
 /// acknowledgement needs memory.
-#[derive(Debug, Drop)]
+#[derive(Debug)]
 pub struct Run {
     alloc: Global,
     number: u64,
     members: Awaited,
     placement: Items<Assigned>,
+}
+
+impl Drop for Run {
+    /// All that it holds is let go.
+    fn drop(self) {
+        let Run {
+            alloc: _,
+            number: _,
+            members: _,
+            placement: _,
+        } = self;
+    }
 }
 
 impl Model for Run {

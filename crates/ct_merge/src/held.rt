@@ -15,17 +15,31 @@ use std::alloc::Global;
 use std::cmp::Ordering;
 
 /// A copy of a record at a member.
-#[derive(Debug, Drop)]
+#[derive(Debug)]
 pub struct HeldRow {
     pub node: u32,
     pub row: TableRow,
 }
 
+impl Drop for HeldRow {
+    /// All that it holds is let go.
+    fn drop(self) {
+        let HeldRow { node: _, row: _ } = self;
+    }
+}
+
 /// A persistent database at a member.
-#[derive(Debug, Drop)]
+#[derive(Debug)]
 pub struct HeldPTable {
     pub node: u32,
     pub ptable: PTable,
+}
+
+impl Drop for HeldPTable {
+    /// All that it holds is let go.
+    fn drop(self) {
+        let HeldPTable { node: _, ptable: _ } = self;
+    }
 }
 
 /// An address at a member.

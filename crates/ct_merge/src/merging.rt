@@ -15,7 +15,7 @@ use std::alloc::Global;
 use std::marker::Model;
 
 /// What is gathered of the pulls so far: one table, and not one of each pull.
-#[derive(Debug, Drop)]
+#[derive(Debug)]
 pub struct Merging {
     alloc: Global,
     nodes: Vec<u32>,
@@ -24,6 +24,21 @@ pub struct Merging {
     pbase: u64,
     ptables: Vec<HeldPTable>,
     addresses: Vec<HeldAddress>,
+}
+
+impl Drop for Merging {
+    /// All that it holds is let go.
+    fn drop(self) {
+        let Merging {
+            alloc: _,
+            nodes: _,
+            vbase: _,
+            rows: _,
+            pbase: _,
+            ptables: _,
+            addresses: _,
+        } = self;
+    }
 }
 
 impl Model for Merging {

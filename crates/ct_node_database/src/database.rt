@@ -41,11 +41,21 @@ pub enum Sweep {
 }
 
 /// A commit that waits for other members: the client's call, its writes, and its number with the missing members.
-#[derive(Drop)]
 pub struct Committing {
     pub call: u64,
     pub writes: Items<Pair>,
     pub pending: Commit,
+}
+
+impl Drop for Committing {
+    /// All that it holds is let go.
+    fn drop(self) {
+        let Committing {
+            call: _,
+            writes: _,
+            pending: _,
+        } = self;
+    }
 }
 
 impl Model for Committing {
@@ -80,7 +90,6 @@ impl Duplicate for Committing {
 
 /// The state of a database: keys and floor of one with records, contents and waiting commit of a persistent one. The keys
 /// of deleted records are noted beside, for the next vacuum.
-#[derive(Drop)]
 pub struct Database {
     alloc: Global,
     records: Store<Boxed<RecState>>,
@@ -88,6 +97,20 @@ pub struct Database {
     floor: u64,
     store: PStore,
     commit: Option<Committing>,
+}
+
+impl Drop for Database {
+    /// All that it holds is let go.
+    fn drop(self) {
+        let Database {
+            alloc: _,
+            records: _,
+            noted: _,
+            floor: _,
+            store: _,
+            commit: _,
+        } = self;
+    }
 }
 
 impl Model for Database {
@@ -397,7 +420,14 @@ impl Database {
     pub fn restarted(self) -> Database
         ensures { result ≡ restarted_db self }
     {
-        let Database { alloc, store, .. } = self;
+        let Database {
+            alloc,
+            records: _,
+            noted: _,
+            floor: _,
+            store,
+            commit: _,
+        } = self;
         Database {
             alloc,
             records: Store::new(alloc),

@@ -12,10 +12,16 @@ use std::alloc::Global;
 use std::marker::Model;
 
 /// The members, which share the keys; a node of no generation has none. They ascend.
-#[derive(Drop)]
 pub struct Members {
     alloc: Global,
     map: Option<VnnMap>,
+}
+
+impl Drop for Members {
+    /// All that it holds is let go.
+    fn drop(self) {
+        let Members { alloc: _, map: _ } = self;
+    }
 }
 
 impl Model for Members {

@@ -1,16 +1,17 @@
 //! The state of a node.
-ghost use Rattle.std.specs.Prelude.{◌≡◌, ◌≢◌, ◌<◌, true, [], IfOk, OnOk, OnErr, length, slice_get, slice_set, option_copied};
+ghost use Rattle.std.specs.Prelude.{◌≡◌, ◌≢◌, ◌<◌, true, [], IfOk, OnOk, OnErr, length, slice_get, slice_set, map, option_copied};
 ghost use Rattle.std.specs.List.Sorted.{IsStrictlyIncreasing};
 ghost use Rattle.ct_node_database.specs.Noted.{is_deleted};
 ghost use Rattle.ct_persist.specs.Persisted.{updated};
 ghost use Rattle.ct_store.specs.Map.{look};
-ghost use Rattle.ct_rules_node.specs.Node.{db_at, opening, or_nothing, or_untouched, state_at, untouched_all, with_db};
+ghost use Rattle.ct_rules_node.specs.Node.{db_at, opening, or_nothing, or_untouched, restarted, state_at, untouched_all, with_db};
 ghost use Rattle.ct_rules_node.specs.Records.{kept, place_of, put_back, view, with_state};
 ghost use Rattle.ct_node_state.specs.Whole.{left_as};
 
 use crate::kinds::{is_readonly, kind_at};
 use crate::members::Members;
 use crate::placing::assigned_all;
+use crate::restart::{nowhere, restarted_all};
 use ct_frame::frame::Assigned;
 use ct_lead::holder::Holder;
 use ct_lead::lead::Lead;
@@ -30,7 +31,6 @@ use std::alloc::Global;
 use std::marker::Model;
 
 /// The state of a node.
-#[derive(Drop)]
 pub struct Node {
     pub alloc: Global,
     /// The promise, the phase and the generation.
@@ -49,6 +49,24 @@ pub struct Node {
     /// The next request number.
     pub next: u64,
     pub lead: Lead,
+}
+
+impl Drop for Node {
+    /// All that it holds is let go.
+    fn drop(self) {
+        let Node {
+            alloc: _,
+            member: _,
+            pbase: _,
+            members: _,
+            leader: _,
+            dbs: _,
+            placement: _,
+            holder: _,
+            next: _,
+            lead: _,
+        } = self;
+    }
 }
 
 impl Model for Node {
@@ -368,5 +386,39 @@ impl Node {
         ensures { self.new ≡ with_db db (record (db_at db self.old) { commit = commit }) self.old }
     {
         wait_at(&mut self.dbs, db as usize, commit);
+    }
+
+    /// What a stop leaves: the promise, the persistent databases and their base. The placement is of the addresses of the
+    /// configuration.
+    #[tactic(auto, using(crate::proofs::Placed::placed_nowhere), unfolding(ct_rules_node::specs::Node::restarted))]
+    pub fn restarted(self, config: &Config) -> Node
+        requires { map (λ x. x.address) self.placement ≡ config.now.addresses }
+        ensures { result ≡ restarted config.now self }
+    {
+        let Node {
+            alloc,
+            member,
+            pbase,
+            members: _,
+            leader: _,
+            dbs,
+            placement,
+            holder: _,
+            next: _,
+            lead: _,
+        } = self;
+        let _addresses = config.addresses.len();
+        Node {
+            alloc,
+            member: Member::new(member.promised()),
+            pbase,
+            members: Members::none(alloc),
+            leader: None,
+            dbs: restarted_all(alloc, dbs),
+            placement: nowhere(placement),
+            holder: Holder::new(alloc),
+            next: 1,
+            lead: Lead::nothing(alloc),
+        }
     }
 }

@@ -1,16 +1,10 @@
 //! What a stop leaves of a node. No call takes memory.
 ghost use Rattle.std.specs.Prelude.{◌≡◌, map};
 ghost use Rattle.ct_node_state.specs.Whole.{nowhere};
-ghost use Rattle.ct_rules_node.specs.Node.{restarted, restarted_db};
+ghost use Rattle.ct_rules_node.specs.Node.{restarted_db};
 
-use crate::members::Members;
-use crate::node::Node;
 use ct_frame::frame::Assigned;
-use ct_lead::holder::Holder;
-use ct_lead::lead::Lead;
-use ct_lead::member::Member;
 use ct_node_database::database::Database;
-use ct_values::config::Config;
 use ct_values::items::Items;
 use std::alloc::Global;
 use std::mem;
@@ -25,7 +19,7 @@ fn restart(alloc: Global, database: &mut Database)
 
 /// What a stop leaves of the databases.
 #[tactic(auto, using(std::proofs::lemmas::List::Edits::map_over_more, crate::proofs::Placed::all_changed))]
-fn restarted_all(alloc: Global, dbs: Items<Database>) -> Items<Database>
+pub(crate) fn restarted_all(alloc: Global, dbs: Items<Database>) -> Items<Database>
     ensures { result ≡ map restarted_db dbs }
 {
     let mut list = dbs.into_vec();
@@ -44,7 +38,7 @@ fn vacate(place: &mut Assigned)
 
 /// No node is known at any of these addresses.
 #[tactic(auto, using(std::proofs::lemmas::List::Edits::map_over_more, crate::proofs::Placed::all_changed))]
-fn nowhere(placement: Items<Assigned>) -> Items<Assigned>
+pub(crate) fn nowhere(placement: Items<Assigned>) -> Items<Assigned>
     ensures { result ≡ map nowhere placement }
 {
     let mut list = placement.into_vec();
@@ -52,36 +46,4 @@ fn nowhere(placement: Items<Assigned>) -> Items<Assigned>
         vacate(x);
     }
     Items::new(list)
-}
-
-impl Node {
-    /// What a stop leaves: the promise, the persistent databases and their base. The placement is of the addresses of the
-    /// configuration.
-    #[tactic(auto, using(crate::proofs::Placed::placed_nowhere), unfolding(ct_rules_node::specs::Node::restarted))]
-    pub fn restarted(self, config: &Config) -> Node
-        requires { map (λ x. x.address) self.placement ≡ config.now.addresses }
-        ensures { result ≡ restarted config.now self }
-    {
-        let Node {
-            alloc,
-            member,
-            pbase,
-            dbs,
-            placement,
-            ..
-        } = self;
-        let _addresses = config.addresses.len();
-        Node {
-            alloc,
-            member: Member::new(member.promised()),
-            pbase,
-            members: Members::none(alloc),
-            leader: None,
-            dbs: restarted_all(alloc, dbs),
-            placement: nowhere(placement),
-            holder: Holder::new(alloc),
-            next: 1,
-            lead: Lead::nothing(alloc),
-        }
-    }
 }

@@ -10,10 +10,17 @@ use std::alloc::Global;
 use std::marker::Model;
 
 /// A commit: its number, and the members that have not acknowledged it.
-#[derive(Debug, Drop)]
+#[derive(Debug)]
 pub struct Commit {
     seq: u64,
     members: Awaited,
+}
+
+impl Drop for Commit {
+    /// All that it holds is let go.
+    fn drop(self) {
+        let Commit { seq: _, members: _ } = self;
+    }
 }
 
 impl Model for Commit {

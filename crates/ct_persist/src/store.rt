@@ -29,11 +29,21 @@ pub enum Updated {
 
 /// The pairs of a persistent database, and the number of the last commit that was applied to them. No pair has the empty
 /// value.
-#[derive(Drop)]
 pub struct PStore {
     alloc: Global,
     seq: u64,
     items: PlainStore<Value>,
+}
+
+impl Drop for PStore {
+    /// All that it holds is let go.
+    fn drop(self) {
+        let PStore {
+            alloc: _,
+            seq: _,
+            items: _,
+        } = self;
+    }
 }
 
 impl Model for PStore {

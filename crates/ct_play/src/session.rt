@@ -27,11 +27,21 @@ use ct_world::world::World;
 use std::alloc::Global;
 
 /// What the lines so far said, the cluster, once a line opened it, and its traverses.
-#[derive(Drop)]
 pub struct Session {
     pub places: Places,
     pub world: Option<World>,
     pub walker: Walker,
+}
+
+impl Drop for Session {
+    /// All that it holds is let go.
+    fn drop(self) {
+        let Session {
+            places: _,
+            world: _,
+            walker: _,
+        } = self;
+    }
 }
 
 /// Does the line say what the cluster is?

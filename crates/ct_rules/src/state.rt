@@ -15,12 +15,24 @@ use std::alloc::Global;
 
 /// What the location master knows of a record: the node that has it or is sent it, the least RSN that it has there, the
 /// number of the request that it was sent for, or 0, and the value that was sent.
-#[derive(Debug, Drop, PartialEq, Eq)]
+#[derive(Debug, PartialEq, Eq)]
 pub struct Entry {
     pub holder: u32,
     pub least: u64,
     pub request: u64,
     pub value: Value,
+}
+
+impl Drop for Entry {
+    /// All that it holds is let go.
+    fn drop(self) {
+        let Entry {
+            holder: _,
+            least: _,
+            request: _,
+            value: _,
+        } = self;
+    }
 }
 
 impl Entry {
@@ -93,7 +105,7 @@ impl Duplicate for RecallNote {
 }
 
 /// A client call that waits for the record.
-#[derive(Debug, Drop, PartialEq, Eq)]
+#[derive(Debug, PartialEq, Eq)]
 pub struct Wish {
     /// The number of the client call.
     pub call: u64,
@@ -101,6 +113,17 @@ pub struct Wish {
     /// of a revocation.
     pub request: u64,
     pub op: ClientOp,
+}
+
+impl Drop for Wish {
+    /// All that it holds is let go.
+    fn drop(self) {
+        let Wish {
+            call: _,
+            request: _,
+            op: _,
+        } = self;
+    }
 }
 
 impl Wish {
@@ -123,7 +146,7 @@ impl Duplicate for Wish {
 }
 
 /// All that a node keeps of one record.
-#[derive(Debug, Drop)]
+#[derive(Debug)]
 pub struct RecState {
     /// Its copy, if it has one.
     pub copy: Option<RecCopy>,
@@ -141,6 +164,22 @@ pub struct RecState {
     pub locked: Option<u64>,
     /// The client call that waits for the record, if one does.
     pub wish: Option<Wish>,
+}
+
+impl Drop for RecState {
+    /// All that it holds is let go.
+    fn drop(self) {
+        let RecState {
+            copy: _,
+            entry: _,
+            queue: _,
+            waiting: _,
+            tracking: _,
+            vacuum: _,
+            locked: _,
+            wish: _,
+        } = self;
+    }
 }
 
 impl RecState {

@@ -17,10 +17,16 @@ use std::collections::HashMap;
 use std::marker::Model;
 
 /// Items by key, found by the hash of the key. The seed of the hash is fixed.
-#[derive(Drop)]
 pub struct Store<T> {
     alloc: Global,
     items: HashMap<Key, T>,
+}
+
+impl<T: Drop> Drop for Store<T> {
+    /// All that it holds is let go.
+    fn drop(self) {
+        let Store { alloc: _, items: _ } = self;
+    }
 }
 
 impl<T> Model for Store<T> {

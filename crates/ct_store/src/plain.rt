@@ -12,10 +12,16 @@ use std::collections::BTreeMap;
 use std::marker::Model;
 
 /// Items by key, kept in the order of the keys.
-#[derive(Drop)]
 pub struct PlainStore<T> {
     alloc: Global,
     items: BTreeMap<Key, T>,
+}
+
+impl<T: Drop> Drop for PlainStore<T> {
+    /// All that it holds is let go.
+    fn drop(self) {
+        let PlainStore { alloc: _, items: _ } = self;
+    }
 }
 
 impl<T> Model for PlainStore<T> {

@@ -14,10 +14,20 @@ use std::marker::Model;
 
 /// The nodes that are asked, and those of them that are missing: that have not acknowledged yet. It has room for all of
 /// them to be missing, so that to ask again takes no memory.
-#[derive(Debug, Drop)]
+#[derive(Debug)]
 pub struct Awaited {
     asked: Vec<u32>,
     missing: Vec<u32>,
+}
+
+impl Drop for Awaited {
+    /// All that it holds is let go.
+    fn drop(self) {
+        let Awaited {
+            asked: _,
+            missing: _,
+        } = self;
+    }
 }
 
 impl Model for Awaited {

@@ -10,10 +10,16 @@ use std::collections::BTreeSet;
 use std::marker::Model;
 
 /// A set of keys, seen by ascending key. To note or to forget a key costs the logarithm of their number.
-#[derive(Drop)]
 pub struct Candidates {
     alloc: Global,
     set: BTreeSet<Key>,
+}
+
+impl Drop for Candidates {
+    /// All that it holds is let go.
+    fn drop(self) {
+        let Candidates { alloc: _, set: _ } = self;
+    }
 }
 
 impl Model for Candidates {

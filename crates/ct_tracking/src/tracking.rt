@@ -13,10 +13,20 @@ use std::marker::Model;
 
 /// The nodes that may hold a copy of a record for reading and, while their copies are revoked, the revocation's number
 /// and the nodes that have not acknowledged it.
-#[derive(Debug, Drop)]
+#[derive(Debug)]
 pub struct Tracking {
     nodes: Awaited,
     revoking: Option<u64>,
+}
+
+impl Drop for Tracking {
+    /// All that it holds is let go.
+    fn drop(self) {
+        let Tracking {
+            nodes: _,
+            revoking: _,
+        } = self;
+    }
 }
 
 impl Model for Tracking {

@@ -19,11 +19,22 @@ pub enum VacuumPhase {
 
 /// A vacuum of one key: its phase, the sequence number of the copy that is stored, and the nodes that have not
 /// acknowledged the phase. No acknowledgement needs memory.
-#[derive(Debug, Drop)]
+#[derive(Debug)]
 pub struct Vacuum {
     phase: VacuumPhase,
     rsn: u64,
     others: Awaited,
+}
+
+impl Drop for Vacuum {
+    /// All that it holds is let go.
+    fn drop(self) {
+        let Vacuum {
+            phase: _,
+            rsn: _,
+            others: _,
+        } = self;
+    }
 }
 
 impl Model for Vacuum {

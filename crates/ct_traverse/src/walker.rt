@@ -32,12 +32,23 @@ use std::marker::Model;
 const LIMIT: u64 = 4611686018427387904;
 
 /// The traverses of a cluster that go on, by number, and all their messages. Each call is given the cluster as it is then.
-#[derive(Drop)]
 pub struct Walker {
     alloc: Global,
     begun: u64,
     running: Vec<Traverse>,
     posts: Posts,
+}
+
+impl Drop for Walker {
+    /// All that it holds is let go.
+    fn drop(self) {
+        let Walker {
+            alloc: _,
+            begun: _,
+            running: _,
+            posts: _,
+        } = self;
+    }
 }
 
 impl Model for Walker {

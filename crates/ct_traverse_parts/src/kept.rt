@@ -10,10 +10,16 @@ use std::collections::{BTreeMap, HashMap};
 use std::marker::Model;
 
 /// Items by key, found by the hash of the key. The seed of the hash is fixed.
-#[derive(Drop)]
 pub struct Kept<T> {
     alloc: Global,
     items: HashMap<Part, T>,
+}
+
+impl<T: Drop> Drop for Kept<T> {
+    /// All that it holds is let go.
+    fn drop(self) {
+        let Kept { alloc: _, items: _ } = self;
+    }
 }
 
 impl<T> Model for Kept<T> {

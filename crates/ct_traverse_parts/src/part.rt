@@ -14,11 +14,21 @@ use std::marker::Model;
 use std::rc::Rc;
 
 /// A part of bytes that have several owners, in the order of its bytes.
-#[derive(Drop)]
 pub struct Part {
     all: Rc<Vec<u8>>,
     start: usize,
     end: usize,
+}
+
+impl Drop for Part {
+    /// All that it holds is let go.
+    fn drop(self) {
+        let Part {
+            all: _,
+            start: _,
+            end: _,
+        } = self;
+    }
 }
 
 impl Model for Part {

@@ -27,10 +27,16 @@ pub struct Post {
 }
 
 /// Every message of traverses, in the order of its number from 1. The first one that waits is known without a search.
-#[derive(Drop)]
 pub struct Posts {
     list: Items<Post>,
     first: usize,
+}
+
+impl Drop for Posts {
+    /// All that it holds is let go.
+    fn drop(self) {
+        let Posts { list: _, first: _ } = self;
+    }
 }
 
 impl Model for Posts {

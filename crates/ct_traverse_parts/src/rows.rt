@@ -11,13 +11,25 @@ use std::marker::Model;
 use std::rc::Rc;
 
 /// A row of a message.
-#[derive(Drop)]
 pub struct Row {
     key: Part,
     value: Part,
     rsn: u64,
     db: u32,
     master: Option<u32>,
+}
+
+impl Drop for Row {
+    /// All that it holds is let go.
+    fn drop(self) {
+        let Row {
+            key: _,
+            value: _,
+            rsn: _,
+            db: _,
+            master: _,
+        } = self;
+    }
 }
 
 impl Model for Row {
@@ -29,9 +41,15 @@ impl Model for Row {
 }
 
 /// All rows of a message. They may have several owners.
-#[derive(Drop)]
 pub struct Rows {
     list: Rc<Vec<Row>>,
+}
+
+impl Drop for Rows {
+    /// All that it holds is let go.
+    fn drop(self) {
+        let Rows { list: _ } = self;
+    }
 }
 
 impl Model for Rows {

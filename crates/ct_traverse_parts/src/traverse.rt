@@ -18,7 +18,6 @@ use std::alloc::Global;
 
 /// A traverse of a database: who asks, the generation and its members, the pass that runs and who has not answered it yet, and
 /// what is kept of each key.
-#[derive(Drop)]
 pub struct Traverse {
     pub number: u64,
     pub node: u32,
@@ -28,6 +27,22 @@ pub struct Traverse {
     pub pass: Pass,
     pub missing: Items<u32>,
     pub kept: Kept<Best>,
+}
+
+impl Drop for Traverse {
+    /// All that it holds is let go.
+    fn drop(self) {
+        let Traverse {
+            number: _,
+            node: _,
+            generation: _,
+            db: _,
+            members: _,
+            pass: _,
+            missing: _,
+            kept: _,
+        } = self;
+    }
 }
 
 /// Are they one pass?

@@ -10,9 +10,16 @@ use std::boxed::Box;
 use std::marker::Model;
 
 /// A value on the heap, which is moved as one pointer. It is seen as the value and nothing else.
-#[derive(Debug, Drop)]
+#[derive(Debug)]
 pub struct Boxed<T> {
     held: Box<T>,
+}
+
+impl<T: Drop> Drop for Boxed<T> {
+    /// All that it holds is let go.
+    fn drop(self) {
+        let Boxed { held: _ } = self;
+    }
 }
 
 impl<T> Model for Boxed<T> {
@@ -44,7 +51,8 @@ impl<T> Boxed<T> {
     pub fn into_inner(self) -> T
         ensures { result ≡ self }
     {
-        Box::into_inner(self.held)
+        let Boxed { held } = self;
+        Box::into_inner(held)
     }
 }
 
@@ -61,9 +69,16 @@ impl<T: Drop> Boxed<T> {
 }
 
 /// A list on the heap, which is moved as one pointer. It is seen as its items and nothing else.
-#[derive(Debug, Drop)]
+#[derive(Debug)]
 pub struct BoxedItems<T> {
     list: Box<Vec<T>>,
+}
+
+impl<T: Drop> Drop for BoxedItems<T> {
+    /// All that it holds is let go.
+    fn drop(self) {
+        let BoxedItems { list: _ } = self;
+    }
 }
 
 impl<T> Model for BoxedItems<T> {

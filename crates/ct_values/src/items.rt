@@ -8,9 +8,16 @@ use std::alloc::{AllocFailed, Global};
 use std::marker::Model;
 
 /// A list that is seen as its items and nothing else.
-#[derive(Debug, Drop)]
+#[derive(Debug)]
 pub struct Items<T> {
     list: Vec<T>,
+}
+
+impl<T: Drop> Drop for Items<T> {
+    /// All that it holds is let go.
+    fn drop(self) {
+        let Items { list: _ } = self;
+    }
 }
 
 impl<T> Model for Items<T> {
@@ -59,7 +66,8 @@ impl<T> Items<T> {
     pub fn into_vec(self) -> Vec<T>
         ensures { result.items ≡ self }
     {
-        self.list
+        let Items { list } = self;
+        list
     }
 
     pub fn len(&self) -> usize

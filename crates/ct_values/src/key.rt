@@ -17,9 +17,16 @@ use std::marker::Model;
 use std::sync::Arc;
 
 /// A key: 1 to 255 bytes, in the order of its bytes.
-#[derive(Debug, Drop)]
+#[derive(Debug)]
 pub struct Key {
     list: Arc<Vec<u8>>,
+}
+
+impl Drop for Key {
+    /// All that it holds is let go.
+    fn drop(self) {
+        let Key { list: _ } = self;
+    }
 }
 
 impl Model for Key {

@@ -34,9 +34,16 @@ impl From<AllocError> for MapFault {
 }
 
 /// The members that share the keys: the numbers of one node or more, none of them twice, in an order that counts.
-#[derive(Debug, Drop)]
+#[derive(Debug)]
 pub struct VnnMap {
     list: Vec<u32>,
+}
+
+impl Drop for VnnMap {
+    /// All that it holds is let go.
+    fn drop(self) {
+        let VnnMap { list: _ } = self;
+    }
 }
 
 impl Model for VnnMap {

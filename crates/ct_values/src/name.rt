@@ -51,9 +51,16 @@ fn bad_byte(bytes: &[u8]) -> Option<u64>
 }
 
 /// A name: 1 to 63 bytes, a letter first, then letters, digits, `_`, `.` and `-`, in the order of its bytes.
-#[derive(Debug, Drop)]
+#[derive(Debug)]
 pub struct DbName {
     list: Vec<u8>,
+}
+
+impl Drop for DbName {
+    /// All that it holds is let go.
+    fn drop(self) {
+        let DbName { list: _ } = self;
+    }
 }
 
 impl Model for DbName {

@@ -17,9 +17,16 @@ use std::marker::Model;
 use std::sync::Arc;
 
 /// A value: 0 to 1,024 bytes, in the order of its bytes. The empty value is that of a deleted record.
-#[derive(Debug, Drop)]
+#[derive(Debug)]
 pub struct Value {
     list: Option<Arc<Vec<u8>>>,
+}
+
+impl Drop for Value {
+    /// All that it holds is let go.
+    fn drop(self) {
+        let Value { list: _ } = self;
+    }
 }
 
 impl Model for Value {

@@ -26,9 +26,15 @@ use std::marker::Model;
 
 /// Every node of a configuration, running or not, every message that was sent, who holds the recovery lock, and the numbers
 /// that were given to tickets and calls.
-#[derive(Drop)]
 pub struct World {
     pub(crate) parts: Parts,
+}
+
+impl Drop for World {
+    /// All that it holds is let go.
+    fn drop(self) {
+        let World { parts: _ } = self;
+    }
 }
 
 impl Model for World {

@@ -8,6 +8,3 @@ loop-pair-preserved-in_ok-put c = built_more c.loop-pair.items c.put.new.self (k
 
 pub loop-pair-preserved : goal.loop-pair-preserved
 loop-pair-preserved c = built_more c.loop-pair.items c.put.new.self (keyed c.args.pairs.items) c.in-Some.pair _ _ c.requires c.loop-pair.invariant (search rules) c.in_ok-put.ensures.ok
-
-pub loop-pair-preserved-in_ok-put-2 : goal.loop-pair-preserved-in_ok-put-2
-loop-pair-preserved-in_ok-put-2 c = built_more c.loop-pair.items c.put.new.self (keyed c.args.pairs.items) c.in-Some.pair _ _ c.requires c.loop-pair.invariant (search rules) c.in_ok-put.ensures.ok
