@@ -12,9 +12,15 @@ use std::collections::VecDeque;
 use std::marker::Model;
 
 /// The messages that wait for one node, in the order in which they were sent.
-#[derive(Drop)]
 pub struct Queue {
     list: VecDeque<Frame>,
+}
+
+impl Drop for Queue {
+    /// All that it holds is let go.
+    fn drop(self) {
+        let Queue { list: _ } = self;
+    }
 }
 
 impl Model for Queue {

@@ -15,10 +15,19 @@ use ct_values::memory::NoMemory;
 use std::alloc::Global;
 
 /// The handlers of services, each with its rule, in the order in which they were added. A service may have several.
-#[derive(Drop)]
 pub struct Handlers {
     alloc: Global,
     pub(crate) entries: Vec<Entry>,
+}
+
+impl Drop for Handlers {
+    /// All that it holds is let go.
+    fn drop(self) {
+        let Handlers {
+            alloc: _,
+            entries: _,
+        } = self;
+    }
 }
 
 impl Handlers {

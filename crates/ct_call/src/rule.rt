@@ -8,7 +8,7 @@ use ct_values::value::Value;
 use std::alloc::Global;
 
 /// What the answer is, from the old value of the record and the call's argument.
-#[derive(Debug, Drop)]
+#[derive(Debug)]
 pub enum Rule {
     /// The old value.
     Old,
@@ -18,6 +18,18 @@ pub enum Rule {
     Join(Box<Rule>, Box<Rule>),
     /// At most so many first bytes of the answer.
     Cut(u32, Box<Rule>),
+}
+
+impl Drop for Rule {
+    /// All that it holds is let go.
+    fn drop(self) {
+        match self {
+            Rule::Old => {}
+            Rule::Arg => {}
+            Rule::Join(_, _) => {}
+            Rule::Cut(_, _) => {}
+        }
+    }
 }
 
 impl Rule {

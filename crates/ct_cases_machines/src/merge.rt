@@ -97,12 +97,12 @@ fn pair(alloc: Global, key: &[u8], value: &[u8]) -> Result<Pair, Fail> {
 
 fn add_row(alloc: Global, list: &mut Items<TableRow>, row: Row) -> Result<(), Fail> {
     let (db, key, rsn, value, master) = row;
-    let pair = pair(alloc, key, value)?;
+    let (key, value) = pair(alloc, key, value)?.into_parts();
     list.push(TableRow {
         db,
-        key: pair.key,
+        key,
         rsn,
-        value: pair.value,
+        value,
         master,
     })?;
     Ok(())

@@ -51,12 +51,12 @@ type Row<'a> = (u32, &'a [u8], u64, Option<u32>);
 
 fn row(alloc: Global, row: Row) -> Result<TableRow, Fail> {
     let (db, key, rsn, master) = row;
-    let pair = pair(alloc, key, b"x")?;
+    let (key, value) = pair(alloc, key, b"x")?.into_parts();
     Ok(TableRow {
         db,
-        key: pair.key,
+        key,
         rsn,
-        value: pair.value,
+        value,
         master,
     })
 }

@@ -10,7 +10,7 @@ use ct_values::key::Key;
 use ct_values::memory::NoMemory;
 
 /// What comes to a node.
-#[derive(Debug, Drop, PartialEq, Eq)]
+#[derive(Debug, PartialEq, Eq)]
 pub enum Event {
     /// A client asks, under this number.
     Client { call: u64, op: ClientOp },
@@ -24,6 +24,23 @@ pub enum Event {
     BeginRound { ticket: u64, members: Items<u32> },
     /// This node is to place the addresses anew over these nodes.
     BeginTakeover { able: Items<u32> },
+}
+
+impl Drop for Event {
+    /// All that it holds is let go.
+    fn drop(self) {
+        match self {
+            Event::Client { call: _, op: _ } => {}
+            Event::Arrive(_) => {}
+            Event::Retry => {}
+            Event::Vacuum { db: _ } => {}
+            Event::BeginRound {
+                ticket: _,
+                members: _,
+            } => {}
+            Event::BeginTakeover { able: _ } => {}
+        }
+    }
 }
 
 impl Event {
@@ -57,7 +74,7 @@ impl Duplicate for Event {
 }
 
 /// What a node tells beside its messages and answers.
-#[derive(Debug, Drop, PartialEq, Eq)]
+#[derive(Debug, PartialEq, Eq)]
 pub enum Note {
     /// A deleted record was removed on all nodes.
     Vacuumed {
@@ -85,6 +102,26 @@ pub enum Note {
     Released(Address),
     /// An address was taken.
     Took(Address),
+}
+
+impl Drop for Note {
+    /// All that it holds is let go.
+    fn drop(self) {
+        match self {
+            Note::Vacuumed { db: _, key: _ } => {}
+            Note::Ended { db: _, key: _ } => {}
+            Note::Round {
+                generation: _,
+                members: _,
+                vparent: _,
+                pparent: _,
+            } => {}
+            Note::Installed(_) => {}
+            Note::Thawed(_) => {}
+            Note::Released(_) => {}
+            Note::Took(_) => {}
+        }
+    }
 }
 
 impl Note {

@@ -35,7 +35,7 @@ impl Duplicate for CallKind {
 }
 
 /// A copy of a record, as a recovery moves it.
-#[derive(Debug, Drop, PartialEq, Eq)]
+#[derive(Debug, PartialEq, Eq)]
 pub struct TableRow {
     pub db: u32,
     pub key: Key,
@@ -43,6 +43,19 @@ pub struct TableRow {
     pub value: Value,
     /// The node that is data master of the record, where that is known.
     pub master: Option<u32>,
+}
+
+impl Drop for TableRow {
+    /// All that it holds is let go.
+    fn drop(self) {
+        let TableRow {
+            db: _,
+            key: _,
+            rsn: _,
+            value: _,
+            master: _,
+        } = self;
+    }
 }
 
 impl TableRow {
@@ -67,11 +80,22 @@ impl Duplicate for TableRow {
 }
 
 /// The whole of a persistent database: its sequence number, and its pairs in ascending order of their keys.
-#[derive(Debug, Drop, PartialEq, Eq)]
+#[derive(Debug, PartialEq, Eq)]
 pub struct PTable {
     pub db: u32,
     pub seq: u64,
     pub pairs: Items<Pair>,
+}
+
+impl Drop for PTable {
+    /// All that it holds is let go.
+    fn drop(self) {
+        let PTable {
+            db: _,
+            seq: _,
+            pairs: _,
+        } = self;
+    }
 }
 
 impl PTable {
@@ -120,7 +144,7 @@ impl Duplicate for Assigned {
 
 /// What one node tells another. `db` is the place of a database in the configuration, counted from 0, and `request` the
 /// number that the node that wants the record gave its request.
-#[derive(Debug, Drop, PartialEq, Eq)]
+#[derive(Debug, PartialEq, Eq)]
 pub enum Msg {
     /// Asks the location master for a record.
     Call {
@@ -257,6 +281,120 @@ pub enum Msg {
         run: u64,
         assigned: Items<Assigned>,
     },
+}
+
+impl Drop for Msg {
+    /// All that it holds is let go.
+    fn drop(self) {
+        match self {
+            Msg::Call {
+                db: _,
+                key: _,
+                request: _,
+                kind: _,
+            } => {}
+            Msg::Recall {
+                db: _,
+                key: _,
+                least: _,
+                node: _,
+                request: _,
+                kind: _,
+            } => {}
+            Msg::Give {
+                db: _,
+                key: _,
+                rsn: _,
+                value: _,
+            } => {}
+            Msg::Pass {
+                db: _,
+                key: _,
+                request: _,
+                rsn: _,
+                value: _,
+            } => {}
+            Msg::Refuse {
+                db: _,
+                key: _,
+                request: _,
+                rsn: _,
+            } => {}
+            Msg::Grant {
+                db: _,
+                key: _,
+                request: _,
+                rsn: _,
+                value: _,
+            } => {}
+            Msg::Done {
+                db: _,
+                key: _,
+                node: _,
+                request: _,
+            } => {}
+            Msg::Revoke {
+                db: _,
+                key: _,
+                rsn: _,
+            } => {}
+            Msg::RevokeAck {
+                db: _,
+                key: _,
+                rsn: _,
+            } => {}
+            Msg::VStore {
+                db: _,
+                key: _,
+                rsn: _,
+            } => {}
+            Msg::VStored {
+                db: _,
+                key: _,
+                rsn: _,
+            } => {}
+            Msg::VDelete {
+                db: _,
+                key: _,
+                rsn: _,
+            } => {}
+            Msg::VDeleted {
+                db: _,
+                key: _,
+                rsn: _,
+            } => {}
+            Msg::Freeze { members: _ } => {}
+            Msg::FreezeAck => {}
+            Msg::Pull => {}
+            Msg::PullReply {
+                vbase: _,
+                pbase: _,
+                table: _,
+                ptables: _,
+                addresses: _,
+            } => {}
+            Msg::Push {
+                members: _,
+                table: _,
+                ptables: _,
+                assigned: _,
+            } => {}
+            Msg::PushAck => {}
+            Msg::Thaw => {}
+            Msg::PUpdate {
+                db: _,
+                seq: _,
+                writes: _,
+            } => {}
+            Msg::PAck { db: _, seq: _ } => {}
+            Msg::Release { run: _, keep: _ } => {}
+            Msg::ReleaseAck { run: _ } => {}
+            Msg::Take {
+                run: _,
+                assigned: _,
+            } => {}
+        }
+    }
 }
 
 impl Msg {
@@ -437,12 +575,24 @@ impl Duplicate for Msg {
 }
 
 /// A message on its way. One of another generation than its receiver's is dropped, but for those that begin a recovery.
-#[derive(Debug, Drop, PartialEq, Eq)]
+#[derive(Debug, PartialEq, Eq)]
 pub struct Frame {
     pub generation: u64,
     pub sender: u32,
     pub receiver: u32,
     pub msg: Msg,
+}
+
+impl Drop for Frame {
+    /// All that it holds is let go.
+    fn drop(self) {
+        let Frame {
+            generation: _,
+            sender: _,
+            receiver: _,
+            msg: _,
+        } = self;
+    }
 }
 
 impl Frame {

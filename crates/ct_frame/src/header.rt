@@ -63,10 +63,20 @@ impl Duplicate for Header {
 }
 
 /// A copy of a record.
-#[derive(Debug, Drop, PartialEq, Eq)]
+#[derive(Debug, PartialEq, Eq)]
 pub struct RecCopy {
     pub header: Header,
     pub value: Value,
+}
+
+impl Drop for RecCopy {
+    /// All that it holds is let go.
+    fn drop(self) {
+        let RecCopy {
+            header: _,
+            value: _,
+        } = self;
+    }
 }
 
 impl RecCopy {

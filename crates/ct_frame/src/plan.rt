@@ -8,12 +8,22 @@ use ct_values::items::Items;
 use ct_values::memory::NoMemory;
 
 /// What a node does next.
-#[derive(Debug, Drop, PartialEq, Eq)]
+#[derive(Debug, PartialEq, Eq)]
 pub enum PlanItem {
     /// A client of the node asks this.
     Call(ClientOp),
     /// The node leads a recovery of these members.
     Round(Items<u32>),
+}
+
+impl Drop for PlanItem {
+    /// All that it holds is let go.
+    fn drop(self) {
+        match self {
+            PlanItem::Call(_) => {}
+            PlanItem::Round(_) => {}
+        }
+    }
 }
 
 impl PlanItem {
@@ -35,13 +45,24 @@ impl Duplicate for PlanItem {
 }
 
 /// What each node of a cluster does, in order.
-#[derive(Debug, Drop, PartialEq, Eq)]
+#[derive(Debug, PartialEq, Eq)]
 pub struct Plan {
     pub config: Config,
     /// One list a node, in the order of their numbers.
     pub scripts: Items<Items<PlanItem>>,
     /// Whether the nodes talk over sockets.
     pub net: bool,
+}
+
+impl Drop for Plan {
+    /// All that it holds is let go.
+    fn drop(self) {
+        let Plan {
+            config: _,
+            scripts: _,
+            net: _,
+        } = self;
+    }
 }
 
 impl Plan {

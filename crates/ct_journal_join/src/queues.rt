@@ -12,9 +12,15 @@ use std::marker::Model;
 
 /// The messages from one node to another that have not arrived, by their numbers, in the order in which they were sent.
 /// Messages are numbered from 1, as they are sent.
-#[derive(Drop)]
 pub struct Queue {
     numbers: VecDeque<u64>,
+}
+
+impl Drop for Queue {
+    /// All that it holds is let go.
+    fn drop(self) {
+        let Queue { numbers: _ } = self;
+    }
 }
 
 impl Model for Queue {

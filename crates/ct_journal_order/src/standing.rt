@@ -10,10 +10,20 @@ use std::alloc::Global;
 use std::marker::Model;
 
 /// How many entries of each node stand in the list, and the ticket that was given last.
-#[derive(Debug, Drop)]
+#[derive(Debug)]
 pub struct Standing {
     taken: Vec<usize>,
     ticket: u64,
+}
+
+impl Drop for Standing {
+    /// All that it holds is let go.
+    fn drop(self) {
+        let Standing {
+            taken: _,
+            ticket: _,
+        } = self;
+    }
 }
 
 impl Model for Standing {

@@ -60,23 +60,12 @@ impl Model for Leader {
 fn mastered(me: u32, row: TableRow) -> TableRow
     ensures { result ≡ mastered me row }
 {
-    let TableRow {
-        db,
-        key,
-        rsn,
-        value,
-        master,
-    } = row;
-    TableRow {
-        db,
-        key,
-        rsn,
-        value,
-        master: Some(match master {
-            Some(m) => m,
-            None => me,
-        }),
-    }
+    let mut row = row;
+    row.master = Some(match row.master {
+        Some(m) => m,
+        None => me,
+    });
+    row
 }
 
 /// The rows, each with this leader as data master where it has none.

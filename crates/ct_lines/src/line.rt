@@ -67,7 +67,7 @@ pub enum NamedOp {
 }
 
 /// A command of the command line.
-#[derive(Debug, Drop, PartialEq)]
+#[derive(Debug, PartialEq)]
 pub enum Command {
     Shows(ShowCommand),
     Steps(StepCommand),
@@ -75,8 +75,19 @@ pub enum Command {
     CatDb(DbName),
 }
 
+impl Drop for Command {
+    /// All that it holds is let go.
+    fn drop(self) {
+        match self {
+            Command::Shows(_) => {}
+            Command::Steps(_) => {}
+            Command::CatDb(_) => {}
+        }
+    }
+}
+
 /// A command that shows what a node has and knows. It changes nothing.
-#[derive(Debug, Drop, PartialEq)]
+#[derive(Debug, PartialEq)]
 pub enum ShowCommand {
     Pnn,
     ListNodes,
@@ -85,6 +96,21 @@ pub enum ShowCommand {
     GetDbMap,
     CatTdb(DbName),
     GetDbSeqNum(DbName),
+}
+
+impl Drop for ShowCommand {
+    /// All that it holds is let go.
+    fn drop(self) {
+        match self {
+            ShowCommand::Pnn => {}
+            ShowCommand::ListNodes => {}
+            ShowCommand::Status => {}
+            ShowCommand::Ip => {}
+            ShowCommand::GetDbMap => {}
+            ShowCommand::CatTdb(_) => {}
+            ShowCommand::GetDbSeqNum(_) => {}
+        }
+    }
 }
 
 /// A command that is a step at a node.

@@ -14,12 +14,24 @@ use std::alloc::Global;
 use std::marker::Model;
 
 /// What the lines that were accepted say of the cluster, and whether more may be said.
-#[derive(Debug, Drop)]
+#[derive(Debug)]
 pub struct Places {
     nodes: Option<u32>,
     dbs: Items<DbDecl>,
     addresses: Items<Address>,
     begun: bool,
+}
+
+impl Drop for Places {
+    /// All that it holds is let go.
+    fn drop(self) {
+        let Places {
+            nodes: _,
+            dbs: _,
+            addresses: _,
+            begun: _,
+        } = self;
+    }
 }
 
 impl Model for Places {

@@ -11,10 +11,16 @@ pub enum Fate {
 }
 
 /// A message that was sent, and what became of it.
-#[derive(Drop)]
 pub(crate) struct Sent {
     pub(crate) frame: Frame,
     pub(crate) fate: Fate,
+}
+
+impl Drop for Sent {
+    /// All that it holds is let go.
+    fn drop(self) {
+        let Sent { frame: _, fate: _ } = self;
+    }
 }
 
 impl Model for Sent {

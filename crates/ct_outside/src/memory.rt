@@ -110,10 +110,20 @@ impl Source for MemSource {
 }
 
 /// A sink that keeps in memory what is written, and tells it.
-#[derive(Debug, Drop)]
+#[derive(Debug)]
 pub struct MemSink {
     bytes: Vec<u8>,
     counter: Counter,
+}
+
+impl Drop for MemSink {
+    /// All that it holds is let go.
+    fn drop(self) {
+        let MemSink {
+            bytes: _,
+            counter: _,
+        } = self;
+    }
 }
 
 impl Model for MemSink {

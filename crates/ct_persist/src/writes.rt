@@ -137,7 +137,7 @@ pub fn built(alloc: Global, pairs: Vec<Pair>) -> Result<PlainStore<Value>, NoMem
 {
     let mut items = PlainStore::new(alloc);
     for pair in pairs {
-        let Pair { key, value } = pair;
+        let (key, value) = pair.into_parts();
         items.put(key, value)?;
     }
     Ok(items)

@@ -10,7 +10,7 @@ use ct_values::memory::NoMemory;
 use thiserror::Error;
 
 /// One step of a cluster. Messages are named by their numbers, in the order in which they were sent, from 1.
-#[derive(Debug, Drop, PartialEq, Eq)]
+#[derive(Debug, PartialEq, Eq)]
 pub enum Step {
     /// A client asks its node.
     Client { node: u32, op: ClientOp },
@@ -34,6 +34,29 @@ pub enum Step {
     Takeover(u32),
     /// A node is marked as able to hold addresses, or as not able.
     Able { node: u32, able: bool },
+}
+
+impl Drop for Step {
+    /// All that it holds is let go.
+    fn drop(self) {
+        match self {
+            Step::Client { node: _, op: _ } => {}
+            Step::Deliver(_) => {}
+            Step::Drop(_) => {}
+            Step::Repeat(_) => {}
+            Step::Retry(_) => {}
+            Step::Vacuum { node: _, db: _ } => {}
+            Step::Recover {
+                node: _,
+                members: _,
+            } => {}
+            Step::Yield(_) => {}
+            Step::Stop(_) => {}
+            Step::Start(_) => {}
+            Step::Takeover(_) => {}
+            Step::Able { node: _, able: _ } => {}
+        }
+    }
 }
 
 impl Step {
@@ -77,7 +100,7 @@ impl Duplicate for Step {
 }
 
 /// One line that a step prints.
-#[derive(Debug, Drop, PartialEq, Eq)]
+#[derive(Debug, PartialEq, Eq)]
 pub enum Line {
     /// The message of this number was sent.
     Sent { number: u64, frame: Frame },
@@ -93,6 +116,26 @@ pub enum Line {
     Gone(u64),
     /// The message of this number came to a node that is down.
     Lost(u64),
+}
+
+impl Drop for Line {
+    /// All that it holds is let go.
+    fn drop(self) {
+        match self {
+            Line::Sent {
+                number: _,
+                frame: _,
+            } => {}
+            Line::Answered { call: _, answer: _ } => {}
+            Line::Noted { node: _, note: _ } => {}
+            Line::Ticket { ticket: _, node: _ } => {}
+            Line::Yielded(_) => {}
+            Line::Stopped(_) => {}
+            Line::Started(_) => {}
+            Line::Gone(_) => {}
+            Line::Lost(_) => {}
+        }
+    }
 }
 
 impl Line {
@@ -183,13 +226,25 @@ impl From<NoMemory> for StepFault {
 }
 
 /// A client call that waits for its answer.
-#[derive(Debug, Drop, PartialEq, Eq)]
+#[derive(Debug, PartialEq, Eq)]
 pub struct PendingCall {
     pub call: u64,
     pub node: u32,
     pub op: ClientOp,
     /// The number of the commit, or 0 where the call is none.
     pub seq: u64,
+}
+
+impl Drop for PendingCall {
+    /// All that it holds is let go.
+    fn drop(self) {
+        let PendingCall {
+            call: _,
+            node: _,
+            op: _,
+            seq: _,
+        } = self;
+    }
 }
 
 impl PendingCall {

@@ -14,7 +14,7 @@ pub enum Pass {
 }
 
 /// One line that a traverse prints. Its messages have numbers of their own, from 1, and so have traverses.
-#[derive(Debug, Drop, PartialEq, Eq)]
+#[derive(Debug, PartialEq, Eq)]
 pub enum TLine {
     /// The traverse's node asks a member.
     Asked {
@@ -41,6 +41,34 @@ pub enum TLine {
     Ended(u64),
     /// The answer of a traverse: keys and values, by key.
     Shown(Items<Pair>),
+}
+
+impl Drop for TLine {
+    /// All that it holds is let go.
+    fn drop(self) {
+        match self {
+            TLine::Asked {
+                number: _,
+                sender: _,
+                receiver: _,
+                generation: _,
+                traverse: _,
+                pass: _,
+            } => {}
+            TLine::Rows {
+                number: _,
+                sender: _,
+                receiver: _,
+                generation: _,
+                traverse: _,
+                pass: _,
+                count: _,
+            } => {}
+            TLine::TLost(_) => {}
+            TLine::Ended(_) => {}
+            TLine::Shown(_) => {}
+        }
+    }
 }
 
 /// A traverse that has neither ended nor was answered.

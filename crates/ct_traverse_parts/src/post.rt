@@ -14,7 +14,6 @@ use std::marker::Model;
 
 /// A message of a traverse: it asks its receiver for what it has of a database, or, with rows, it answers that. What became of
 /// it is kept with it.
-#[derive(Drop)]
 pub struct Post {
     pub sender: u32,
     pub receiver: u32,
@@ -24,6 +23,22 @@ pub struct Post {
     pub pass: Pass,
     pub rows: Option<Rows>,
     pub fate: Fate,
+}
+
+impl Drop for Post {
+    /// All that it holds is let go.
+    fn drop(self) {
+        let Post {
+            sender: _,
+            receiver: _,
+            generation: _,
+            traverse: _,
+            db: _,
+            pass: _,
+            rows: _,
+            fate: _,
+        } = self;
+    }
 }
 
 /// Every message of traverses, in the order of its number from 1. The first one that waits is known without a search.

@@ -8,10 +8,17 @@ use crate::memory::NoMemory;
 use crate::value::Value;
 
 /// A key and the value that it is to have.
-#[derive(Debug, Drop, PartialEq, Eq)]
+#[derive(Debug, PartialEq, Eq)]
 pub struct Pair {
     pub key: Key,
     pub value: Value,
+}
+
+impl Drop for Pair {
+    /// All that it holds is let go.
+    fn drop(self) {
+        let Pair { key: _, value: _ } = self;
+    }
 }
 
 impl Pair {
@@ -24,6 +31,14 @@ impl Pair {
             value: self.value.copy()?,
         })
     }
+
+    /// Its key, and its value.
+    pub fn into_parts(self) -> (Key, Value)
+        ensures { result ≡ (self.key, self.value) }
+    {
+        let Pair { key, value } = self;
+        (key, value)
+    }
 }
 
 impl Duplicate for Pair {
@@ -33,7 +48,7 @@ impl Duplicate for Pair {
 }
 
 /// What a client asks of a node. `db` is the place of a database in the configuration, counted from 0.
-#[derive(Debug, Drop, PartialEq, Eq)]
+#[derive(Debug, PartialEq, Eq)]
 pub enum ClientOp {
     /// Take the lock of a record, and learn its value.
     Lock {
@@ -74,6 +89,34 @@ pub enum ClientOp {
         db: u32,
         writes: Items<Pair>,
     },
+}
+
+impl Drop for ClientOp {
+    /// All that it holds is let go.
+    fn drop(self) {
+        match self {
+            ClientOp::Lock { db: _, key: _ } => {}
+            ClientOp::Read { db: _, key: _ } => {}
+            ClientOp::Write {
+                db: _,
+                key: _,
+                value: _,
+            } => {}
+            ClientOp::Apply {
+                db: _,
+                key: _,
+                function: _,
+                arg: _,
+            } => {}
+            ClientOp::Store {
+                db: _,
+                key: _,
+                value: _,
+            } => {}
+            ClientOp::Unlock { db: _, key: _ } => {}
+            ClientOp::Commit { db: _, writes: _ } => {}
+        }
+    }
 }
 
 impl ClientOp {
@@ -170,7 +213,7 @@ impl Duplicate for Why {
 }
 
 /// What a node answers to a client.
-#[derive(Debug, Drop, PartialEq, Eq)]
+#[derive(Debug, PartialEq, Eq)]
 pub enum Answer {
     /// The lock is held, and the record has this value.
     Locked(Value),
@@ -186,6 +229,23 @@ pub enum Answer {
     /// The commit of number `seq` stands on some nodes and may be lost: `missing` did not take it.
     Unsure { seq: u64, missing: Items<u32> },
     Refused(Why),
+}
+
+impl Drop for Answer {
+    /// All that it holds is let go.
+    fn drop(self) {
+        match self {
+            Answer::Locked(_) => {}
+            Answer::Read(_) => {}
+            Answer::Written => {}
+            Answer::Applied(_) => {}
+            Answer::Stored => {}
+            Answer::Unlocked => {}
+            Answer::Committed(_) => {}
+            Answer::Unsure { seq: _, missing: _ } => {}
+            Answer::Refused(_) => {}
+        }
+    }
 }
 
 impl Answer {

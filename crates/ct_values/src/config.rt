@@ -39,10 +39,17 @@ impl Duplicate for DbKind {
 }
 
 /// A database of a cluster.
-#[derive(Debug, Drop, PartialEq, Eq)]
+#[derive(Debug, PartialEq, Eq)]
 pub struct DbDecl {
     pub name: DbName,
     pub kind: DbKind,
+}
+
+impl Drop for DbDecl {
+    /// All that it holds is let go.
+    fn drop(self) {
+        let DbDecl { name: _, kind: _ } = self;
+    }
 }
 
 impl DbDecl {
@@ -174,7 +181,7 @@ fn repeated_address(addresses: &[Address]) -> Option<u32>
 }
 
 /// What a cluster is made of.
-#[derive(Debug, Drop, PartialEq, Eq)]
+#[derive(Debug, PartialEq, Eq)]
 pub struct Config {
     /// How many nodes there are, from 1 to 16.
     pub nodes: u32,
@@ -182,6 +189,17 @@ pub struct Config {
     pub dbs: Items<DbDecl>,
     /// Up to 64, in ascending order.
     pub addresses: Items<Address>,
+}
+
+impl Drop for Config {
+    /// All that it holds is let go.
+    fn drop(self) {
+        let Config {
+            nodes: _,
+            dbs: _,
+            addresses: _,
+        } = self;
+    }
 }
 
 impl Config {
