@@ -14,9 +14,9 @@ use Rattle.ct_frame.specs.declared.event.Event.{Event}
 use Rattle.ct_frame.specs.declared.event.Event.TheVariants as event
 use Rattle.ct_frame.specs.declared.event.Out.{Out}
 use Rattle.ct_frame.specs.declared.frame.Frame.{Frame}
-use Rattle.ct_frame.specs.declared.plan.Plan.{Plan}
-use Rattle.ct_frame.specs.declared.plan.PlanItem.{PlanItem}
-use Rattle.ct_frame.specs.declared.plan.PlanItem.TheVariants.{Call, Round}
+use Rattle.ct_script.specs.declared.plan.Plan.{Plan}
+use Rattle.ct_script.specs.declared.plan.PlanItem.{PlanItem}
+use Rattle.ct_script.specs.declared.plan.PlanItem.TheVariants.{Call, Round}
 use Rattle.ct_journal.specs.declared.journal.JournalEntry.{JournalEntry}
 use Rattle.ct_law_journal_growing.specs.Following.{TakesNext}
 use Rattle.ct_values.specs.declared.client.ClientOp.{ClientOp}

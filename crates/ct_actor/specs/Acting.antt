@@ -4,7 +4,7 @@ use Rattle.ct_call.specs.Rules.{Rules}
 use Rattle.ct_script.specs.Cues.{begun, cue_after, greatest_call}
 use Rattle.ct_script.specs.declared.cue.Cue.{Cue}
 use Rattle.ct_frame.specs.declared.event.Event.{Event}
-use Rattle.ct_frame.specs.declared.plan.PlanItem.{PlanItem}
+use Rattle.ct_script.specs.declared.plan.PlanItem.{PlanItem}
 use Rattle.ct_journal.specs.declared.journal.JournalEntry.{JournalEntry}
 use Rattle.ct_law_journal_growing.specs.Following.{Follows, TakesNext}
 use Rattle.ct_actor.specs.Journalled.{IsRunBy, Journalled}

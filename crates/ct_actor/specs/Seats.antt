@@ -7,7 +7,7 @@ use Rattle.ct_script.specs.Cues.{next_item}
 use Rattle.ct_frame.specs.declared.event.Event.{Event}
 use Rattle.ct_frame.specs.declared.event.Event.TheVariants as event
 use Rattle.ct_frame.specs.declared.event.Out.{Out}
-use Rattle.ct_frame.specs.declared.plan.Plan.{Plan}
+use Rattle.ct_script.specs.declared.plan.Plan.{Plan}
 use Rattle.ct_law_form.specs.Whole.{is_sound_out}
 use Rattle.ct_script.specs.Sound.{script_of}
 use Rattle.ct_rules_node.specs.Node.{is_among}

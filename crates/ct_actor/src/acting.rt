@@ -6,7 +6,7 @@ ghost use Rattle.ct_call.specs.Shown.{rules_of};
 ghost use Rattle.ct_script.specs.Cues.{begun, cue_after};
 ghost use Rattle.ct_frame.specs.Fields.{well_formed};
 ghost use Rattle.ct_frame.specs.declared.event.Event.TheVariants as event;
-ghost use Rattle.ct_frame.specs.declared.plan.PlanItem.TheVariants as item;
+ghost use Rattle.ct_script.specs.declared.plan.PlanItem.TheVariants as item;
 ghost use Rattle.ct_actor.specs.Journalled.{IsFed, IsRunBy, last_outs};
 ghost use Rattle.ct_law_form.specs.Whole.{is_sound_out};
 ghost use Rattle.ct_script.specs.Sound.{may_be_told};

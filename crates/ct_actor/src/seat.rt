@@ -3,7 +3,7 @@ ghost use Rattle.std.specs.Prelude.{◌≡◌, ◌<◌, ◌+◌, ◌^◌, true, 
 ghost use Rattle.ct_call.specs.Shown.{rules_of};
 ghost use Rattle.ct_script.specs.Cues.{next_item};
 ghost use Rattle.ct_frame.specs.declared.event.Event.TheVariants as event;
-ghost use Rattle.ct_frame.specs.declared.plan.PlanItem.TheVariants as item;
+ghost use Rattle.ct_script.specs.declared.plan.PlanItem.TheVariants as item;
 ghost use Rattle.ct_script.specs.Sound.{IsSound, script_of};
 ghost use Rattle.ct_actor.specs.Queues.{is_for};
 ghost use Rattle.ct_actor.specs.Seats.{IsSeatOf, TakesEvent, TakesItem};
@@ -12,7 +12,7 @@ use crate::acting::{arrive, take_call, take_round};
 use crate::node::Node;
 use ct_call::table::CallTable;
 use ct_frame::frame::Frame;
-use ct_frame::plan::{Plan, PlanItem};
+use ct_script::plan::{Plan, PlanItem};
 use ct_node_state::turn::CoreFault;
 use ct_script::cue::Cue;
 use ct_values::client::ClientOp;

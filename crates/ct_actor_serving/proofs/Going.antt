@@ -2,7 +2,7 @@
 use Rattle.std.proofs.Common.{◌≡◌, ◌∙◌, ℕ, ◌+◌, ◌≤◌, ◌⊎◌, ⊎_elim, inl, inr, List, Result, Ok, Err, Option, None, Some, arith, refl, sym, subst}
 use Rattle.ct_call.specs.Rules.{Rules}
 use Rattle.ct_script.specs.declared.cue.Cue.{Cue}
-use Rattle.ct_frame.specs.declared.plan.PlanItem.{PlanItem}
+use Rattle.ct_script.specs.declared.plan.PlanItem.{PlanItem}
 use Rattle.ct_actor.specs.Journalled.{Journalled}
 use Rattle.ct_outside.specs.Causes.{Rose}
 use Rattle.ct_actor_serving.specs.declared.fault.AtLimit.TheVariants as limit

@@ -7,8 +7,8 @@ use Rattle.ct_frame.specs.declared.event.Event.{Event}
 use Rattle.ct_frame.specs.declared.event.Event.TheVariants as event
 use Rattle.ct_frame.specs.declared.frame.Frame.{Frame}
 use Rattle.ct_values.specs.declared.client.ClientOp.{ClientOp}
-use Rattle.ct_frame.specs.declared.plan.PlanItem.{PlanItem}
-use Rattle.ct_frame.specs.declared.plan.PlanItem.TheVariants.{Call, Round}
+use Rattle.ct_script.specs.declared.plan.PlanItem.{PlanItem}
+use Rattle.ct_script.specs.declared.plan.PlanItem.TheVariants.{Call, Round}
 use Rattle.ct_frame.specs.Fields.{well_formed}
 use Rattle.ct_script.specs.Cues.{next_item}
 use Rattle.ct_script.specs.declared.cue.Cue.{Cue}

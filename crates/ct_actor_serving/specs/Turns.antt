@@ -1,7 +1,7 @@
 -- Turns of a node that serves: when one begins, which looks may wait, and which passes are made.
 use Rattle.std.specs.Prelude.{◌≡◌, ℕ, ◌+◌, ◌⊎◌, nat_lt, Bool, true, false, not, ◌&&◌, List, [], ◌∷◌, ◌++◌, length, Option, Result, Ok, Err}
 use Rattle.std.specs.Option.{is_none}
-use Rattle.ct_frame.specs.declared.plan.PlanItem.{PlanItem}
+use Rattle.ct_script.specs.declared.plan.PlanItem.{PlanItem}
 use Rattle.ct_journal.specs.declared.journal.JournalEntry.{JournalEntry}
 use Rattle.ct_script.specs.Cues.{cue_over, first_cue, next_item}
 use Rattle.ct_script.specs.declared.cue.Cue.{Cue}

@@ -1,7 +1,7 @@
 //! What a node plays.
 
 use ct_call::table::CallTable;
-use ct_frame::plan::PlanItem;
+use ct_script::plan::PlanItem;
 use std::alloc::Global;
 
 /// What a node plays: its script, by the functions of this table, in this memory.

@@ -4,7 +4,7 @@ ghost use Rattle.std.specs.List.{list_all};
 ghost use Rattle.std.specs.Result.{result_err};
 ghost use Rattle.ct_call.specs.Shown.{rules_of};
 ghost use Rattle.ct_frame.specs.Fields.{well_formed};
-ghost use Rattle.ct_frame.specs.declared.plan.PlanItem.{PlanItem as Item};
+ghost use Rattle.ct_script.specs.declared.plan.PlanItem.{PlanItem as Item};
 ghost use Rattle.ct_outside.specs.Links.{Parcel, parcel};
 ghost use Rattle.ct_wire_link.specs.Reading.{is_sound};
 ghost use Rattle.ct_actor_serving.specs.Hearing.{AreForeign, ServesPiece};

@@ -22,7 +22,7 @@ use crate::part::Part;
 use crate::pieces::take_piece;
 use ct_actor::node::Node;
 use ct_call::table::CallTable;
-use ct_frame::plan::PlanItem;
+use ct_script::plan::PlanItem;
 use ct_outside::fault::LinkFault;
 use ct_outside::gate::Gate;
 use ct_outside::link::{Link, Received};

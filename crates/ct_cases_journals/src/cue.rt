@@ -3,7 +3,7 @@ ghost use Rattle.std.specs.Prelude.{◌<◌};
 
 use ct_frame::event::{Event, Out};
 use ct_frame::frame::{Frame, Msg};
-use ct_frame::plan::PlanItem;
+use ct_script::plan::PlanItem;
 use ct_journal::journal::JournalEntry;
 use ct_script::cue::Cue;
 use ct_values::client::{Answer, ClientOp};

@@ -1,5 +1,5 @@
 //! Scripts of plans, against a program that makes them in another language.
-use ct_frame::plan::{Plan, PlanItem};
+use ct_script::plan::{Plan, PlanItem};
 use ct_script::scripts::cluster_plan;
 use ct_spelling::number::push_decimal;
 use ct_values::client::{ClientOp, Pair};

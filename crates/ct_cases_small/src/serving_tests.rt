@@ -11,7 +11,7 @@ use ct_actor::node::Node;
 use ct_actor_serving::fault::{ServeFault, Served};
 use ct_actor_serving::serve::serve;
 use ct_call::table::CallTable;
-use ct_frame::plan::PlanItem;
+use ct_script::plan::PlanItem;
 use ct_outside::gate::OpenGate;
 use ct_outside::listing::{ListingGate, ListingLink};
 use ct_outside::memory_link::MemLink;

@@ -1,8 +1,8 @@
 -- Plans whose nodes do nothing but ask.
 use Rattle.std.specs.Prelude.{nat_le, Bool, false, ◌&&◌, List, length}
 use Rattle.std.specs.List.{list_all}
-use Rattle.ct_frame.specs.declared.plan.PlanItem.{PlanItem}
-use Rattle.ct_frame.specs.declared.plan.PlanItem.TheVariants.{Call, Round}
+use Rattle.ct_script.specs.declared.plan.PlanItem.{PlanItem}
+use Rattle.ct_script.specs.declared.plan.PlanItem.TheVariants.{Call, Round}
 use Rattle.ct_rules_node.specs.Coming.{is_allowed_op}
 
 -- is the item a call that may come?

@@ -3,7 +3,7 @@ ghost use Rattle.std.specs.Prelude.{None};
 
 use crate::plans::two_columns;
 use ct_call::table::CallTable;
-use ct_frame::plan::Plan;
+use ct_script::plan::Plan;
 use ct_journal::journal::Journal;
 use ct_outside::gate::Gate;
 use ct_troupe::both::Both;

@@ -6,7 +6,7 @@ ghost use Rattle.ct_cases_troupes.specs.Plain.{asks_only, is_asked};
 
 use ct_chain::cut::cut;
 use ct_frame::event::Out;
-use ct_frame::plan::{Plan, PlanItem};
+use ct_script::plan::{Plan, PlanItem};
 use ct_journal::journal::Journal;
 use ct_script::scripts::cluster_plan;
 use ct_values::client::{Answer, ClientOp};

@@ -6,7 +6,7 @@ use crate::plans::{one_column, two_columns};
 use ct_call::own::Call;
 use ct_call::rule::Rule;
 use ct_call::table::CallTable;
-use ct_frame::plan::Plan;
+use ct_script::plan::Plan;
 use ct_outside::gate::OpenGate;
 use ct_troupe::both::Both;
 use ct_troupe::column_turns::ColumnTurns;

@@ -4,7 +4,7 @@ ghost use Rattle.std.specs.Prelude.{None};
 use crate::plans::{count_answers, count_calls, two_writers};
 use ct_call::table::CallTable;
 use ct_frame::event::Event;
-use ct_frame::plan::Plan;
+use ct_script::plan::Plan;
 use ct_journal::journal::Journal;
 use ct_outside::gate::{Gate, OpenGate};
 use ct_script::scripts::cluster_plan;

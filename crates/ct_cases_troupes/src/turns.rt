@@ -1,7 +1,7 @@
 //! Plans of one node and of two, with ample memory.
 use crate::plans::{count_answers, plan, two_writers, write};
 use ct_call::table::CallTable;
-use ct_frame::plan::PlanItem;
+use ct_script::plan::PlanItem;
 use ct_troupe::troupe::Troupe;
 use ct_troupe::turns::Turns;
 use ct_values::client::{Answer, ClientOp};

@@ -10,9 +10,9 @@ use Rattle.std.specs.Prelude.{All, if◌then◌else◌, map, nat_eq, option_map,
 use Rattle.ct_values.specs.Client.{db_of, key_of}
 use Rattle.ct_values.specs.declared.client.ClientOp.{ClientOp}
 use Rattle.ct_values.specs.declared.config.Config.{Config}
-use Rattle.ct_frame.specs.declared.plan.Plan.{Plan}
-use Rattle.ct_frame.specs.declared.plan.PlanItem.{PlanItem}
-use Rattle.ct_frame.specs.declared.plan.PlanItem.TheVariants.{Call, Round}
+use Rattle.ct_script.specs.declared.plan.Plan.{Plan}
+use Rattle.ct_script.specs.declared.plan.PlanItem.{PlanItem}
+use Rattle.ct_script.specs.declared.plan.PlanItem.TheVariants.{Call, Round}
 use Rattle.ct_rules_cluster.specs.Cluster.{numbers}
 use Rattle.ct_rules_cluster.proofs.Numbers.{numbers_more}
 use Rattle.ct_rules_node.specs.Clients.{is_commit}

@@ -2,9 +2,9 @@
 use Rattle.std.specs.Prelude.{ℕ, nat_eq, Bool, true, List, map}
 use Rattle.std.specs.List.{filter}
 use Rattle.ct_values.specs.declared.config.Config.{Config}
-use Rattle.ct_frame.specs.declared.plan.Plan.{Plan}
-use Rattle.ct_frame.specs.declared.plan.PlanItem.{PlanItem}
-use Rattle.ct_frame.specs.declared.plan.PlanItem.TheVariants.{Call, Round}
+use Rattle.ct_script.specs.declared.plan.Plan.{Plan}
+use Rattle.ct_script.specs.declared.plan.PlanItem.{PlanItem}
+use Rattle.ct_script.specs.declared.plan.PlanItem.TheVariants.{Call, Round}
 use Rattle.ct_rules_cluster.specs.Cluster.{numbers}
 use Rattle.ct_chain.specs.Chains.{chain_of}
 

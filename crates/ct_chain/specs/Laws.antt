@@ -4,9 +4,9 @@ use Rattle.std.specs.List.{filter, list_all}
 use Rattle.ct_values.specs.Client.{db_of, key_of}
 use Rattle.ct_values.specs.declared.client.ClientOp.{ClientOp}
 use Rattle.ct_values.specs.declared.config.Config.{Config}
-use Rattle.ct_frame.specs.declared.plan.Plan.{Plan}
-use Rattle.ct_frame.specs.declared.plan.PlanItem.{PlanItem}
-use Rattle.ct_frame.specs.declared.plan.PlanItem.TheVariants.{Call, Round}
+use Rattle.ct_script.specs.declared.plan.Plan.{Plan}
+use Rattle.ct_script.specs.declared.plan.PlanItem.{PlanItem}
+use Rattle.ct_script.specs.declared.plan.PlanItem.TheVariants.{Call, Round}
 use Rattle.ct_rules_node.specs.Clients.{is_commit}
 use Rattle.ct_script.specs.Sound.{script_of}
 use Rattle.ct_chain.specs.Chains.{chain_of}

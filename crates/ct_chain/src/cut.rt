@@ -6,7 +6,7 @@ ghost use Rattle.ct_script.specs.Sound.{IsSound};
 ghost use Rattle.ct_chain.specs.Cut.{cut, cut_one, cut_script, in_chain};
 
 use crate::chain::chain_of;
-use ct_frame::plan::{Plan, PlanItem};
+use ct_script::plan::{Plan, PlanItem};
 use ct_values::config::Config;
 use ct_values::items::Items;
 use ct_values::memory::NoMemory;

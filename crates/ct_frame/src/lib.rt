@@ -6,5 +6,4 @@ pub mod event;
 pub mod frame;
 pub mod header;
 pub mod order;
-pub mod plan;
 pub mod round;

@@ -8,8 +8,8 @@ use Rattle.ct_frame.specs.Fields.{ascends, ascends_after}
 use Rattle.ct_frame.specs.declared.event.Event.{Event}
 use Rattle.ct_frame.specs.declared.event.Event.TheVariants as event
 use Rattle.ct_frame.specs.declared.event.Out.{Out}
-use Rattle.ct_frame.specs.declared.plan.PlanItem.{PlanItem}
-use Rattle.ct_frame.specs.declared.plan.PlanItem.TheVariants.{Call, Round}
+use Rattle.ct_script.specs.declared.plan.PlanItem.{PlanItem}
+use Rattle.ct_script.specs.declared.plan.PlanItem.TheVariants.{Call, Round}
 use Rattle.ct_script.specs.Cues.{IsWaiting, begun, cue_after, cue_over, first_cue, greatest_call, is_played, item_of, item_unless, items_in, most_entries, next_item, number_of_call, with_item}
 use Rattle.ct_script.specs.declared.cue.Cue.{Cue}
 use Rattle.ct_journal.specs.Order.{numbers_of_calls}

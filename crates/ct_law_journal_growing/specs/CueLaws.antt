@@ -6,7 +6,7 @@ use Rattle.ct_call.specs.Rules.{Rules}
 use Rattle.ct_rules_cluster.specs.Cluster.{everyone}
 use Rattle.ct_frame.specs.Fields.{ascends}
 use Rattle.ct_frame.specs.declared.event.Event.TheVariants as event
-use Rattle.ct_frame.specs.declared.plan.PlanItem.{PlanItem}
+use Rattle.ct_script.specs.declared.plan.PlanItem.{PlanItem}
 use Rattle.ct_script.specs.Cues.{IsScripted, cue_after, first_cue, greatest_call, most_entries, next_item}
 use Rattle.ct_script.specs.declared.cue.Cue.{Cue}
 use Rattle.ct_journal.specs.Order.{numbers_of_calls}

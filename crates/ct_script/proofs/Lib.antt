@@ -1,2 +1,3 @@
 pub mod Making
 pub mod Soundness
+pub mod Faultless

@@ -7,12 +7,12 @@ use Rattle.std.proofs.lemmas.Option.{slice_get-map, slice_get_past}
 use Rattle.std.specs.List.{flat_map, list_all, list_any}
 use Rattle.std.specs.Prelude.{nat_eq, nat_lt, option_map, slice_get, ◌||◌}
 use Rattle.ct_rules_cluster.specs.Cluster.{everyone, numbers}
-use Rattle.ct_frame.specs.declared.plan.PlanItem.{PlanItem}
-use Rattle.ct_frame.specs.declared.plan.PlanItem.TheVariants.{Round}
-use Rattle.ct_values.specs.Generated.{each_kind, generated_config}
+use Rattle.ct_script.specs.declared.plan.PlanItem.{PlanItem}
+use Rattle.ct_script.specs.declared.plan.PlanItem.TheVariants.{Round}
+use Rattle.ct_script.specs.Generated.{each_kind, generated_config}
 use Rattle.ct_values.specs.declared.config.Config.{Config}
-use Rattle.ct_values.proofs.Faultless.{makes}
-use Rattle.ct_frame.specs.declared.plan.Plan.{Plan}
+use Rattle.ct_script.proofs.Faultless.{makes}
+use Rattle.ct_script.specs.declared.plan.Plan.{Plan}
 use Rattle.ct_rules_node.specs.Coming.{is_allowed_op}
 use Rattle.ct_rules_node.specs.Node.{is_among}
 use Rattle.ct_rules_cluster.proofs.Numbers.{numbers_below, numbers_ascend}

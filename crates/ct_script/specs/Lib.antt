@@ -1,3 +1,4 @@
 pub mod Cues
 pub mod Scripts
 pub mod Sound
+pub mod Generated

@@ -4,14 +4,14 @@ use Rattle.std.specs.Fmt.{decimal}
 use Rattle.std.specs.List.{flat_map}
 use Rattle.rand_pcg.specs.Lcg.{Lcg, increment_of, started}
 use Rattle.rand_pcg.specs.Pcg.{multiplier_64, pcg32}
-use Rattle.ct_values.specs.Generated.{generated_config}
+use Rattle.ct_script.specs.Generated.{generated_config}
 use Rattle.ct_values.specs.declared.client.ClientOp.TheVariants as op
 use Rattle.ct_values.specs.declared.client.Pair.{Pair}
 use Rattle.ct_values.specs.declared.config.Config.{Config}
 use Rattle.ct_rules_cluster.specs.Cluster.{everyone}
-use Rattle.ct_frame.specs.declared.plan.Plan.{Plan}
-use Rattle.ct_frame.specs.declared.plan.PlanItem.{PlanItem}
-use Rattle.ct_frame.specs.declared.plan.PlanItem.TheVariants.{Call, Round}
+use Rattle.ct_script.specs.declared.plan.Plan.{Plan}
+use Rattle.ct_script.specs.declared.plan.PlanItem.{PlanItem}
+use Rattle.ct_script.specs.declared.plan.PlanItem.TheVariants.{Call, Round}
 
 -- ---- what a word asks
 

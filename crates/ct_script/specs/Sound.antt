@@ -6,9 +6,9 @@ use Rattle.ct_values.specs.Config.{Configures}
 use Rattle.ct_values.specs.declared.config.Config.{Config}
 use Rattle.ct_values.specs.declared.config.DbDecl.{DbDecl}
 use Rattle.ct_frame.specs.Fields.{ascends}
-use Rattle.ct_frame.specs.declared.plan.Plan.{Plan}
-use Rattle.ct_frame.specs.declared.plan.PlanItem.{PlanItem}
-use Rattle.ct_frame.specs.declared.plan.PlanItem.TheVariants.{Call, Round}
+use Rattle.ct_script.specs.declared.plan.Plan.{Plan}
+use Rattle.ct_script.specs.declared.plan.PlanItem.{PlanItem}
+use Rattle.ct_script.specs.declared.plan.PlanItem.TheVariants.{Call, Round}
 use Rattle.ct_rules_node.specs.Coming.{is_allowed_op}
 use Rattle.ct_rules_node.specs.Node.{is_among}
 

@@ -3,8 +3,8 @@ ghost use Rattle.std.specs.Prelude.{◌≡◌, ◌<◌, ◌^◌, None, Some, Mat
 ghost use Rattle.std.specs.List.{list_any};
 ghost use Rattle.ct_script.specs.Cues.{begun, cue_after, first_cue, greatest_call, is_answer_to, next_item, unanswered};
 
+use crate::plan::PlanItem;
 use ct_frame::event::{Event, Out};
-use ct_frame::plan::PlanItem;
 use ct_journal::journal::JournalEntry;
 
 /// How far a node is in its script.

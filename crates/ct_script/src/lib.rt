@@ -1,7 +1,7 @@
 //! Plans, the scripts of their nodes, and how far a node is in its script.
 //!
 //! Plans: what the clients of each node ask, one after the other, and when its nodes lead a recovery. A plan is
-//! `ct_frame::plan::Plan`.
+//! `crate::plan::Plan`.
 //!
 //! How far a node is in its script.
 //!
@@ -15,4 +15,6 @@
 #![tactic(auto)]
 
 pub mod cue;
+pub mod generated;
+pub mod plan;
 pub mod scripts;

@@ -5,11 +5,11 @@ ghost use Rattle.ct_rules_cluster.specs.Cluster.{everyone};
 ghost use Rattle.ct_script.specs.Scripts.{asked_by, asked_db, asked_key, asked_kind, asked_letter, asked_number, asked_op, asked_pair, asked_value, cluster_plan, drawn, generator_of, led_by, locked_commit, planned_script, script_by};
 ghost use Rattle.ct_script.specs.Sound.{IsSound};
 
-use ct_frame::plan::{Plan, PlanItem};
+use crate::generated::generated_config;
+use crate::plan::{Plan, PlanItem};
 use ct_spelling::number::push_decimal;
 use ct_values::client::{ClientOp, Pair};
 use ct_values::config::Config;
-use ct_values::generated::generated_config;
 use ct_values::items::Items;
 use ct_values::key::Key;
 use ct_values::memory::NoMemory;

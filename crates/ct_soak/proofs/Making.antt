@@ -4,7 +4,7 @@ use Rattle.std.specs.List.Sorted.{IsStrictlySortedBy}
 use Rattle.std.proofs.lemmas.List.Sorted.{IsPermutation-refl}
 use Rattle.ct_rules_cluster.specs.Cluster.{opening, World}
 use Rattle.ct_rules_cluster.specs.Steps.{is_counted}
-use Rattle.ct_values.specs.Generated.{each_kind}
+use Rattle.ct_script.specs.Generated.{each_kind}
 use Rattle.ct_values.specs.declared.config.Config.{Config}
 use Rattle.ct_rules_config.specs.Configured.{IsConfig}
 use Rattle.ct_soak.specs.Counts.{IsCounted}

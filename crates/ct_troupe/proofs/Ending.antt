@@ -8,8 +8,8 @@ use Rattle.ct_call.specs.Rules.{Rules}
 use Rattle.ct_script.specs.Cues.{IsScripted, items_in, most_entries, next_item}
 use Rattle.ct_frame.specs.Fields.{ascends}
 use Rattle.ct_frame.specs.declared.frame.Frame.{Frame}
-use Rattle.ct_frame.specs.declared.plan.Plan.{Plan}
-use Rattle.ct_frame.specs.declared.plan.PlanItem.{PlanItem}
+use Rattle.ct_script.specs.declared.plan.Plan.{Plan}
+use Rattle.ct_script.specs.declared.plan.PlanItem.{PlanItem}
 use Rattle.ct_journal.specs.Order.{AreInOrder, all_entries, count_arrived, count_sent, entries_of, numbers_of_calls, or_no_entries}
 use Rattle.ct_journal.specs.declared.journal.Journal.{Journal}
 use Rattle.ct_journal.specs.declared.journal.JournalEntry.{JournalEntry}

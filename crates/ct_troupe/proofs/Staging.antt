@@ -13,7 +13,7 @@ use Rattle.ct_script.specs.declared.cue.Cue.{Cue}
 use Rattle.ct_frame.specs.declared.event.Event.{Event}
 use Rattle.ct_frame.specs.declared.event.Event.TheVariants as event
 use Rattle.ct_frame.specs.declared.frame.Frame.{Frame}
-use Rattle.ct_frame.specs.declared.plan.Plan.{Plan}
+use Rattle.ct_script.specs.declared.plan.Plan.{Plan}
 use Rattle.ct_journal.specs.Order.{all_entries, count_sent, entries_of, frames_in, or_no_entries, ticket_after}
 use Rattle.ct_journal.specs.declared.journal.Journal.{Journal}
 use Rattle.ct_journal.specs.declared.journal.JournalEntry.{JournalEntry}

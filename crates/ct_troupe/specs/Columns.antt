@@ -1,7 +1,7 @@
 -- What a play of columns leaves behind.
 use Rattle.std.specs.Prelude.{◌≡◌, ℕ, ◌≤◌, List, [], length, Some, Result, Ok, Err, slice_get}
 use Rattle.ct_call.specs.Rules.{Rules}
-use Rattle.ct_frame.specs.declared.plan.Plan.{Plan}
+use Rattle.ct_script.specs.declared.plan.Plan.{Plan}
 use Rattle.ct_journal.specs.declared.journal.Journal.{Journal}
 use Rattle.ct_troupe.specs.Played.{ArePlayed}
 use Rattle.ct_troupe.specs.declared.troupe.PlayFault.{PlayFault}

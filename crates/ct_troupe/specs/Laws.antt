@@ -4,7 +4,7 @@ use Rattle.std.specs.List.{list_all}
 use Rattle.ct_call.specs.Rules.{Rules}
 use Rattle.ct_frame.specs.declared.event.Event.{Event}
 use Rattle.ct_frame.specs.declared.event.Event.TheVariants as event
-use Rattle.ct_frame.specs.declared.plan.Plan.{Plan}
+use Rattle.ct_script.specs.declared.plan.Plan.{Plan}
 use Rattle.ct_journal.specs.Order.{entries_of}
 use Rattle.ct_journal.specs.declared.journal.Journal.{Journal}
 use Rattle.ct_values.specs.declared.config.Config.{Config}

@@ -1,7 +1,7 @@
 -- What a play of a plan leaves behind.
 use Rattle.std.specs.Prelude.{◌≡◌, ℕ, Bool, true, false, List, [], Result, Ok, Err}
 use Rattle.ct_call.specs.Rules.{Rules}
-use Rattle.ct_frame.specs.declared.plan.Plan.{Plan}
+use Rattle.ct_script.specs.declared.plan.Plan.{Plan}
 use Rattle.ct_journal.specs.Order.{AreInOrder, entries_of}
 use Rattle.ct_journal.specs.declared.journal.Journal.{Journal}
 use Rattle.ct_law_journal_schedule.specs.Laws.{AreRuns}

@@ -10,7 +10,7 @@ ghost use Rattle.ct_troupe.specs.Played.{HasPlayed, is_link_fault};
 
 use crate::troupe::{PlayFault, Troupe};
 use ct_call::table::CallTable;
-use ct_frame::plan::Plan;
+use ct_script::plan::Plan;
 use ct_journal::journal::Journal;
 use std::alloc::Global;
 

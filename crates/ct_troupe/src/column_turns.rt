@@ -10,7 +10,7 @@ use crate::columns::Columns;
 use crate::troupe::{PlayFault, Troupe};
 use crate::turns::Turns;
 use ct_call::table::CallTable;
-use ct_frame::plan::Plan;
+use ct_script::plan::Plan;
 use ct_journal::journal::Journal;
 use ct_values::memory::NoMemory;
 use std::alloc::Global;

@@ -9,7 +9,7 @@ ghost use Rattle.ct_troupe.specs.Columns.{HavePlayed};
 
 use crate::troupe::PlayFault;
 use ct_call::table::CallTable;
-use ct_frame::plan::Plan;
+use ct_script::plan::Plan;
 use ct_journal::journal::Journal;
 use std::alloc::Global;
 

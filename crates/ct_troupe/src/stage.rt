@@ -14,7 +14,7 @@ use ct_actor::queue::{Queue, next_of, post};
 use ct_actor::seat::Seat;
 use ct_call::table::CallTable;
 use ct_frame::event::Event;
-use ct_frame::plan::Plan;
+use ct_script::plan::Plan;
 use ct_journal::journal::Journal;
 use ct_node_state::turn::CoreFault;
 use ct_script::cue::Cue;

@@ -7,7 +7,7 @@ ghost use Rattle.ct_script.specs.Sound.{IsSound};
 ghost use Rattle.ct_troupe.specs.Played.{HasPlayed, is_link_fault};
 
 use ct_call::table::CallTable;
-use ct_frame::plan::Plan;
+use ct_script::plan::Plan;
 use ct_journal::journal::Journal;
 use ct_values::memory::NoMemory;
 use std::alloc::{AllocError, Global};

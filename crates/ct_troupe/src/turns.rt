@@ -8,7 +8,7 @@ ghost use Rattle.ct_troupe.specs.Stages.{AllHaveArrived};
 use crate::stage::Stage;
 use crate::troupe::{PlayFault, Troupe};
 use ct_call::table::CallTable;
-use ct_frame::plan::Plan;
+use ct_script::plan::Plan;
 use ct_journal::journal::Journal;
 use ct_values::items::Items;
 use ct_values::memory::NoMemory;

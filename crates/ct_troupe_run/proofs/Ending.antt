@@ -7,7 +7,7 @@ use Rattle.ct_outside.specs.Causes.{AppendsPart}
 use Rattle.ct_outside.specs.declared.fault.SinkFault.{SinkFault}
 use Rattle.ct_outside.specs.declared.fault.SinkFault.TheVariants as sink
 use Rattle.ct_call.specs.Rules.{Rules}
-use Rattle.ct_frame.specs.declared.plan.Plan.{Plan}
+use Rattle.ct_script.specs.declared.plan.Plan.{Plan}
 use Rattle.ct_journal.specs.declared.journal.Journal.{Journal}
 use Rattle.ct_script.specs.Scripts.{cluster_plan}
 use Rattle.ct_chain.proofs.Cutting.{length_cut}

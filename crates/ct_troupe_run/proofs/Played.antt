@@ -1,7 +1,7 @@
 -- What a cluster that plays the plan of a seed writes.
 use Rattle.std.proofs.Common.{◌≡◌, ℕ, Bool, List, ◌++◌, Option, refl, ap, ap₂, subst, ◌∙◌, inl, inr, arith}
 use Rattle.ct_call.specs.Rules.{Rules}
-use Rattle.ct_frame.specs.declared.plan.Plan.{Plan}
+use Rattle.ct_script.specs.declared.plan.Plan.{Plan}
 use Rattle.ct_journal.specs.declared.journal.Journal.{Journal}
 use Rattle.ct_schedule_text.specs.Schedule.{summary_text}
 use Rattle.ct_script.specs.Sound.{IsSound, script_of}

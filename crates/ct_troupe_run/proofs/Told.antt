@@ -5,7 +5,7 @@ use Rattle.std.proofs.lemmas.List.{append-nil}
 use Rattle.ct_values.specs.declared.client.ClientOp.{ClientOp}
 use Rattle.ct_values.specs.declared.config.Config.{Config}
 use Rattle.ct_call.specs.Rules.{Rules}
-use Rattle.ct_frame.specs.declared.plan.Plan.{Plan}
+use Rattle.ct_script.specs.declared.plan.Plan.{Plan}
 use Rattle.ct_rules_cluster.specs.Cluster.{Cluster, opening, pending}
 use Rattle.ct_rules_cluster.specs.Faults.{is_allowed}
 use Rattle.ct_rules_cluster.specs.Traces.{OpenCall, Ran, asked_in, ran}

@@ -5,7 +5,7 @@ use Rattle.std.specs.Io.KnownBytes.{Appends}
 use Rattle.ct_outside.specs.Causes.{AppendsPart}
 use Rattle.ct_outside.specs.declared.fault.SinkFault.{SinkFault}
 use Rattle.ct_call.specs.Rules.{Rules}
-use Rattle.ct_frame.specs.declared.plan.Plan.{Plan}
+use Rattle.ct_script.specs.declared.plan.Plan.{Plan}
 use Rattle.ct_journal.specs.Order.{all_entries}
 use Rattle.ct_journal.specs.declared.journal.Journal.{Journal}
 use Rattle.ct_troupe_run.specs.Text.{IsRunText}

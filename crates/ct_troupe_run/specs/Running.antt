@@ -3,7 +3,7 @@ use Rattle.std.specs.Prelude.{◌≡◌, ◌≤◌, ◌⊎◌, ℕ, List, [], le
 use Rattle.std.specs.Io.KnownBytes.{Appends}
 use Rattle.ct_outside.specs.Causes.{AppendsPart, Rose}
 use Rattle.ct_call.specs.Rules.{Rules}
-use Rattle.ct_frame.specs.declared.plan.Plan.{Plan}
+use Rattle.ct_script.specs.declared.plan.Plan.{Plan}
 use Rattle.ct_rules_cluster.specs.declared.step.Step.{Step}
 use Rattle.ct_journal.specs.Order.{all_entries}
 use Rattle.ct_journal.specs.Schedules.{IsSchedule}

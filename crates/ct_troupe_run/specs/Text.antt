@@ -2,7 +2,7 @@
 use Rattle.std.specs.Prelude.{◌≡◌, ◌⊎◌, ℕ, List, [], length}
 use Rattle.ct_values.specs.declared.config.Config.{Config}
 use Rattle.ct_call.specs.Rules.{Rules}
-use Rattle.ct_frame.specs.declared.plan.Plan.{Plan}
+use Rattle.ct_script.specs.declared.plan.Plan.{Plan}
 use Rattle.ct_rules_config.specs.Configured.{IsConfig}
 use Rattle.ct_rules_cluster.specs.Cluster.{opening}
 use Rattle.ct_rules_cluster.specs.Traces.{Ran, ran}

@@ -11,7 +11,7 @@ use crate::columns::{Counts, write_columns};
 use crate::running::End;
 use ct_call::table::CallTable;
 use ct_chain::cut::cut;
-use ct_frame::plan::Plan;
+use ct_script::plan::Plan;
 use ct_outside::fault::SinkFault;
 use ct_outside::sink::{Sink, write_all};
 use ct_script::scripts::cluster_plan;

@@ -10,7 +10,7 @@ ghost use Rattle.ct_troupe_run.specs.declared.running.End.TheVariants as ended;
 
 use crate::text::{count_entries, run_text};
 use ct_call::table::CallTable;
-use ct_frame::plan::Plan;
+use ct_script::plan::Plan;
 use ct_journal::journal::Journal;
 use ct_outside::fault::SinkFault;
 use ct_outside::sink::{Sink, write_all};

@@ -8,7 +8,7 @@ ghost use Rattle.ct_troupe.specs.Played.{ArePlayed};
 ghost use Rattle.ct_troupe_run.specs.Text.{AreUntoldInOrder, IsRunText};
 
 use ct_call::table::CallTable;
-use ct_frame::plan::Plan;
+use ct_script::plan::Plan;
 use ct_journal::journal::Journal;
 use ct_journal_join::join::{InOrderFault, join_in_order};
 use ct_journal_order::counts::Tally;

@@ -6,7 +6,7 @@ use Rattle.std.proofs.lemmas.Option.{slice_get_past, slice_get_within}
 use Rattle.std.specs.List.{list_all}
 use Rattle.std.specs.Prelude.{if◌then◌else◌, slice_get}
 use Rattle.ct_call.specs.Rules.{Rules}
-use Rattle.ct_frame.specs.declared.plan.Plan.{Plan}
+use Rattle.ct_script.specs.declared.plan.Plan.{Plan}
 use Rattle.ct_journal.specs.declared.journal.Journal.{Journal}
 use Rattle.ct_values.specs.declared.memory.NoMemory.{NoMemory}
 use Rattle.ct_troupe.specs.Played.{ArePlayed}

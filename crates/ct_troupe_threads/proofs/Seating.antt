@@ -9,8 +9,8 @@ use Rattle.ct_script.specs.Cues.{first_cue, most_entries, next_item}
 use Rattle.ct_script.specs.declared.cue.Cue.{Cue}
 use Rattle.ct_script.specs.Sound.{script_of}
 use Rattle.ct_frame.specs.declared.event.Event.{Event}
-use Rattle.ct_frame.specs.declared.plan.Plan.{Plan}
-use Rattle.ct_frame.specs.declared.plan.PlanItem.{PlanItem}
+use Rattle.ct_script.specs.declared.plan.Plan.{Plan}
+use Rattle.ct_script.specs.declared.plan.PlanItem.{PlanItem}
 use Rattle.ct_journal.specs.declared.journal.Journal.{Journal}
 use Rattle.ct_journal.specs.declared.journal.JournalEntry.{JournalEntry}
 use Rattle.ct_law_journal_growing.specs.Following.{Follows}

@@ -4,8 +4,8 @@ use Rattle.std.specs.Prelude.{Ok, length}
 use Rattle.std.specs.List.{list_all}
 use Rattle.ct_call.specs.Rules.{Rules}
 use Rattle.ct_script.specs.Cues.{IsScripted}
-use Rattle.ct_frame.specs.declared.plan.Plan.{Plan}
-use Rattle.ct_frame.specs.declared.plan.PlanItem.{PlanItem}
+use Rattle.ct_script.specs.declared.plan.Plan.{Plan}
+use Rattle.ct_script.specs.declared.plan.PlanItem.{PlanItem}
 use Rattle.ct_journal.specs.declared.journal.Journal.{Journal}
 use Rattle.ct_journal.specs.declared.journal.JournalEntry.{JournalEntry}
 use Rattle.ct_law_journal_growing.specs.Following.{Follows}

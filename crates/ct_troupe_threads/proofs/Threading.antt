@@ -7,8 +7,8 @@ use Rattle.std.specs.Prelude.{IfOk, IfSome, Result, slice_get}
 use Rattle.ct_values.specs.declared.memory.NoMemory.{NoMemory}
 use Rattle.ct_call.specs.Rules.{Rules}
 use Rattle.ct_script.specs.Cues.{IsScripted, items_in}
-use Rattle.ct_frame.specs.declared.plan.Plan.{Plan}
-use Rattle.ct_frame.specs.declared.plan.PlanItem.{PlanItem}
+use Rattle.ct_script.specs.declared.plan.Plan.{Plan}
+use Rattle.ct_script.specs.declared.plan.PlanItem.{PlanItem}
 use Rattle.ct_journal.specs.Order.{AreInOrder, entries_of, or_no_entries}
 use Rattle.ct_journal.specs.declared.journal.Journal.{Journal}
 use Rattle.ct_journal.specs.declared.journal.JournalEntry.{JournalEntry}

@@ -3,7 +3,7 @@ use Rattle.std.specs.Prelude.{◌≡◌, ℕ, ◌<◌, nat_le, Bool, List, lengt
 use Rattle.ct_values.specs.declared.memory.NoMemory.{NoMemory}
 use Rattle.ct_call.specs.Rules.{Rules}
 use Rattle.ct_script.specs.Cues.{IsScripted, most_entries}
-use Rattle.ct_frame.specs.declared.plan.Plan.{Plan}
+use Rattle.ct_script.specs.declared.plan.Plan.{Plan}
 use Rattle.ct_journal.specs.Order.{AreInOrder, entries_of}
 use Rattle.ct_journal.specs.declared.journal.Journal.{Journal}
 use Rattle.ct_law_journal_schedule.specs.Laws.{IsRunOf}

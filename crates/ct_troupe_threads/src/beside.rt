@@ -10,7 +10,7 @@ use ct_actor::node::Node;
 use ct_actor_serving::fault::{ServeFault, Until};
 use ct_actor_serving::serve::serve_until;
 use ct_call::table::CallTable;
-use ct_frame::plan::{Plan, PlanItem};
+use ct_script::plan::{Plan, PlanItem};
 use ct_journal::journal::Journal;
 use ct_links::hub::Hub;
 use ct_links::seats::LockBook;

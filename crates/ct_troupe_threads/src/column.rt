@@ -8,7 +8,7 @@ ghost use Rattle.ct_troupe_threads.specs.Sides.{IsColumnOf};
 use crate::gate::ThreadGate;
 use crate::last_play::LastPlay;
 use ct_call::table::CallTable;
-use ct_frame::plan::Plan;
+use ct_script::plan::Plan;
 use ct_outside::gate::OpenGate;
 use ct_values::memory::NoMemory;
 use std::alloc::Global;

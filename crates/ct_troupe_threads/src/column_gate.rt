@@ -9,7 +9,7 @@ use crate::column::Column;
 use crate::gate::ThreadGate;
 use crate::side::play_side_by_side;
 use ct_call::table::CallTable;
-use ct_frame::plan::Plan;
+use ct_script::plan::Plan;
 use ct_outside::gate::OpenGate;
 use std::alloc::Global;
 use std::sync::Wait;

@@ -17,7 +17,7 @@ use crate::gate::ThreadGate;
 use crate::loopback::Loopback;
 use crate::threads::Threads;
 use ct_call::table::CallTable;
-use ct_frame::plan::Plan;
+use ct_script::plan::Plan;
 use ct_journal::journal::Journal;
 use ct_troupe::both::Both;
 use ct_troupe::columns::Columns;

@@ -10,7 +10,7 @@ ghost use Rattle.ct_troupe_threads.specs.Meshed.{AllHadTurns};
 
 use crate::meshed::{NodeEnds, join_nodes, play_over_streams};
 use ct_call::table::CallTable;
-use ct_frame::plan::Plan;
+use ct_script::plan::Plan;
 use ct_journal::journal::Journal;
 use ct_links::link::LinkTally;
 use ct_troupe::troupe::{PlayFault, Troupe};

@@ -10,7 +10,7 @@ ghost use Rattle.ct_troupe.specs.declared.troupe.PlayFault.TheVariants as fault;
 
 use crate::node::{NodeEnd, serve_over};
 use ct_call::table::CallTable;
-use ct_frame::plan::Plan;
+use ct_script::plan::Plan;
 use ct_journal::journal::Journal;
 use ct_journal_order::order::in_order;
 use ct_links::link::{LinkTally, Peer};

@@ -9,7 +9,7 @@ use crate::beside::serve_plan;
 use crate::loopback::TURNS;
 use ct_actor_serving::fault::Until;
 use ct_call::table::CallTable;
-use ct_frame::plan::Plan;
+use ct_script::plan::Plan;
 use ct_journal::journal::Journal;
 use ct_links::link::{LinkTally, Peer, TcpLink};
 use ct_links::seats::LockBook;

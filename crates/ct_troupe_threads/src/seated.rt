@@ -15,7 +15,7 @@ use ct_actor::seat::Seat;
 use ct_call::table::CallTable;
 use ct_frame::event::Out;
 use ct_frame::frame::Frame;
-use ct_frame::plan::{Plan, PlanItem};
+use ct_script::plan::{Plan, PlanItem};
 use ct_frame_fields::fields::well_formed;
 use ct_journal::journal::Journal;
 use ct_links::hub::{Handed, HubLink};

@@ -8,7 +8,7 @@ ghost use Rattle.ct_troupe_threads.specs.Sides.{AreColumnsOf, PlaysAt};
 use crate::column::{Column, play_column};
 use crate::gate::ThreadGate;
 use ct_call::table::CallTable;
-use ct_frame::plan::Plan;
+use ct_script::plan::Plan;
 use std::alloc::Global;
 use std::sync::Wait;
 use std::thread;

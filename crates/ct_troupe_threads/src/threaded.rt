@@ -8,7 +8,7 @@ ghost use Rattle.ct_troupe.specs.Played.{ArePlayed};
 use crate::beside::serve_beside;
 use crate::settled::are_settled;
 use ct_call::table::CallTable;
-use ct_frame::plan::Plan;
+use ct_script::plan::Plan;
 use ct_journal::journal::Journal;
 use ct_links::hub::Hub;
 use ct_links::seats::LockBook;

@@ -6,7 +6,7 @@ ghost use Rattle.ct_troupe.specs.Stages.{AllHaveArrived};
 use crate::gate::ThreadGate;
 use crate::last_play::LastPlay;
 use ct_call::table::CallTable;
-use ct_frame::plan::Plan;
+use ct_script::plan::Plan;
 use ct_journal::journal::Journal;
 use ct_troupe::troupe::{PlayFault, Troupe};
 use ct_values::memory::NoMemory;

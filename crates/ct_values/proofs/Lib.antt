@@ -3,6 +3,5 @@ pub mod Addresses
 pub mod Orders
 pub mod Reading
 pub mod Words
-pub mod Faultless
 pub mod Repeats
 pub mod RepeatedNumbers

@@ -6,5 +6,4 @@ pub mod Name
 pub mod Words
 pub mod Client
 pub mod Config
-pub mod Generated
 pub mod Members

@@ -12,7 +12,6 @@ pub mod boxed;
 pub mod client;
 pub mod config;
 pub mod copies;
-pub mod generated;
 pub mod hash;
 pub mod items;
 pub mod key;

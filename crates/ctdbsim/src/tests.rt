@@ -4,7 +4,7 @@ ghost use Rattle.std.specs.Prelude.{[], None};
 use ct_bus_exchange::handlers::Handlers;
 use ct_bus_exchange::turns::BusTurns;
 use ct_call::table::CallTable;
-use ct_frame::plan::Plan;
+use ct_script::plan::Plan;
 use ct_journal::journal::Journal;
 use ct_main::run::run;
 use ct_outside::fault::{Failed, SinkFault};

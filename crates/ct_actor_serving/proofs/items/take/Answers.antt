@@ -1,7 +1,7 @@
 use Rattle.std.proofs.Common.{◌≡◌, ◌+◌, Ok, ◌∙◌, None, Some, ap, sym}
 use Rattle.ct_call.specs.Shown.{rules_of}
 use Rattle.ct_frame.specs.declared.event.Event.TheVariants as event
-use Rattle.ct_frame.specs.declared.plan.PlanItem.{PlanItem}
+use Rattle.ct_script.specs.declared.plan.PlanItem.{PlanItem}
 use Rattle.ct_actor.specs.Journalled.{last_outs}
 use Rattle.ct_actor.proofs.Stepping.{asks, leads}
 use Rattle.ct_actor_serving.specs.declared.fault.AtLimit.TheVariants as limit

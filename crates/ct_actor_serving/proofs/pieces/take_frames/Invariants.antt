@@ -1,7 +1,7 @@
 use Rattle.std.proofs.Common.{◌≡◌, true, List}
 use Rattle.std.specs.List.{list_all}
 use Rattle.ct_call.specs.Shown.{rules_of}
-use Rattle.ct_frame.specs.declared.plan.PlanItem.{PlanItem as Item}
+use Rattle.ct_script.specs.declared.plan.PlanItem.{PlanItem as Item}
 use Rattle.ct_wire_link.specs.Reading.{is_sound}
 use Rattle.ct_actor_serving.specs.Serving.{GoesOn, NoneFell, of_link}
 use Rattle.ct_actor_serving.proofs.Telling.{FramesServed}

@@ -1,5 +1,5 @@
 use Rattle.std.proofs.Common.{List, subst, sym}
-use Rattle.ct_frame.specs.declared.plan.PlanItem.{PlanItem}
+use Rattle.ct_script.specs.declared.plan.PlanItem.{PlanItem}
 use Rattle.ct_cases_small.specs.Alone.{MayBeToldAlone}
 use Rattle.ct_cases_small.proofs.serving_tests.looks_and_passes_are_listed.Goals as goal
 

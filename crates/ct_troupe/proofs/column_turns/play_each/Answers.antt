@@ -2,7 +2,7 @@ use Rattle.std.proofs.Common.{List, arith, subst}
 use Rattle.std.proofs.lemmas.List.{take_all}
 use Rattle.std.specs.List.{AllZip}
 use Rattle.ct_call.specs.Shown.{rules_of}
-use Rattle.ct_frame.specs.declared.plan.Plan.{Plan}
+use Rattle.ct_script.specs.declared.plan.Plan.{Plan}
 use Rattle.ct_troupe.proofs.Playing.{Plays, all_played}
 use Rattle.ct_troupe.proofs.column_turns.play_each.Goals as goal
 

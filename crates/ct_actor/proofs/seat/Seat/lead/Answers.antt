@@ -1,5 +1,5 @@
 use Rattle.ct_call.specs.Shown.{rules_of}
-use Rattle.ct_frame.specs.declared.plan.PlanItem.TheVariants.{Round}
+use Rattle.ct_script.specs.declared.plan.PlanItem.TheVariants.{Round}
 use Rattle.ct_actor.proofs.Seating.{is_told}
 use Rattle.ct_actor.proofs.seat.Seat.lead.Goals as goal
 

@@ -4,7 +4,7 @@ use Rattle.std.proofs.lemmas.List.{nil_from_length}
 use Rattle.std.proofs.lemmas.List.Sorted.{IsPermutation-refl, length_permutation}
 use Rattle.std.specs.List.Sorted.{IsStrictlySortedBy}
 use Rattle.ct_values.specs.Config.{Configures, config_fault, lock_db}
-use Rattle.ct_values.specs.Generated.{each_kind, generated_config}
+use Rattle.ct_script.specs.Generated.{each_kind, generated_config}
 use Rattle.ct_values.specs.declared.config.Config.{Config}
 use Rattle.ct_values.specs.declared.config.DbDecl.{DbDecl}
 

@@ -1,11 +1,11 @@
 //! A cluster that is generated: so many nodes, and a database of each kind.
 ghost use Rattle.std.specs.Prelude.{◌≡◌, ◌≤◌, None, length, IfOk};
 ghost use Rattle.ct_values.specs.Name.{bad_byte};
-ghost use Rattle.ct_values.specs.Generated.{each_kind, generated_config};
+ghost use Rattle.ct_script.specs.Generated.{each_kind, generated_config};
 
-use crate::config::{Config, ConfigFault, DbDecl, DbKind};
-use crate::memory::{BytesFault, NoMemory};
-use crate::name::DbName;
+use ct_values::config::{Config, ConfigFault, DbDecl, DbKind};
+use ct_values::memory::{BytesFault, NoMemory};
+use ct_values::name::DbName;
 use std::alloc::Global;
 
 /// A database of this name, which is one.
