@@ -1,8 +1,8 @@
 //! Scenarios with ample memory, line by line, against texts from outside.
 use ct_call::table::CallTable;
 use ct_play::session::Session;
-use ct_play::text::push_what;
-use ct_play::what::PlayFault;
+use ct_play_text::text::push_what;
+use ct_play_text::what::PlayFault;
 use ct_values::items::Items;
 use ct_values::memory::NoMemory;
 use std::alloc::Global;

@@ -13,7 +13,7 @@ use ct_call::table::CallTable;
 use ct_frame::event::Event;
 use ct_frame::frame::Frame;
 use ct_node_plan::change::Planned;
-use ct_node_plan_records::client::client;
+use ct_node_plan_calls::client::client;
 use ct_node_plan_records::vacuums::vacuums;
 use ct_node_plan_rounds::leading::begin_round;
 use ct_node_plan_runs::begin::begin_takeover;

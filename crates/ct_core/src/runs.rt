@@ -7,13 +7,13 @@ ghost use Rattle.ct_rules_node.specs.Takeovers.{on_release, on_releaseack, on_ta
 ghost use Rattle.ct_rules_node.specs.Turn.{begins};
 
 use ct_frame::frame::{Assigned, Frame};
+use ct_node_admission::admission::is_current;
+use ct_node_admission::sound::is_sound;
 use ct_node_plan::change::Planned;
 use ct_node_plan::still::nothing;
 use ct_node_plan_runs::{begin, follow};
 use ct_node_state::node::Node;
 use ct_node_state::turn::CoreFault;
-use ct_node_view::admission::is_current;
-use ct_node_view::sound::is_sound;
 use ct_values::address::Address;
 use ct_values::config::Config;
 

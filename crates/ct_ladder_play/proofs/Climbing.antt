@@ -10,9 +10,9 @@ use Rattle.ct_picture.specs.Rows.{word_at}
 use Rattle.ct_picture.specs.declared.reading.RunFault.{RunFault}
 use Rattle.ct_picture.specs.declared.reading.RunFault.TheVariants.{Line, NoMemory as Lacking}
 use Rattle.ct_play.specs.declared.session.Session.{Session}
-use Rattle.ct_play.specs.declared.what.PlayFault.{PlayFault}
-use Rattle.ct_play.specs.declared.what.PlayFault.TheVariants.{Refused, NoMemory as Want}
-use Rattle.ct_play.specs.declared.what.What.{What}
+use Rattle.ct_play_text.specs.declared.what.PlayFault.{PlayFault}
+use Rattle.ct_play_text.specs.declared.what.PlayFault.TheVariants.{Refused, NoMemory as Want}
+use Rattle.ct_play_text.specs.declared.what.What.{What}
 use Rattle.ct_ladder.specs.declared.rung.Fate.{Fate}
 use Rattle.ct_ladder.specs.declared.rung.Fate.TheVariants as fate
 use Rattle.ct_ladder.specs.declared.rung.Rung.{Rung}

@@ -24,8 +24,8 @@ use Rattle.ct_play.specs.Opening.{world_at}
 use Rattle.ct_play.specs.Play.{Run, all_text, continued, lines_after, preceded, refusal_after, rest, rest_after, run_from, run_lines, with_rest}
 use Rattle.ct_play.specs.Session.{Played, item_played, line_played, pending_texts, placed, put, start}
 use Rattle.ct_play.specs.declared.session.Session.{Session}
-use Rattle.ct_play.specs.declared.what.What.{What}
-use Rattle.ct_play.specs.declared.what.What.TheVariants as what
+use Rattle.ct_play_text.specs.declared.what.What.{What}
+use Rattle.ct_play_text.specs.declared.what.What.TheVariants as what
 use Rattle.ct_picture.specs.Reading.{lines_of, parts_of, rest_of}
 use Rattle.ct_picture.specs.Rows.{is_printed, kind_of, or_empty, row_of, row_with, words_of}
 use Rattle.ct_picture.specs.declared.row.RowKind.{RowKind}

@@ -11,9 +11,9 @@ use Rattle.ct_lines.specs.declared.line.ScenarioLine.TheVariants as item
 use Rattle.ct_rules_cluster.specs.Cluster.{World}
 use Rattle.ct_play.specs.Session.{Played, line_played, pending_texts, start}
 use Rattle.ct_play.specs.declared.session.Session.{Session}
-use Rattle.ct_play.specs.declared.what.PlayFault.{PlayFault}
-use Rattle.ct_play.specs.declared.what.PlayFault.TheVariants.{Refused, NoMemory as Want}
-use Rattle.ct_play.specs.declared.what.What.{What}
+use Rattle.ct_play_text.specs.declared.what.PlayFault.{PlayFault}
+use Rattle.ct_play_text.specs.declared.what.PlayFault.TheVariants.{Refused, NoMemory as Want}
+use Rattle.ct_play_text.specs.declared.what.What.{What}
 use Rattle.ct_picture.specs.Reading.{lines_of, parts_of, rest_of}
 use Rattle.ct_picture.specs.Rows.{row_of}
 use Rattle.ct_picture.specs.declared.row.Row.{Row}

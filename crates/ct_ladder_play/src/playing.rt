@@ -13,7 +13,7 @@ use ct_lines::words::{cut, is_word};
 use ct_picture::reading::RunFault;
 use ct_picture::row::{Row, RowKind, copy_of, row_of, word_at};
 use ct_play::session::Session;
-use ct_play::what::PlayFault;
+use ct_play_text::what::PlayFault;
 use ct_rules_cluster::step::Step;
 use ct_values::items::Items;
 use ct_values::memory::NoMemory;

@@ -14,8 +14,8 @@ use Rattle.ct_merge.specs.Placing.{best, best_from, better}
 use Rattle.ct_merge.specs.Gathered.{greater, nothing, gathered_all, finished}
 use Rattle.ct_merge.specs.Rule.{are_in_order, greatest, told, pparent, is_ptable_at, ptables_at, ptable_at, IsPersistentMerge}
 use Rattle.ct_merge.proofs.Among.{In, in_filter, into_filter, all_in, told_by, into_told}
-use Rattle.ct_merge.proofs.Folding.{based, all_joined}
-use Rattle.ct_merge.proofs.Rules.{gathered_pbase, gathered_ptables, merge_is}
+use Rattle.ct_law_merge.proofs.Folding.{based, all_joined}
+use Rattle.ct_law_merge.proofs.Rules.{gathered_pbase, gathered_ptables, merge_is}
 use Rattle.ct_law_registers.proofs.Merged.{kept_has, kept_greatest}
 
 -- ---- replies without all but their persistent databases

@@ -14,7 +14,7 @@ use Rattle.ct_frame.specs.Fields.{ascends, row_before}
 use Rattle.ct_merge.specs.Held.{is_row_at}
 use Rattle.ct_merge.specs.Rule.{row_at}
 use Rattle.ct_merge.proofs.Ordered.{in_order, is_lt_then}
-use Rattle.ct_merge.proofs.Rules.{place_cmp, place_total}
+use Rattle.ct_law_merge.proofs.Rules.{place_cmp, place_total}
 use Rattle.ct_store.specs.Map.{Pairs, Ascends, look, write}
 use Rattle.ct_store.proofs.Maps.{one_key, equal, key_total, written, not_written, write_ascends}
 use Rattle.ct_rules.specs.declared.state.RecState.{RecState}

@@ -17,7 +17,7 @@ use Rattle.ct_frame.specs.Fields.{ascends, row_before}
 use Rattle.ct_merge.specs.Held.{is_row_at}
 use Rattle.ct_merge.specs.Rule.{row_at}
 use Rattle.ct_merge.proofs.Ordered.{chained}
-use Rattle.ct_merge.proofs.Rules.{place_cmp}
+use Rattle.ct_law_merge.proofs.Rules.{place_cmp}
 use Rattle.ct_store.specs.Map.{Pairs, Ascends, look}
 use Rattle.ct_store.proofs.Maps.{one_key, equal}
 use Rattle.ct_rules.specs.State.{is_mastered}

@@ -18,7 +18,7 @@ use Rattle.ct_merge.specs.Placing.{best}
 use Rattle.ct_merge.specs.Rule.{told, vparent, rows_at, row_at}
 use Rattle.ct_merge.specs.declared.held.HeldRow.{HeldRow}
 use Rattle.ct_merge.proofs.Among.{In, in_of, in_filter, told_by}
-use Rattle.ct_merge.proofs.Counting.{kept_row}
+use Rattle.ct_law_merge.proofs.Counting.{kept_row}
 use Rattle.ct_rules.specs.State.{is_mastered}
 use Rattle.ct_rules_node.specs.Node.{is_among}
 use Rattle.ct_rules_node.specs.Rounds.{row_of, own_or_none, or_leader, mastered, body_of}

@@ -13,9 +13,9 @@ use Rattle.ct_merge.specs.Placing.{better, best, best_from}
 use Rattle.ct_merge.specs.Rule.{told, row_at, IsKeptRather}
 use Rattle.ct_merge.specs.declared.held.HeldRow.{HeldRow}
 use Rattle.ct_merge.proofs.Among.{In, in_of, contains_of, in_filter, into_filter, told_by, into_told, one_there}
-use Rattle.ct_merge.proofs.Counting.{kept_row}
+use Rattle.ct_law_merge.proofs.Counting.{kept_row}
 use Rattle.ct_merge.proofs.Ordered.{rows_ascend}
-use Rattle.ct_merge.proofs.Rules.{rows_one}
+use Rattle.ct_law_merge.proofs.Rules.{rows_one}
 use Rattle.ct_merge.specs.Orders.{row_order_total}
 use Rattle.ct_rules.specs.State.{is_mastered}
 use Rattle.ct_rules_node.specs.Rounds.{row_of, own_or_none}

@@ -18,7 +18,7 @@ use Rattle.ct_merge.specs.Rule.{rows_at, row_at}
 use Rattle.ct_merge.specs.declared.held.HeldRow.{HeldRow}
 use Rattle.ct_merge.proofs.Among.{In, one_there}
 use Rattle.ct_merge.proofs.Ordered.{rows_ascend}
-use Rattle.ct_merge.proofs.Rules.{rows_one}
+use Rattle.ct_law_merge.proofs.Rules.{rows_one}
 use Rattle.ct_rules.specs.State.{rsn_of}
 use Rattle.ct_rules_node.specs.Rounds.{mastered, body_of}
 use Rattle.ct_law_rules_node.proofs.Installed.{own_place}

@@ -8,8 +8,8 @@ use Rattle.ct_call.specs.Rules.{Rules}
 use Rattle.ct_merge.specs.Gathered.{Gathered, greater, nothing, gathered_all, finished}
 use Rattle.ct_merge.specs.Rule.{greatest, vparent, pparent}
 use Rattle.ct_merge.proofs.Among.{In}
-use Rattle.ct_merge.proofs.Folding.{based_is}
-use Rattle.ct_merge.proofs.Rules.{gathered_pbase, from_zero}
+use Rattle.ct_law_merge.proofs.Folding.{based_is}
+use Rattle.ct_law_merge.proofs.Rules.{gathered_pbase, from_zero}
 use Rattle.ct_rules_node.specs.Node.{is_among}
 use Rattle.ct_rules_node.specs.Rounds.{body_of}
 use Rattle.ct_rules_cluster.specs.Cluster.{Cluster, node_at}

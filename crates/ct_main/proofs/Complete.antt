@@ -7,8 +7,8 @@ use Rattle.ct_lcp2_lines.proofs.Complete.{taken_front, all_taken}
 use Rattle.ct_play.specs.Play.{continued, lines_after, played, rest, rest_after, run_from, run_lines, with_rest}
 use Rattle.ct_play.specs.Session.{Played, line_played, longest, start}
 use Rattle.ct_play.specs.declared.session.Session.{Session}
-use Rattle.ct_play.specs.declared.what.What.{What}
-use Rattle.ct_play.specs.declared.what.What.TheVariants.{Line}
+use Rattle.ct_play_text.specs.declared.what.What.{What}
+use Rattle.ct_play_text.specs.declared.what.What.TheVariants.{Line}
 use Rattle.ct_main.specs.Complete.{IsGood, PlayCompletes}
 use Rattle.ct_main.specs.declared.player.End.TheVariants as end
 use Rattle.ct_main.proofs.Feeding.{too_long}

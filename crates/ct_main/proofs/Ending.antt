@@ -9,8 +9,8 @@ use Rattle.ct_outside.specs.Causes.{AppendsPart}
 use Rattle.ct_play.specs.Course.{Deed}
 use Rattle.ct_play.specs.Play.{Run, all_text, ended, pending_text_of, played, rest, rest_after, run_from, preceded}
 use Rattle.ct_play.specs.Session.{longest, pending_texts, start}
-use Rattle.ct_play.specs.declared.what.What.{What}
-use Rattle.ct_play.specs.declared.what.What.TheVariants.{Line}
+use Rattle.ct_play_text.specs.declared.what.What.{What}
+use Rattle.ct_play_text.specs.declared.what.What.TheVariants.{Line}
 use Rattle.ct_main.specs.Claims.{Ends, ended_text, most_bytes, text_at}
 use Rattle.ct_main.specs.Feeding.{EndsOn, Fed, Feeds, Finishes, Prints, TookNone, end_of, run_on, waiting_text}
 use Rattle.ct_main.specs.declared.player.End.{End}

@@ -14,10 +14,10 @@ use Rattle.ct_main.specs.Feeding.{Fed, FedPart, FedRefused, Feeds, Prints, run_o
 use Rattle.ct_play.specs.Play.{Run, all_text, continued, ended, lines_after, rest_after, run_from, run_lines, preceded, with_rest}
 use Rattle.ct_play.specs.Session.{Matches, Played, Plays, item_played, line_played, longest}
 use Rattle.ct_play.specs.declared.session.Session.{Session}
-use Rattle.ct_play.specs.declared.what.PlayFault.{PlayFault}
-use Rattle.ct_play.specs.declared.what.PlayFault.TheVariants as fault
-use Rattle.ct_play.specs.declared.what.What.{What}
-use Rattle.ct_play.specs.declared.what.What.TheVariants.{Line}
+use Rattle.ct_play_text.specs.declared.what.PlayFault.{PlayFault}
+use Rattle.ct_play_text.specs.declared.what.PlayFault.TheVariants as fault
+use Rattle.ct_play_text.specs.declared.what.What.{What}
+use Rattle.ct_play_text.specs.declared.what.What.TheVariants.{Line}
 use Rattle.ct_main.specs.declared.player.Player.{Player}
 use Rattle.ct_main.specs.declared.player.Stop.{Stop}
 use Rattle.ct_main.specs.declared.player.Stop.TheVariants.{Refused, WriteFault, NoMemory}

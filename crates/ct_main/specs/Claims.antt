@@ -17,9 +17,9 @@ use Rattle.ct_play.specs.Session.{start}
 use Rattle.ct_law_traverse.specs.Told.{TraversesRun}
 use Rattle.ct_play.specs.Course.{Deed, moves_of, printed, steps_of}
 use Rattle.ct_play.specs.Play.{AreMovesOf, Run, pending_text_of, played, rest}
-use Rattle.ct_play.specs.Text.{what_text}
-use Rattle.ct_play.specs.declared.what.What.{What}
-use Rattle.ct_play.specs.declared.what.What.TheVariants.{Line}
+use Rattle.ct_play_text.specs.Text.{what_text}
+use Rattle.ct_play_text.specs.declared.what.What.{What}
+use Rattle.ct_play_text.specs.declared.what.What.TheVariants.{Line}
 use Rattle.ct_lcp2_lines.specs.declared.placer.End.{End as PlacingEnd}
 use Rattle.ct_lcp2_lines.specs.declared.placer.End.TheVariants as placing
 use Rattle.ct_soak.specs.Soaking.{soak_text}

@@ -8,9 +8,9 @@ use Rattle.ct_call.specs.Rules.{Rules}
 use Rattle.ct_play.specs.Course.{Deed}
 use Rattle.ct_play.specs.Play.{Run, all_text, pending_text_of, rest_after, run_from, preceded}
 use Rattle.ct_play.specs.Session.{pending_texts}
-use Rattle.ct_play.specs.declared.what.PlayFault.{PlayFault}
-use Rattle.ct_play.specs.declared.what.PlayFault.TheVariants as play
-use Rattle.ct_play.specs.declared.what.What.{What}
+use Rattle.ct_play_text.specs.declared.what.PlayFault.{PlayFault}
+use Rattle.ct_play_text.specs.declared.what.PlayFault.TheVariants as play
+use Rattle.ct_play_text.specs.declared.what.What.{What}
 use Rattle.ct_main.specs.Claims.{HasEndCause, text_at}
 use Rattle.ct_main.specs.declared.player.End.{End}
 use Rattle.ct_main.specs.declared.player.End.TheVariants as end

@@ -17,7 +17,7 @@ use ct_outside::fault::SinkFault;
 use ct_outside::sink::{Sink, write_all};
 use ct_outside::source::Source;
 use ct_play::session::Session;
-use ct_play::what::{PlayFault, What};
+use ct_play_text::what::{PlayFault, What};
 use ct_values::items::Items;
 use ct_values::memory::NoMemory;
 use std::alloc::{AllocFailed, Global};

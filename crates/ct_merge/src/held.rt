@@ -157,7 +157,7 @@ impl Candidate for HeldAddress {
 }
 
 /// The rows of a member, with the member beside each. Where its databases come from generation 0 there are none.
-pub(crate) fn based_rows(
+pub fn based_rows(
     alloc: Global,
     vbase: u64,
     node: u32,
@@ -176,7 +176,7 @@ pub(crate) fn based_rows(
 }
 
 /// The persistent databases of a member, with the member beside each.
-pub(crate) fn held_ptables(
+pub fn held_ptables(
     alloc: Global,
     node: u32,
     ptables: Items<PTable>,
@@ -191,7 +191,7 @@ pub(crate) fn held_ptables(
 }
 
 /// The addresses of a member, with the member beside each.
-pub(crate) fn held_addresses(
+pub fn held_addresses(
     alloc: Global,
     node: u32,
     addresses: &[Address],

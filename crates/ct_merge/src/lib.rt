@@ -2,9 +2,7 @@
 #![tactic(auto)]
 
 pub mod held;
-pub mod laws;
 pub mod merged;
-pub mod merges;
 pub mod merging;
 pub mod order;
-mod placing;
+pub mod placing;

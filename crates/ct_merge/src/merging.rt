@@ -55,14 +55,14 @@ impl Model for Merging {
 }
 
 /// The greater of two generations.
-pub(crate) fn greater(a: u64, b: u64) -> u64
+pub fn greater(a: u64, b: u64) -> u64
     ensures { result ≡ greater a b }
 {
     if a < b { b } else { a }
 }
 
 /// The rows, without the members.
-pub(crate) fn table_of(alloc: Global, held: &[HeldRow]) -> Result<Items<TableRow>, NoMemory>
+pub fn table_of(alloc: Global, held: &[HeldRow]) -> Result<Items<TableRow>, NoMemory>
     ensures { IfOk result (λ table. table ≡ map (λ h. h.row) held.now) }
 {
     let mut table = Vec::with_capacity(alloc, held.len())?;
@@ -73,7 +73,7 @@ pub(crate) fn table_of(alloc: Global, held: &[HeldRow]) -> Result<Items<TableRow
 }
 
 /// The persistent databases, without the members.
-pub(crate) fn ptables_of(alloc: Global, held: &[HeldPTable]) -> Result<Items<PTable>, NoMemory>
+pub fn ptables_of(alloc: Global, held: &[HeldPTable]) -> Result<Items<PTable>, NoMemory>
     ensures { IfOk result (λ ptables. ptables ≡ map (λ h. h.ptable) held.now) }
 {
     let mut ptables = Vec::with_capacity(alloc, held.len())?;
@@ -84,7 +84,7 @@ pub(crate) fn ptables_of(alloc: Global, held: &[HeldPTable]) -> Result<Items<PTa
 }
 
 /// Each address, assigned to its member.
-pub(crate) fn assigned_of(alloc: Global, held: &[HeldAddress]) -> Result<Items<Assigned>, NoMemory>
+pub fn assigned_of(alloc: Global, held: &[HeldAddress]) -> Result<Items<Assigned>, NoMemory>
     ensures { IfOk result (λ assigned. assigned ≡ map assigned_to held.now) }
 {
     let mut assigned = Vec::with_capacity(alloc, held.len())?;

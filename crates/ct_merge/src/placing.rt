@@ -85,7 +85,7 @@ fn merge<T: Candidate>(more: Vec<T>, kept: Vec<T>, room: Vec<T>) -> Vec<T>
 }
 
 /// An empty list that has room for all items of both.
-pub(crate) fn room_for<T>(alloc: Global, kept: &Vec<T>, more: &Vec<T>) -> Result<Vec<T>, NoMemory>
+pub fn room_for<T>(alloc: Global, kept: &Vec<T>, more: &Vec<T>) -> Result<Vec<T>, NoMemory>
     ensures empty { IfOk result (λ room. room.items ≡ []) }
     ensures fits { IfOk result (λ room. vec_len more.now + vec_len kept.now ≤ vec_capacity room) }
 {
@@ -96,7 +96,7 @@ pub(crate) fn room_for<T>(alloc: Global, kept: &Vec<T>, more: &Vec<T>) -> Result
 }
 
 /// Puts items of a base to those of the greatest base so far. It takes no memory.
-pub(crate) fn join<T: Candidate>(
+pub fn join<T: Candidate>(
     alloc: Global,
     base: u64,
     kept: &mut Vec<T>,

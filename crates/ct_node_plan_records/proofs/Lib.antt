@@ -1,7 +1,4 @@
 pub mod Updates
-pub mod Writing
-pub mod Releasing
-pub mod Serving
 pub mod Left
 pub mod Records
 pub mod Taking

@@ -1,3 +1,2 @@
-pub mod Comes
 pub mod Keys
 pub mod Walked

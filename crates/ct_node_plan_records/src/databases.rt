@@ -18,7 +18,7 @@ use ct_node_plan::still::{nothing, one};
 use ct_node_state::kinds::{is_persistent, kind_at};
 use ct_node_state::node::Node;
 use ct_node_state::turn::CoreFault;
-use ct_node_view::admission::is_current;
+use ct_node_admission::admission::is_current;
 use ct_persist::store::PStore;
 use ct_values::client::{Answer, Pair};
 use ct_values::config::Config;

@@ -1,5 +1,3 @@
-pub mod Joined
-pub mod Names
 pub mod Tables
 pub mod Sorting
 pub mod There

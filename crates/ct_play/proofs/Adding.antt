@@ -18,9 +18,9 @@ use Rattle.ct_world.specs.World.{Applies}
 use Rattle.ct_rules_cluster.specs.Cluster.{World}
 use Rattle.ct_play.specs.Course.{Adds, AddsAll, Effect}
 use Rattle.ct_play.specs.Effect.{IsEffect, ShowsLines, TellsMove, Works, move_effect, refused_by, step_effect, stepped, taken, text_effect, traverse_texts, unmoved_by, what_of}
-use Rattle.ct_play.specs.declared.what.PlayFault.{PlayFault}
-use Rattle.ct_play.specs.declared.what.PlayFault.TheVariants.{Refused, NoMemory}
-use Rattle.ct_play.specs.declared.what.What.{What}
+use Rattle.ct_play_text.specs.declared.what.PlayFault.{PlayFault}
+use Rattle.ct_play_text.specs.declared.what.PlayFault.TheVariants.{Refused, NoMemory}
+use Rattle.ct_play_text.specs.declared.what.What.{What}
 
 -- ---- a step
 

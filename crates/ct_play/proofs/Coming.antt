@@ -3,9 +3,9 @@ use Rattle.std.proofs.Common.{◌≡◌, ◌∙◌, ℕ, zero, suc, List, [], �
 use Rattle.ct_traverse_parts.specs.Walk.{Walk}
 use Rattle.ct_rules_cluster.specs.Cluster.{World}
 use Rattle.ct_play.specs.Course.{Adds, AddsAll, Deed, Effect, after, and_then, next_first, still, up_to}
-use Rattle.ct_play.specs.declared.what.PlayFault.{PlayFault}
-use Rattle.ct_play.specs.declared.what.PlayFault.TheVariants.{Refused, NoMemory}
-use Rattle.ct_play.specs.declared.what.What.{What}
+use Rattle.ct_play_text.specs.declared.what.PlayFault.{PlayFault}
+use Rattle.ct_play_text.specs.declared.what.PlayFault.TheVariants.{Refused, NoMemory}
+use Rattle.ct_play_text.specs.declared.what.What.{What}
 
 -- what comes next, where a cluster and its traverses stand
 abbrev pub Next : Type 0

@@ -11,7 +11,7 @@ use Rattle.ct_lines.specs.declared.line.LineKindFault.TheVariants.{Kind}
 use Rattle.ct_lines.specs.declared.line.ScenarioLine.{ScenarioLine}
 use Rattle.ct_play.specs.Session.{item_played, line_played, longest, placed}
 use Rattle.ct_play.specs.declared.session.Session.{Session}
-use Rattle.ct_play.specs.declared.what.What.TheVariants as what
+use Rattle.ct_play_text.specs.declared.what.What.TheVariants as what
 
 -- a line that is not too long
 pub short_line : (rules : Rules) (line : List ℕ) (s : Session) (o : Option ScenarioLine) → length line ≤ 65535 → line_of line ≡ o → line_played rules line s ≡ item_played rules o s

@@ -21,7 +21,7 @@ use Rattle.ct_traverse_parts.proofs.Moving.{moves_append}
 use Rattle.ct_values.specs.declared.config.Config.{Config}
 use Rattle.ct_play.specs.Course.{Deed, Effect, after, and_then, moves_of, next_first, printed, still, told, up_to}
 use Rattle.ct_play.specs.Effect.{carriage, delivery, message_carried, message_lost, message_repeated, move_effect, settled, step_effect, stepped, taken as effect_taken, traverse_begun, traverse_texts, walked}
-use Rattle.ct_play.specs.declared.what.What.{What}
+use Rattle.ct_play_text.specs.declared.what.What.{What}
 use Rattle.ct_named.proofs.Allowed.{deliver_allowed}
 use Rattle.ct_play.proofs.Coming.{Next}
 

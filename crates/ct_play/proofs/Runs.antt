@@ -30,8 +30,8 @@ use Rattle.ct_play.specs.Opening.{world_at}
 use Rattle.ct_play.specs.Play.{AreMovesOf, IsRunOf, Run, continued, lines_after, played, run_from, run_lines}
 use Rattle.ct_play.specs.Session.{Played, is_config_line, item_played, line_played, longest, placed, put, quiet, start}
 use Rattle.ct_play.specs.declared.session.Session.{Session}
-use Rattle.ct_play.specs.declared.what.What.{What}
-use Rattle.ct_play.specs.declared.what.What.TheVariants as what
+use Rattle.ct_play_text.specs.declared.what.What.{What}
+use Rattle.ct_play_text.specs.declared.what.What.TheVariants as what
 use Rattle.ct_named.proofs.Allowed.{change_allowed, command_allowed, named_allowed}
 use Rattle.ct_play.proofs.Made.{configures}
 use Rattle.ct_play.proofs.Running.{Leads, LeadsFrom, begun_leads, carried_leads, idle_leads, lost_leads, repeated_leads, settled_leads, step_leads, still_leads, then_leads, walked_leads}

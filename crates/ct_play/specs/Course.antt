@@ -7,9 +7,9 @@ use Rattle.ct_traverse_parts.specs.Moves.{Move, steps_in}
 use Rattle.ct_traverse_parts.specs.Walk.{Walk}
 use Rattle.ct_traverse_parts.specs.declared.line.TLine.{TLine}
 use Rattle.ct_rules_cluster.specs.Cluster.{World}
-use Rattle.ct_play.specs.declared.what.PlayFault.{PlayFault}
-use Rattle.ct_play.specs.declared.what.PlayFault.TheVariants.{Refused, NoMemory}
-use Rattle.ct_play.specs.declared.what.What.{What}
+use Rattle.ct_play_text.specs.declared.what.PlayFault.{PlayFault}
+use Rattle.ct_play_text.specs.declared.what.PlayFault.TheVariants.{Refused, NoMemory}
+use Rattle.ct_play_text.specs.declared.what.What.{What}
 
 -- a deed: the move that was made, what the cluster printed, and what traverses told
 pub record Deed : Type 0 where

@@ -35,10 +35,10 @@ use Rattle.ct_text.specs.Line.{line_text}
 use Rattle.ct_traverse_parts.specs.Text.{traverse_text}
 use Rattle.ct_play.specs.Course.{Effect, still, up_to}
 use Rattle.ct_named.specs.Named.{command_step, named_step, number_in_step}
-use Rattle.ct_play.specs.declared.what.PlayFault.{PlayFault}
-use Rattle.ct_play.specs.declared.what.PlayFault.TheVariants.{Refused, NoMemory}
-use Rattle.ct_play.specs.declared.what.What.{What}
-use Rattle.ct_play.specs.declared.what.What.TheVariants as what
+use Rattle.ct_play_text.specs.declared.what.PlayFault.{PlayFault}
+use Rattle.ct_play_text.specs.declared.what.PlayFault.TheVariants.{Refused, NoMemory}
+use Rattle.ct_play_text.specs.declared.what.What.{What}
+use Rattle.ct_play_text.specs.declared.what.What.TheVariants as what
 
 -- ---- texts
 

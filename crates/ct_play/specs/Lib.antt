@@ -3,4 +3,3 @@ pub mod Effect
 pub mod Opening
 pub mod Play
 pub mod Session
-pub mod Text

@@ -11,8 +11,8 @@ use Rattle.ct_traverse_parts.specs.Walk.{Walk, no_walk}
 use Rattle.ct_play.specs.Course.{Deed, moves_of, printed, steps_of, told}
 use Rattle.ct_play.specs.Session.{Played, line_played, longest, pending_texts, start}
 use Rattle.ct_play.specs.declared.session.Session.{Session}
-use Rattle.ct_play.specs.declared.what.What.{What}
-use Rattle.ct_play.specs.declared.what.What.TheVariants as what
+use Rattle.ct_play_text.specs.declared.what.What.{What}
+use Rattle.ct_play_text.specs.declared.what.What.TheVariants as what
 
 -- the whole lines of some bytes, each without its line feed, where this line was begun
 abbrev pub lines_after : List ℕ → List ℕ → List (List ℕ)

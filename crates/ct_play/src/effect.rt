@@ -8,10 +8,10 @@ ghost use Rattle.ct_play.specs.Effect.{Works, commanded, line_effect, settled, s
 use crate::shown::shown;
 use crate::stepping::{settle, take};
 use crate::walking::{catted, traversed};
-use crate::what::PlayFault;
 use ct_call::table::CallTable;
 use ct_lines::line::{Command, ScenarioLine};
 use ct_named::named::{command_step, named_step, number_in_step};
+use ct_play_text::what::PlayFault;
 use ct_rules_cluster::step::Step;
 use ct_traverse::walker::Walker;
 use ct_values::items::Items;

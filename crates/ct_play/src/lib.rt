@@ -6,6 +6,4 @@ pub mod laws;
 pub mod session;
 mod shown;
 mod stepping;
-pub mod text;
 mod walking;
-pub mod what;

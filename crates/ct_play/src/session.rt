@@ -10,11 +10,11 @@ ghost use Rattle.ct_play.specs.Opening.{world_at};
 ghost use Rattle.ct_play.specs.Session.{Plays, in_its_place, is_config_line, line_played, pending_texts, placed, put, start, waiting_texts};
 
 use crate::effect::line_effect;
-use crate::what::{PlayFault, What};
 use ct_call::table::CallTable;
 use ct_lines::line::{LineKindFault, ScenarioLine};
 use ct_lines::parse::parse_line;
 use ct_lines::places::Places;
+use ct_play_text::what::{PlayFault, What};
 use ct_rules_cluster::step::PendingCall;
 use ct_text::line::pending_text;
 use ct_traverse::walker::Walker;

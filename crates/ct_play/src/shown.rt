@@ -2,8 +2,8 @@
 ghost use Rattle.std.specs.Prelude.{◌≡◌, [], IfOk};
 ghost use Rattle.ct_play.specs.Effect.{ShowsLines, cut_after, refused_by, shown};
 
-use crate::what::{PlayFault, What};
 use ct_lines::line::ShowCommand;
+use ct_play_text::what::{PlayFault, What};
 use ct_rules_cluster::step::{Step, StepFault};
 use ct_text_commands::command::{TextFault, command_text};
 use ct_values::items::Items;

@@ -9,8 +9,8 @@ ghost use Rattle.ct_play.specs.Effect.{settled, stepped};
 
 use crate::shown::refused_by;
 use crate::walking::tell;
-use crate::what::PlayFault;
 use ct_call::table::CallTable;
+use ct_play_text::what::PlayFault;
 use ct_rules_cluster::step::{Line, Step};
 use ct_text::line::line_text;
 use ct_traverse::walker::Walker;

@@ -7,10 +7,10 @@ ghost use Rattle.ct_play.specs.Effect.{ShowsLines, TellsMove, Works, catted, mes
 ghost use Rattle.ct_named.specs.Named.{number_in_step};
 
 use crate::shown::{cut, shown};
-use crate::what::{PlayFault, What};
 use ct_lines::line::{ShowCommand, TraverseLine};
 use ct_named::named::number_in_step;
 use ct_node_state::kinds::{is_persistent, kind_at};
+use ct_play_text::what::{PlayFault, What};
 use ct_traverse::walker::Walker;
 use ct_traverse_parts::line::{TFault, TLine};
 use ct_traverse_parts::text::push_traverse;

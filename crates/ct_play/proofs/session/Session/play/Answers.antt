@@ -1,7 +1,7 @@
 use Rattle.std.proofs.Common.{Result, sym, subst}
 use Rattle.ct_call.specs.Shown.{rules_of}
 use Rattle.ct_play.specs.Session.{Played, Plays}
-use Rattle.ct_play.specs.declared.what.What.{What}
+use Rattle.ct_play_text.specs.declared.what.What.{What}
 use Rattle.ct_play.proofs.Reading.{line_read}
 use Rattle.ct_play.proofs.session.Session.play.Goals as goal
 

@@ -1,0 +1,5 @@
+pub mod OneAnswer
+pub mod AnyOrder
+pub mod Counting
+pub mod Rules
+pub mod Folding

@@ -1,0 +1,3 @@
+pub mod Releasing
+pub mod Serving
+pub mod Writing
