@@ -1,13 +1,13 @@
 //! A node takes an item of its script, or a message that arrives.
 ghost use Rattle.std.specs.Prelude.{◌≡◌, ◌<◌, ◌+◌, ◌^◌, true, OnErr, OnOk};
 ghost use Rattle.std.specs.List.{list_all};
-ghost use Rattle.ct_actor.specs.Acting.{ActsOn, FitsWith, MayAsk, cue_with, last_entry};
+ghost use Rattle.ct_actor.specs.Acting as acting;
 ghost use Rattle.ct_call.specs.Shown.{rules_of};
 ghost use Rattle.ct_script.specs.Cues.{begun, cue_after};
 ghost use Rattle.ct_frame.specs.Fields.{well_formed};
 ghost use Rattle.ct_frame.specs.declared.event.Event.TheVariants as event;
 ghost use Rattle.ct_script.specs.declared.plan.PlanItem.TheVariants as item;
-ghost use Rattle.ct_actor.specs.Journalled.{IsFed, IsRunBy, last_outs};
+ghost use Rattle.ct_actor.specs.Journalled as journalled;
 ghost use Rattle.ct_law_form.specs.Whole.{is_sound_out};
 ghost use Rattle.ct_script.specs.Sound.{may_be_told};
 ghost use Rattle.ct_rules_node.specs.Coming.{is_allowed_op, may_come};
@@ -24,8 +24,8 @@ use ct_values::items::Items;
 
 /// The cue follows the last entry of the node.
 fn follow_last(node: &Node, cue: &mut Cue)
-    requires { FitsWith (last_entry node.now) cue.old }
-    ensures { cue.new ≡ cue_with (last_entry node.now) cue.old }
+    requires { acting.FitsWith (acting.last_entry node.now) cue.old }
+    ensures { cue.new ≡ acting.cue_with (acting.last_entry node.now) cue.old }
 {
     if let Some(entry) = node.entries().last() {
         cue.follow(&entry.event, entry.outs.as_slice());
@@ -37,10 +37,10 @@ fn follow_last(node: &Node, cue: &mut Cue)
 fn act(node: &mut Node, table: &CallTable, cue: &mut Cue, event: Event) -> Result<(), CoreFault>
     requires comes { may_come node.old.core.config node.old.core.pnn node.old.core.node event ≡ true }
     requires fits { (begun event cue.old).taken < 2 ^ 64 }
-    ensures fed { IsFed result event (stepped node.old.core.config (rules_of table.now) node.old.core.pnn event node.old.core.node) node.old node.new }
-    ensures run { IsRunBy (rules_of table.now) node.old → IsRunBy (rules_of table.now) node.new }
-    ensures sound { OnOk result (list_all (is_sound_out node.old.core.config node.old.core.pnn) (last_outs node.new.entries) ≡ true) }
-    ensures cue { OnOk result (cue.new ≡ cue_after (record { event = event; outs = last_outs node.new.entries }) cue.old) }
+    ensures fed { journalled.IsFed result event (stepped node.old.core.config (rules_of table.now) node.old.core.pnn event node.old.core.node) node.old node.new }
+    ensures run { journalled.IsRunBy (rules_of table.now) node.old → journalled.IsRunBy (rules_of table.now) node.new }
+    ensures sound { OnOk result (list_all (is_sound_out node.old.core.config node.old.core.pnn) (journalled.last_outs node.new.entries) ≡ true) }
+    ensures cue { OnOk result (cue.new ≡ cue_after (record { event = event; outs = journalled.last_outs node.new.entries }) cue.old) }
     ensures err { OnErr result (cue.new ≡ cue.old) }
 {
     node.feed(table, event)?;
@@ -59,10 +59,10 @@ pub fn arrive(
 ) -> Result<(), CoreFault>
     requires formed { well_formed frame ≡ true }
     requires receiver { frame.receiver ≡ node.old.core.pnn }
-    ensures fed { IsFed result (event.Arrive frame) (stepped node.old.core.config (rules_of table.now) node.old.core.pnn (event.Arrive frame) node.old.core.node) node.old node.new }
-    ensures acting { ActsOn (rules_of table.now) (event.Arrive frame) node.old cue.old node.new cue.new }
-    ensures sound { OnOk result (list_all (is_sound_out node.old.core.config node.old.core.pnn) (last_outs node.new.entries) ≡ true) }
-    ensures cue { OnOk result (cue.new ≡ cue_after (record { event = event.Arrive frame; outs = last_outs node.new.entries }) cue.old) }
+    ensures fed { journalled.IsFed result (event.Arrive frame) (stepped node.old.core.config (rules_of table.now) node.old.core.pnn (event.Arrive frame) node.old.core.node) node.old node.new }
+    ensures acting { acting.ActsOn (rules_of table.now) (event.Arrive frame) node.old cue.old node.new cue.new }
+    ensures sound { OnOk result (list_all (is_sound_out node.old.core.config node.old.core.pnn) (journalled.last_outs node.new.entries) ≡ true) }
+    ensures cue { OnOk result (cue.new ≡ cue_after (record { event = event.Arrive frame; outs = journalled.last_outs node.new.entries }) cue.old) }
     ensures err { OnErr result (cue.new ≡ cue.old) }
 {
     let _taken = cue.taken;
@@ -79,11 +79,11 @@ pub fn take_call(
     op: ClientOp,
 ) -> Result<(), CoreFault>
     requires allowed { is_allowed_op op ≡ true }
-    requires may { MayAsk (rules_of table.now) node.old cue.old }
-    ensures fed { IsFed result (event.Client (cue.old.calls + 1) op) (stepped node.old.core.config (rules_of table.now) node.old.core.pnn (event.Client (cue.old.calls + 1) op) node.old.core.node) node.old node.new }
-    ensures acting { ActsOn (rules_of table.now) (event.Client (cue.old.calls + 1) op) node.old cue.old node.new cue.new }
-    ensures sound { OnOk result (list_all (is_sound_out node.old.core.config node.old.core.pnn) (last_outs node.new.entries) ≡ true) }
-    ensures cue { OnOk result (cue.new ≡ cue_after (record { event = event.Client (cue.old.calls + 1) op; outs = last_outs node.new.entries }) cue.old) }
+    requires may { acting.MayAsk (rules_of table.now) node.old cue.old }
+    ensures fed { journalled.IsFed result (event.Client (cue.old.calls + 1) op) (stepped node.old.core.config (rules_of table.now) node.old.core.pnn (event.Client (cue.old.calls + 1) op) node.old.core.node) node.old node.new }
+    ensures acting { acting.ActsOn (rules_of table.now) (event.Client (cue.old.calls + 1) op) node.old cue.old node.new cue.new }
+    ensures sound { OnOk result (list_all (is_sound_out node.old.core.config node.old.core.pnn) (journalled.last_outs node.new.entries) ≡ true) }
+    ensures cue { OnOk result (cue.new ≡ cue_after (record { event = event.Client (cue.old.calls + 1) op; outs = journalled.last_outs node.new.entries }) cue.old) }
     ensures err { OnErr result (cue.new ≡ cue.old) }
 {
     if cue.calls == u64::MAX {
@@ -105,10 +105,10 @@ pub fn take_round(
 ) -> Result<(), CoreFault>
     requires told { may_be_told node.old.core.config node.old.core.pnn (item.Round members) ≡ true }
     requires fits { cue.old.taken + 1 < 2 ^ 64 }
-    ensures fed { IsFed result (event.BeginRound ticket members) (stepped node.old.core.config (rules_of table.now) node.old.core.pnn (event.BeginRound ticket members) node.old.core.node) node.old node.new }
-    ensures acting { ActsOn (rules_of table.now) (event.BeginRound ticket members) node.old cue.old node.new cue.new }
-    ensures sound { OnOk result (list_all (is_sound_out node.old.core.config node.old.core.pnn) (last_outs node.new.entries) ≡ true) }
-    ensures cue { OnOk result (cue.new ≡ cue_after (record { event = event.BeginRound ticket members; outs = last_outs node.new.entries }) cue.old) }
+    ensures fed { journalled.IsFed result (event.BeginRound ticket members) (stepped node.old.core.config (rules_of table.now) node.old.core.pnn (event.BeginRound ticket members) node.old.core.node) node.old node.new }
+    ensures acting { acting.ActsOn (rules_of table.now) (event.BeginRound ticket members) node.old cue.old node.new cue.new }
+    ensures sound { OnOk result (list_all (is_sound_out node.old.core.config node.old.core.pnn) (journalled.last_outs node.new.entries) ≡ true) }
+    ensures cue { OnOk result (cue.new ≡ cue_after (record { event = event.BeginRound ticket members; outs = journalled.last_outs node.new.entries }) cue.old) }
     ensures err { OnErr result (cue.new ≡ cue.old) }
 {
     act(node, table, cue, Event::BeginRound { ticket, members })

@@ -3,7 +3,7 @@ ghost use Rattle.std.specs.Prelude.{◌≡◌, ◌<◌, ◌∷◌, ◌++◌, [],
 ghost use Rattle.std.specs.List.{list_all};
 ghost use Rattle.ct_call.specs.Rules.{Rules};
 ghost use Rattle.ct_call.specs.Shown.{rules_of};
-ghost use Rattle.ct_actor.specs.Journalled.{IsFed, IsRunBy, at_opening, last_outs};
+ghost use Rattle.ct_actor.specs.Journalled as journalled;
 ghost use Rattle.ct_law_form.specs.Whole.{HasLimits, is_sound_out};
 ghost use Rattle.ct_rules_node.specs.Coming.{may_come};
 ghost use Rattle.ct_rules_node.specs.Steps.{stepped};
@@ -50,8 +50,8 @@ impl Node {
     pub fn new(alloc: Global, pnn: u32, config: &Config) -> Result<Node, NoMemory>
         requires node { pnn < config.now.nodes }
         requires limits { HasLimits config.now }
-        ensures at_opening { IfOk result (λ x. x ≡ at_opening pnn config.now) }
-        ensures run { IfOk result (λ x. (rules : Rules) → IsRunBy rules x) }
+        ensures at_opening { IfOk result (λ x. x ≡ journalled.at_opening pnn config.now) }
+        ensures run { IfOk result (λ x. (rules : Rules) → journalled.IsRunBy rules x) }
     {
         match Core::new(alloc, pnn, config) {
             Ok(core) => Ok(Node {
@@ -67,9 +67,9 @@ impl Node {
     #[tactic(auto, using(crate::proofs::Running::step_runs, crate::proofs::Running::put_all))]
     pub fn feed(&mut self, table: &CallTable, event: Event) -> Result<(), CoreFault>
         requires { may_come self.old.core.config self.old.core.pnn self.old.core.node event ≡ true }
-        ensures fed { IsFed result event (stepped self.old.core.config (rules_of table.now) self.old.core.pnn event self.old.core.node) self.old self.new }
-        ensures run { IsRunBy (rules_of table.now) self.old → IsRunBy (rules_of table.now) self.new }
-        ensures sound { OnOk result (list_all (is_sound_out self.old.core.config self.old.core.pnn) (last_outs self.new.entries) ≡ true) }
+        ensures fed { journalled.IsFed result event (stepped self.old.core.config (rules_of table.now) self.old.core.pnn event self.old.core.node) self.old self.new }
+        ensures run { journalled.IsRunBy (rules_of table.now) self.old → journalled.IsRunBy (rules_of table.now) self.new }
+        ensures sound { OnOk result (list_all (is_sound_out self.old.core.config self.old.core.pnn) (journalled.last_outs self.new.entries) ≡ true) }
     {
         if self.entries.reserve(1).is_err() {
             return Err(CoreFault::NoMemory);
@@ -100,7 +100,7 @@ impl Node {
 
     /// What it did last. A node without an entry did nothing.
     pub fn last_outs(&self) -> &[Out]
-        ensures { result.now ≡ last_outs self.now.entries }
+        ensures { result.now ≡ journalled.last_outs self.now.entries }
     {
         match self.entries.as_slice().last() {
             Some(entry) => entry.outs.as_slice(),

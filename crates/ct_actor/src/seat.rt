@@ -6,15 +6,16 @@ ghost use Rattle.ct_frame.specs.declared.event.Event.TheVariants as event;
 ghost use Rattle.ct_script.specs.declared.plan.PlanItem.TheVariants as item;
 ghost use Rattle.ct_script.specs.Sound.{IsSound, script_of};
 ghost use Rattle.ct_actor.specs.Queues.{is_for};
-ghost use Rattle.ct_actor.specs.Seats.{IsSeatOf, TakesEvent, TakesItem};
+ghost use Rattle.ct_actor.specs.Seats as seats;
 
 use crate::acting::{arrive, take_call, take_round};
 use crate::node::Node;
 use ct_call::table::CallTable;
 use ct_frame::frame::Frame;
-use ct_script::plan::{Plan, PlanItem};
+use ct_frame_fields::fields::well_formed;
 use ct_node_state::turn::CoreFault;
 use ct_script::cue::Cue;
+use ct_script::plan::{Plan, PlanItem};
 use ct_values::client::ClientOp;
 use ct_values::copies::Duplicate;
 use ct_values::items::Items;
@@ -37,6 +38,14 @@ fn script_at(plan: &Plan, node: u32) -> &[PlanItem]
     }
 }
 
+/// May the message arrive at the node?
+#[tactic(auto, unfolding(crate::specs::Queues::is_for))]
+pub fn is_for(node: u32, frame: &Frame) -> bool
+    ensures { result ≡ is_for node frame.now }
+{
+    well_formed(frame) && frame.receiver == node
+}
+
 impl Seat {
     /// A message arrives.
     #[tactic(auto, using(crate::proofs::Seating::takes_message, crate::proofs::Seating::is_formed))]
@@ -47,9 +56,9 @@ impl Seat {
         node: u32,
         frame: Frame,
     ) -> Result<(), CoreFault>
-        requires seat { IsSeatOf (rules_of table.now) plan.now node self.old }
+        requires seat { seats.IsSeatOf (rules_of table.now) plan.now node self.old }
         requires to { is_for node frame ≡ true }
-        ensures { OnOk result (TakesEvent (rules_of table.now) plan.now node (event.Arrive frame) self.old self.new) }
+        ensures { OnOk result (seats.TakesEvent (rules_of table.now) plan.now node (event.Arrive frame) self.old self.new) }
     {
         arrive(&mut self.node, table, &mut self.cue, frame)
     }
@@ -63,10 +72,10 @@ impl Seat {
         node: u32,
         op: ClientOp,
     ) -> Result<(), CoreFault>
-        requires seat { IsSeatOf (rules_of table.now) plan.now node self.old }
+        requires seat { seats.IsSeatOf (rules_of table.now) plan.now node self.old }
         requires sound { IsSound plan.now }
         requires next { next_item (script_of plan.now node) self.old.cue ≡ Some (item.Call op) }
-        ensures { OnOk result (TakesEvent (rules_of table.now) plan.now node (event.Client (self.old.cue.calls + 1) op) self.old self.new) }
+        ensures { OnOk result (seats.TakesEvent (rules_of table.now) plan.now node (event.Client (self.old.cue.calls + 1) op) self.old self.new) }
     {
         take_call(&mut self.node, table, &mut self.cue, op)
     }
@@ -81,10 +90,10 @@ impl Seat {
         ticket: u64,
         members: Items<u32>,
     ) -> Result<(), CoreFault>
-        requires seat { IsSeatOf (rules_of table.now) plan.now node self.old }
+        requires seat { seats.IsSeatOf (rules_of table.now) plan.now node self.old }
         requires sound { IsSound plan.now }
         requires next { next_item (script_of plan.now node) self.old.cue ≡ Some (item.Round members) }
-        ensures { OnOk result (TakesEvent (rules_of table.now) plan.now node (event.BeginRound ticket members) self.old self.new) }
+        ensures { OnOk result (seats.TakesEvent (rules_of table.now) plan.now node (event.BeginRound ticket members) self.old self.new) }
     {
         take_round(&mut self.node, table, &mut self.cue, ticket, members)
     }
@@ -99,10 +108,10 @@ impl Seat {
         node: u32,
         last: u64,
     ) -> Result<bool, CoreFault>
-        requires seat { IsSeatOf (rules_of table.now) plan.now node self.old }
+        requires seat { seats.IsSeatOf (rules_of table.now) plan.now node self.old }
         requires sound { IsSound plan.now }
         requires last { last + 1 < 2 ^ 64 }
-        ensures { IfOk result (λ some. TakesItem (rules_of table.now) plan.now node last some self.old self.new) }
+        ensures { IfOk result (λ some. seats.TakesItem (rules_of table.now) plan.now node last some self.old self.new) }
     {
         match self.cue.next(script_at(plan, node)) {
             None => Ok(false),

@@ -5,3 +5,4 @@ pub mod Taking
 pub mod Telling
 pub mod Turning
 pub mod Turns
+pub mod Handed

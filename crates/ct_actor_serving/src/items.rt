@@ -9,7 +9,7 @@ ghost use Rattle.ct_script.specs.Cues.{next_item};
 ghost use Rattle.ct_script.specs.declared.cue.Cue.{Cue as Cued};
 ghost use Rattle.ct_script.specs.declared.plan.PlanItem.{PlanItem as Item};
 ghost use Rattle.ct_script.specs.declared.plan.PlanItem.TheVariants as plan;
-ghost use Rattle.ct_actor.specs.Journalled.{Journalled, last_outs};
+ghost use Rattle.ct_actor.specs.Journalled as journalled;
 ghost use Rattle.ct_outside.specs.Links.{Pieces};
 ghost use Rattle.ct_outside.specs.Locks.{LockState};
 ghost use Rattle.ct_outside.specs.Told.{Told};
@@ -17,19 +17,19 @@ ghost use Rattle.ct_wire_link.specs.Parcels.{frames_sent};
 ghost use Rattle.ct_script.specs.Sound.{may_be_told};
 ghost use Rattle.ct_wire_link.specs.Sending.{is_sendable};
 ghost use Rattle.ct_actor_serving.specs.Outside.{NotesOne, HasNoTicket, SendsLong, SendsOnly, ServesOn, TakesTicket, heard, outside};
-ghost use Rattle.ct_actor_serving.specs.Serving.{Acts, GoesOn, IsCaused, IsNextItem, IsNoItem, IsNoPiece, IsNoSend, NoneFell, both, fault_of, of_link, of_lock};
+ghost use Rattle.ct_actor_serving.specs.Serving as serving;
 
 use crate::fault::{AtLimit, ServeFault};
 use crate::part::Part;
 use ct_actor::acting::{take_call, take_round};
 use ct_actor::node::Node;
 use ct_call::table::CallTable;
-use ct_script::plan::PlanItem;
 use ct_node_state::turn::CoreFault;
 use ct_outside::fault::TakeFault;
 use ct_outside::link::Link;
 use ct_outside::lock::RecLock;
 use ct_script::cue::Cue;
+use ct_script::plan::PlanItem;
 use ct_values::copies::Duplicate;
 use ct_wire_link::fault::SendFault;
 use ct_wire_link::send::send_all;
@@ -37,7 +37,7 @@ use std::alloc::Global;
 
 /// The fault where a step of this is refused.
 pub(crate) fn fault_of(at: AtLimit, fault: CoreFault) -> ServeFault
-    ensures { result ≡ fault_of at fault }
+    ensures { result ≡ serving.fault_of at fault }
 {
     match fault {
         CoreFault::Exhausted => ServeFault::Exhausted(at),
@@ -48,15 +48,15 @@ pub(crate) fn fault_of(at: AtLimit, fault: CoreFault) -> ServeFault
 /// Sends what the node did last.
 #[tactic(auto, unfolding(crate::specs::Serving::HasCause))]
 pub(crate) fn send_last<L: Link>(alloc: Global, node: &Node, link: &mut L) -> Result<(), ServeFault>
-    requires { list_all is_sendable (last_outs node.now.entries) ≡ true }
-    ensures counts { NoneFell (of_link L.faults L.endings L.looks link.old) (of_link L.faults L.endings L.looks link.new) }
+    requires { list_all is_sendable (journalled.last_outs node.now.entries) ≡ true }
+    ensures counts { serving.NoneFell (serving.of_link L.faults L.endings L.looks link.old) (serving.of_link L.faults L.endings L.looks link.new) }
     ensures permissions { L.permissions link.new ≡ L.permissions link.old }
-    ensures cause { IsCaused result (of_link L.faults L.endings L.looks link.old) (of_link L.faults L.endings L.looks link.new) }
-    ensures sent { Told (L.pieces link.old) (L.pieces link.new) (SendsOnly (result_err result) (frames_sent (last_outs node.now.entries))) }
+    ensures cause { serving.IsCaused result (serving.of_link L.faults L.endings L.looks link.old) (serving.of_link L.faults L.endings L.looks link.new) }
+    ensures sent { Told (L.pieces link.old) (L.pieces link.new) (SendsOnly (result_err result) (frames_sent (journalled.last_outs node.now.entries))) }
     ensures long { SendsLong (result_err result) node.now.entries }
     ensures free { (lock : LockState) → HasNoTicket (result_err result) node.now lock }
-    ensures piece { IsNoPiece (result_err result) }
-    ensures item { IsNoItem (result_err result) }
+    ensures piece { serving.IsNoPiece (result_err result) }
+    ensures item { serving.IsNoItem (result_err result) }
 {
     match send_all(alloc, link, node.last_outs()) {
         Ok(()) => Ok(()),
@@ -69,12 +69,12 @@ pub(crate) fn send_last<L: Link>(alloc: Global, node: &Node, link: &mut L) -> Re
 /// The next ticket for the node.
 #[tactic(auto, unfolding(crate::specs::Serving::HasCause))]
 fn next_ticket<R: RecLock>(lock: &mut R, node: u32) -> Result<u64, ServeFault>
-    ensures counts { NoneFell (of_lock R.faults R.refusals lock.old) (of_lock R.faults R.refusals lock.new) }
-    ensures cause { IsCaused result (of_lock R.faults R.refusals lock.old) (of_lock R.faults R.refusals lock.new) }
+    ensures counts { serving.NoneFell (serving.of_lock R.faults R.refusals lock.old) (serving.of_lock R.faults R.refusals lock.new) }
+    ensures cause { serving.IsCaused result (serving.of_lock R.faults R.refusals lock.old) (serving.of_lock R.faults R.refusals lock.new) }
     ensures told { Told (R.state lock.old) (R.state lock.new) (TakesTicket result node) }
-    ensures piece { IsNoPiece (result_err result) }
-    ensures send { IsNoSend (result_err result) }
-    ensures item { (rules : Rules) (script : List Item) (members : List ℕ) (x : Journalled) (c : Cued) → next_item script c ≡ Some (plan.Round members) → IsNextItem rules script (result_err result) x c }
+    ensures piece { serving.IsNoPiece (result_err result) }
+    ensures send { serving.IsNoSend (result_err result) }
+    ensures item { (rules : Rules) (script : List Item) (members : List ℕ) (x : journalled.Journalled) (c : Cued) → next_item script c ≡ Some (plan.Round members) → serving.IsNextItem rules script (result_err result) x c }
 {
     match lock.take(node) {
         Ok(ticket) => Ok(ticket),
@@ -95,15 +95,15 @@ fn take<R: RecLock>(
 ) -> Result<(), ServeFault>
     requires may { MayAsk (rules_of table.now) node.old cue.old }
     requires told { may_be_told node.old.core.config node.old.core.pnn item.now ≡ true }
-    ensures goes_on { (script : List Item) → next_item script cue.old ≡ Some item.now → GoesOn (rules_of table.now) script node.old cue.old node.new cue.new }
+    ensures goes_on { (script : List Item) → next_item script cue.old ≡ Some item.now → serving.GoesOn (rules_of table.now) script node.old cue.old node.new cue.new }
     ensures taken { OnOk result (cue.new.taken ≡ cue.old.taken + 1) }
-    ensures sendable { OnOk result (list_all is_sendable (last_outs node.new.entries) ≡ true) }
-    ensures counts { NoneFell (of_lock R.faults R.refusals lock.old) (of_lock R.faults R.refusals lock.new) }
-    ensures cause { IsCaused result (of_lock R.faults R.refusals lock.old) (of_lock R.faults R.refusals lock.new) }
+    ensures sendable { OnOk result (list_all is_sendable (journalled.last_outs node.new.entries) ≡ true) }
+    ensures counts { serving.NoneFell (serving.of_lock R.faults R.refusals lock.old) (serving.of_lock R.faults R.refusals lock.new) }
+    ensures cause { serving.IsCaused result (serving.of_lock R.faults R.refusals lock.old) (serving.of_lock R.faults R.refusals lock.new) }
     ensures noted { OnOk result (NotesOne [] node.old node.new (R.state lock.old) (R.state lock.new)) }
-    ensures next { (script : List Item) → next_item script cue.old ≡ Some item.now → IsNextItem (rules_of table.now) script (result_err result) node.new cue.new }
+    ensures next { (script : List Item) → next_item script cue.old ≡ Some item.now → serving.IsNextItem (rules_of table.now) script (result_err result) node.new cue.new }
     ensures stopped { (pieces : Option Pieces) → IfErr result (λ f. ServesOn (rules_of table.now) (Some f) (heard [] []) node.old node.new (outside pieces (R.state lock.old)) (outside pieces (R.state lock.new))) }
-    ensures piece { IsNoPiece (result_err result) }
+    ensures piece { serving.IsNoPiece (result_err result) }
 {
     match item {
         PlanItem::Call(op) => match op.copy() {
@@ -146,16 +146,16 @@ pub(crate) fn take_next<L: Link, R: RecLock>(
     link: &mut L,
     lock: &mut R,
 ) -> Result<bool, ServeFault>
-    requires acts { Acts (rules_of part.now.table.now) part.now.script.now node.old cue.old }
+    requires acts { serving.Acts (rules_of part.now.table.now) part.now.script.now node.old cue.old }
     requires told { list_all (may_be_told node.old.core.config node.old.core.pnn) part.now.script.now ≡ true }
-    ensures goes_on { GoesOn (rules_of part.now.table.now) part.now.script.now node.old cue.old node.new cue.new }
-    ensures counts { NoneFell (both (of_link L.faults L.endings L.looks link.old) (of_lock R.faults R.refusals lock.old)) (both (of_link L.faults L.endings L.looks link.new) (of_lock R.faults R.refusals lock.new)) }
+    ensures goes_on { serving.GoesOn (rules_of part.now.table.now) part.now.script.now node.old cue.old node.new cue.new }
+    ensures counts { serving.NoneFell (serving.both (serving.of_link L.faults L.endings L.looks link.old) (serving.of_lock R.faults R.refusals lock.old)) (serving.both (serving.of_link L.faults L.endings L.looks link.new) (serving.of_lock R.faults R.refusals lock.new)) }
     ensures permissions { L.permissions link.new ≡ L.permissions link.old }
-    ensures cause { IsCaused result (both (of_link L.faults L.endings L.looks link.old) (of_lock R.faults R.refusals lock.old)) (both (of_link L.faults L.endings L.looks link.new) (of_lock R.faults R.refusals lock.new)) }
-    ensures next { IsNextItem (rules_of part.now.table.now) part.now.script.now (result_err result) node.new cue.new }
+    ensures cause { serving.IsCaused result (serving.both (serving.of_link L.faults L.endings L.looks link.old) (serving.of_lock R.faults R.refusals lock.old)) (serving.both (serving.of_link L.faults L.endings L.looks link.new) (serving.of_lock R.faults R.refusals lock.new)) }
+    ensures next { serving.IsNextItem (rules_of part.now.table.now) part.now.script.now (result_err result) node.new cue.new }
     ensures taken { IfOk result (λ one. MatchBool one ((cue.old.taken < length part.now.script.now) × (cue.new.taken ≡ cue.old.taken + 1)) (next_item part.now.script.now cue.new ≡ None)) }
     ensures outside { ServesOn (rules_of part.now.table.now) (result_err result) (heard [] []) node.old node.new (outside (L.pieces link.old) (R.state lock.old)) (outside (L.pieces link.new) (R.state lock.new)) }
-    ensures piece { IsNoPiece (result_err result) }
+    ensures piece { serving.IsNoPiece (result_err result) }
 {
     let Some(item) = next_of(cue, part.script) else {
         return Ok(false);

@@ -5,11 +5,11 @@ ghost use Rattle.std.specs.Result.{result_err};
 ghost use Rattle.ct_call.specs.Shown.{rules_of};
 ghost use Rattle.ct_frame.specs.Fields.{well_formed};
 ghost use Rattle.ct_script.specs.declared.plan.PlanItem.{PlanItem as Item};
-ghost use Rattle.ct_outside.specs.Links.{Parcel, parcel};
+ghost use Rattle.ct_outside.specs.Links as links;
 ghost use Rattle.ct_wire_link.specs.Reading.{is_sound};
-ghost use Rattle.ct_actor_serving.specs.Hearing.{AreForeign, ServesPiece};
+ghost use Rattle.ct_actor_serving.specs.Hearing as hearing;
 ghost use Rattle.ct_actor_serving.specs.Outside.{ServesFrames};
-ghost use Rattle.ct_actor_serving.specs.Serving.{GoesOn, IsCaused, IsNoItem, NoneFell, of_link};
+ghost use Rattle.ct_actor_serving.specs.Serving as serving;
 
 use crate::fault::{AtLimit, ServeFault};
 use crate::items::{fault_of, send_last};
@@ -34,13 +34,13 @@ fn take_frame<L: Link>(
 ) -> Result<(), ServeFault>
     requires sound { well_formed frame ≡ true }
     requires ours { frame.receiver ≡ node.old.core.pnn }
-    ensures goes_on { (script : List Item) → GoesOn (rules_of table.now) script node.old cue.old node.new cue.new }
-    ensures counts { NoneFell (of_link L.faults L.endings L.looks link.old) (of_link L.faults L.endings L.looks link.new) }
+    ensures goes_on { (script : List Item) → serving.GoesOn (rules_of table.now) script node.old cue.old node.new cue.new }
+    ensures counts { serving.NoneFell (serving.of_link L.faults L.endings L.looks link.old) (serving.of_link L.faults L.endings L.looks link.new) }
     ensures permissions { L.permissions link.new ≡ L.permissions link.old }
-    ensures cause { IsCaused result (of_link L.faults L.endings L.looks link.old) (of_link L.faults L.endings L.looks link.new) }
+    ensures cause { serving.IsCaused result (serving.of_link L.faults L.endings L.looks link.old) (serving.of_link L.faults L.endings L.looks link.new) }
     ensures outside { ServesFrames (rules_of table.now) (result_err result) (frame ∷ []) node.old node.new (L.pieces link.old) (L.pieces link.new) }
-    ensures ours { (me : ℕ) (taken : List Parcel) → AreForeign (result_err result) me taken }
-    ensures item { IsNoItem (result_err result) }
+    ensures ours { (me : ℕ) (taken : List links.Parcel) → hearing.AreForeign (result_err result) me taken }
+    ensures item { serving.IsNoItem (result_err result) }
 {
     let sender = frame.sender;
     match arrive(node, table, cue, frame) {
@@ -61,13 +61,13 @@ fn take_frames<L: Link>(
     frames: Vec<Frame>,
 ) -> Result<(), ServeFault>
     requires { list_all (is_sound node.old.core.pnn sender) frames.items ≡ true }
-    ensures goes_on { (script : List Item) → GoesOn (rules_of table.now) script node.old cue.old node.new cue.new }
-    ensures counts { NoneFell (of_link L.faults L.endings L.looks link.old) (of_link L.faults L.endings L.looks link.new) }
+    ensures goes_on { (script : List Item) → serving.GoesOn (rules_of table.now) script node.old cue.old node.new cue.new }
+    ensures counts { serving.NoneFell (serving.of_link L.faults L.endings L.looks link.old) (serving.of_link L.faults L.endings L.looks link.new) }
     ensures permissions { L.permissions link.new ≡ L.permissions link.old }
-    ensures cause { IsCaused result (of_link L.faults L.endings L.looks link.old) (of_link L.faults L.endings L.looks link.new) }
+    ensures cause { serving.IsCaused result (serving.of_link L.faults L.endings L.looks link.old) (serving.of_link L.faults L.endings L.looks link.new) }
     ensures outside { ServesFrames (rules_of table.now) (result_err result) frames.items node.old node.new (L.pieces link.old) (L.pieces link.new) }
-    ensures ours { (me : ℕ) (taken : List Parcel) → AreForeign (result_err result) me taken }
-    ensures item { IsNoItem (result_err result) }
+    ensures ours { (me : ℕ) (taken : List links.Parcel) → hearing.AreForeign (result_err result) me taken }
+    ensures item { serving.IsNoItem (result_err result) }
 {
     for frame in frames {
         match take_frame(alloc, node, table, cue, link, frame) {
@@ -89,12 +89,12 @@ pub(crate) fn take_piece<L: Link>(
     sender: u32,
     bytes: &[u8],
 ) -> Result<(), ServeFault>
-    ensures goes_on { (script : List Item) → GoesOn (rules_of table.now) script node.old cue.old node.new cue.new }
-    ensures counts { NoneFell (of_link L.faults L.endings L.looks link.old) (of_link L.faults L.endings L.looks link.new) }
+    ensures goes_on { (script : List Item) → serving.GoesOn (rules_of table.now) script node.old cue.old node.new cue.new }
+    ensures counts { serving.NoneFell (serving.of_link L.faults L.endings L.looks link.old) (serving.of_link L.faults L.endings L.looks link.new) }
     ensures permissions { L.permissions link.new ≡ L.permissions link.old }
-    ensures cause { IsCaused result (of_link L.faults L.endings L.looks link.old) (of_link L.faults L.endings L.looks link.new) }
-    ensures outside { ServesPiece (rules_of table.now) (result_err result) (parcel sender bytes.now) node.old node.new (L.pieces link.old) (L.pieces link.new) readers.old readers.new }
-    ensures item { IsNoItem (result_err result) }
+    ensures cause { serving.IsCaused result (serving.of_link L.faults L.endings L.looks link.old) (serving.of_link L.faults L.endings L.looks link.new) }
+    ensures outside { hearing.ServesPiece (rules_of table.now) (result_err result) (links.parcel sender bytes.now) node.old node.new (L.pieces link.old) (L.pieces link.new) readers.old readers.new }
+    ensures item { serving.IsNoItem (result_err result) }
 {
     let Ok(Arrived { frames, broken }) = readers.take(alloc, node.core().pnn(), sender, bytes)
     else {

@@ -4,30 +4,31 @@ ghost use Rattle.std.specs.List.{list_all};
 ghost use Rattle.std.specs.Result.{result_err};
 ghost use Rattle.ct_call.specs.Shown.{rules_of};
 ghost use Rattle.ct_script.specs.Cues.{next_item};
-ghost use Rattle.ct_actor.specs.Journalled.{IsRunBy, Journalled};
+ghost use Rattle.ct_actor.specs.Journalled as journalled;
 ghost use Rattle.ct_outside.specs.Causes.{Rose};
 ghost use Rattle.ct_outside.specs.Locks.{LockState};
-ghost use Rattle.ct_outside.specs.Told.{Lists, Told};
+ghost use Rattle.ct_outside.specs.Told as told;
 ghost use Rattle.ct_outside.specs.declared.link.Received.TheVariants as received;
 ghost use Rattle.ct_script.specs.Sound.{may_be_told};
 ghost use Rattle.ct_actor_serving.specs.declared.fault.Until.TheVariants as until;
-ghost use Rattle.ct_actor_serving.specs.Hearing.{Serves, ServesTurn};
+ghost use Rattle.ct_actor_serving.specs.Hearing as hearing;
 ghost use Rattle.ct_actor_serving.specs.Outside.{HasNoTicket, ServesOn, TakesOnly, heard, outside, taken_in};
-ghost use Rattle.ct_actor_serving.specs.Serving.{Acts, EndsBy, GoesOn, HasActed, IsCaused, IsNextItem, IsNoItem, IsNoPiece, IsNoSend, NoneFell, Turned, both, is_full, most_turns, of_link, of_lock};
+ghost use Rattle.ct_actor_serving.specs.Serving as serving;
 ghost use Rattle.ct_actor_serving.specs.Turns.{ServesTurns, may_wait_at};
 
 use crate::fault::{ServeFault, Served, Until};
 use crate::items::take_next;
 use crate::part::Part;
 use crate::pieces::take_piece;
-use ct_actor::node::Node;
+pub use ct_actor::node::Node;
+pub use ct_actor::seat::{Seat, is_for};
 use ct_call::table::CallTable;
-use ct_script::plan::PlanItem;
 use ct_outside::fault::LinkFault;
 use ct_outside::gate::Gate;
 use ct_outside::link::{Link, Received};
 use ct_outside::lock::RecLock;
 use ct_script::cue::Cue;
+use ct_script::plan::PlanItem;
 use ct_wire_link::readers::Readers;
 use std::alloc::Global;
 
@@ -45,16 +46,16 @@ fn may_wait(cue: &Cue, script: &[PlanItem]) -> bool
 /// Looks for a piece.
 #[tactic(auto, unfolding(crate::specs::Serving::HasCause))]
 fn look<L: Link>(link: &mut L, may_wait: bool) -> Result<Received, ServeFault>
-    ensures counts { NoneFell (of_link L.faults L.endings L.looks link.old) (of_link L.faults L.endings L.looks link.new) }
-    ensures cause { IsCaused result (of_link L.faults L.endings L.looks link.old) (of_link L.faults L.endings L.looks link.new) }
+    ensures counts { serving.NoneFell (serving.of_link L.faults L.endings L.looks link.old) (serving.of_link L.faults L.endings L.looks link.new) }
+    ensures cause { serving.IsCaused result (serving.of_link L.faults L.endings L.looks link.old) (serving.of_link L.faults L.endings L.looks link.new) }
     ensures looked { OnOk result (Rose (L.looks link.old) (L.looks link.new)) }
     ensures closed { result ≡ Ok received.Closed → IsTrue may_wait × Rose (L.endings link.old) (L.endings link.new) }
-    ensures permissions { Lists (may_wait ∷ []) (L.permissions link.old) (L.permissions link.new) }
-    ensures pieces { Told (L.pieces link.old) (L.pieces link.new) (TakesOnly (taken_in result)) }
-    ensures free { (x : Journalled) (lock : LockState) → HasNoTicket (result_err result) x lock }
-    ensures piece { IsNoPiece (result_err result) }
-    ensures item { IsNoItem (result_err result) }
-    ensures send { IsNoSend (result_err result) }
+    ensures permissions { told.Lists (may_wait ∷ []) (L.permissions link.old) (L.permissions link.new) }
+    ensures pieces { told.Told (L.pieces link.old) (L.pieces link.new) (TakesOnly (taken_in result)) }
+    ensures free { (x : journalled.Journalled) (lock : LockState) → HasNoTicket (result_err result) x lock }
+    ensures piece { serving.IsNoPiece (result_err result) }
+    ensures item { serving.IsNoItem (result_err result) }
+    ensures send { serving.IsNoSend (result_err result) }
 {
     match link.receive(may_wait) {
         Ok(received) => Ok(received),
@@ -73,15 +74,15 @@ fn turn<L: Link, R: RecLock>(
     link: &mut L,
     lock: &mut R,
 ) -> Result<bool, ServeFault>
-    requires acts { Acts (rules_of part.now.table.now) part.now.script.now node.old cue.old }
+    requires acts { serving.Acts (rules_of part.now.table.now) part.now.script.now node.old cue.old }
     requires told { list_all (may_be_told node.old.core.config node.old.core.pnn) part.now.script.now ≡ true }
-    ensures goes_on { GoesOn (rules_of part.now.table.now) part.now.script.now node.old cue.old node.new cue.new }
-    ensures counts { NoneFell (both (of_link L.faults L.endings L.looks link.old) (of_lock R.faults R.refusals lock.old)) (both (of_link L.faults L.endings L.looks link.new) (of_lock R.faults R.refusals lock.new)) }
-    ensures cause { IsCaused result (both (of_link L.faults L.endings L.looks link.old) (of_lock R.faults R.refusals lock.old)) (both (of_link L.faults L.endings L.looks link.new) (of_lock R.faults R.refusals lock.new)) }
-    ensures next { IsNextItem (rules_of part.now.table.now) part.now.script.now (result_err result) node.new cue.new }
-    ensures permissions { Lists (may_wait_at part.now.script.now cue.old ∷ []) (L.permissions link.old) (L.permissions link.new) }
-    ensures turned { IfOk result (λ closed. Turned closed (of_link L.faults L.endings L.looks link.old) (of_link L.faults L.endings L.looks link.new) (next_item part.now.script.now cue.new)) }
-    ensures outside { ServesTurn (rules_of part.now.table.now) (result_err result) node.old node.new (outside (L.pieces link.old) (R.state lock.old)) (outside (L.pieces link.new) (R.state lock.new)) readers.old readers.new }
+    ensures goes_on { serving.GoesOn (rules_of part.now.table.now) part.now.script.now node.old cue.old node.new cue.new }
+    ensures counts { serving.NoneFell (serving.both (serving.of_link L.faults L.endings L.looks link.old) (serving.of_lock R.faults R.refusals lock.old)) (serving.both (serving.of_link L.faults L.endings L.looks link.new) (serving.of_lock R.faults R.refusals lock.new)) }
+    ensures cause { serving.IsCaused result (serving.both (serving.of_link L.faults L.endings L.looks link.old) (serving.of_lock R.faults R.refusals lock.old)) (serving.both (serving.of_link L.faults L.endings L.looks link.new) (serving.of_lock R.faults R.refusals lock.new)) }
+    ensures next { serving.IsNextItem (rules_of part.now.table.now) part.now.script.now (result_err result) node.new cue.new }
+    ensures permissions { told.Lists (may_wait_at part.now.script.now cue.old ∷ []) (L.permissions link.old) (L.permissions link.new) }
+    ensures turned { IfOk result (λ closed. serving.Turned closed (serving.of_link L.faults L.endings L.looks link.old) (serving.of_link L.faults L.endings L.looks link.new) (next_item part.now.script.now cue.new)) }
+    ensures outside { hearing.ServesTurn (rules_of part.now.table.now) (result_err result) node.old node.new (outside (L.pieces link.old) (R.state lock.old)) (outside (L.pieces link.new) (R.state lock.new)) readers.old readers.new }
 {
     let waits = may_wait(cue, part.script);
     match look(link, waits) {
@@ -117,16 +118,16 @@ fn take_rest<L: Link, R: RecLock>(
     link: &mut L,
     lock: &mut R,
 ) -> Result<(), ServeFault>
-    requires acts { Acts (rules_of part.now.table.now) part.now.script.now node.old cue.old }
+    requires acts { serving.Acts (rules_of part.now.table.now) part.now.script.now node.old cue.old }
     requires told { list_all (may_be_told node.old.core.config node.old.core.pnn) part.now.script.now ≡ true }
-    ensures goes_on { GoesOn (rules_of part.now.table.now) part.now.script.now node.old cue.old node.new cue.new }
-    ensures counts { NoneFell (both (of_link L.faults L.endings L.looks link.old) (of_lock R.faults R.refusals lock.old)) (both (of_link L.faults L.endings L.looks link.new) (of_lock R.faults R.refusals lock.new)) }
+    ensures goes_on { serving.GoesOn (rules_of part.now.table.now) part.now.script.now node.old cue.old node.new cue.new }
+    ensures counts { serving.NoneFell (serving.both (serving.of_link L.faults L.endings L.looks link.old) (serving.of_lock R.faults R.refusals lock.old)) (serving.both (serving.of_link L.faults L.endings L.looks link.new) (serving.of_lock R.faults R.refusals lock.new)) }
     ensures permissions { L.permissions link.new ≡ L.permissions link.old }
-    ensures cause { IsCaused result (both (of_link L.faults L.endings L.looks link.old) (of_lock R.faults R.refusals lock.old)) (both (of_link L.faults L.endings L.looks link.new) (of_lock R.faults R.refusals lock.new)) }
-    ensures next { IsNextItem (rules_of part.now.table.now) part.now.script.now (result_err result) node.new cue.new }
+    ensures cause { serving.IsCaused result (serving.both (serving.of_link L.faults L.endings L.looks link.old) (serving.of_lock R.faults R.refusals lock.old)) (serving.both (serving.of_link L.faults L.endings L.looks link.new) (serving.of_lock R.faults R.refusals lock.new)) }
+    ensures next { serving.IsNextItem (rules_of part.now.table.now) part.now.script.now (result_err result) node.new cue.new }
     ensures rest { OnOk result (next_item part.now.script.now cue.new ≡ None) }
     ensures outside { ServesOn (rules_of part.now.table.now) (result_err result) (heard [] []) node.old node.new (outside (L.pieces link.old) (R.state lock.old)) (outside (L.pieces link.new) (R.state lock.new)) }
-    ensures piece { IsNoPiece (result_err result) }
+    ensures piece { serving.IsNoPiece (result_err result) }
 {
     'items: loop {
         match take_next(node, part, cue, link, lock) {
@@ -139,7 +140,7 @@ fn take_rest<L: Link, R: RecLock>(
 
 /// How many turns there may be.
 fn most_turns(until: Until) -> u64
-    ensures { result ≡ most_turns until }
+    ensures { result ≡ serving.most_turns until }
 {
     match until {
         Until::Turns(turns) => turns,
@@ -149,7 +150,7 @@ fn most_turns(until: Until) -> u64
 
 /// Has the journal all entries that it is to have?
 fn is_full(until: Until, node: &Node) -> bool
-    ensures { result ≡ is_full until (length node.now.entries) }
+    ensures { result ≡ serving.is_full until (length node.now.entries) }
 {
     match until {
         Until::Turns(_) => false,
@@ -180,15 +181,15 @@ pub fn serve_until<L: Link, R: RecLock, G: Gate>(
     gate: &mut G,
     until: Until,
 ) -> Result<Served, ServeFault>
-    requires run { IsRunBy (rules_of table.now) node.old }
+    requires run { journalled.IsRunBy (rules_of table.now) node.old }
     requires told { list_all (may_be_told node.old.core.config node.old.core.pnn) script.now ≡ true }
-    ensures acting { HasActed (rules_of table.now) script.now node.old.entries result node.new }
+    ensures acting { serving.HasActed (rules_of table.now) script.now node.old.entries result node.new }
     ensures same { (node.new.core.pnn ≡ node.old.core.pnn) × (node.new.core.config ≡ node.old.core.config) }
-    ensures counts { NoneFell (both (of_link L.faults L.endings L.looks link.old) (of_lock R.faults R.refusals lock.old)) (both (of_link L.faults L.endings L.looks link.new) (of_lock R.faults R.refusals lock.new)) }
-    ensures cause { IsCaused result (both (of_link L.faults L.endings L.looks link.old) (of_lock R.faults R.refusals lock.old)) (both (of_link L.faults L.endings L.looks link.new) (of_lock R.faults R.refusals lock.new)) }
-    ensures ends { IfOk result (λ served. EndsBy until served (length node.new.entries) (of_link L.faults L.endings L.looks link.old) (of_link L.faults L.endings L.looks link.new)) }
+    ensures counts { serving.NoneFell (serving.both (serving.of_link L.faults L.endings L.looks link.old) (serving.of_lock R.faults R.refusals lock.old)) (serving.both (serving.of_link L.faults L.endings L.looks link.new) (serving.of_lock R.faults R.refusals lock.new)) }
+    ensures cause { serving.IsCaused result (serving.both (serving.of_link L.faults L.endings L.looks link.old) (serving.of_lock R.faults R.refusals lock.old)) (serving.both (serving.of_link L.faults L.endings L.looks link.new) (serving.of_lock R.faults R.refusals lock.new)) }
+    ensures ends { IfOk result (λ served. serving.EndsBy until served (length node.new.entries) (serving.of_link L.faults L.endings L.looks link.old) (serving.of_link L.faults L.endings L.looks link.new)) }
     ensures turns { ServesTurns until script.now result node.old node.new (L.permissions link.old) (L.permissions link.new) (G.passes gate.old) (G.passes gate.new) }
-    ensures outside { Serves (rules_of table.now) (result_err result) node.old node.new (outside (L.pieces link.old) (R.state lock.old)) (outside (L.pieces link.new) (R.state lock.new)) }
+    ensures outside { hearing.Serves (rules_of table.now) (result_err result) node.old node.new (outside (L.pieces link.old) (R.state lock.old)) (outside (L.pieces link.new) (R.state lock.new)) }
 {
     let part = Part {
         alloc,
@@ -224,15 +225,15 @@ pub fn serve<L: Link, R: RecLock, G: Gate>(
     gate: &mut G,
     turns: u64,
 ) -> Result<Served, ServeFault>
-    requires run { IsRunBy (rules_of table.now) node.old }
+    requires run { journalled.IsRunBy (rules_of table.now) node.old }
     requires told { list_all (may_be_told node.old.core.config node.old.core.pnn) script.now ≡ true }
-    ensures acting { HasActed (rules_of table.now) script.now node.old.entries result node.new }
+    ensures acting { serving.HasActed (rules_of table.now) script.now node.old.entries result node.new }
     ensures same { (node.new.core.pnn ≡ node.old.core.pnn) × (node.new.core.config ≡ node.old.core.config) }
-    ensures counts { NoneFell (both (of_link L.faults L.endings L.looks link.old) (of_lock R.faults R.refusals lock.old)) (both (of_link L.faults L.endings L.looks link.new) (of_lock R.faults R.refusals lock.new)) }
-    ensures cause { IsCaused result (both (of_link L.faults L.endings L.looks link.old) (of_lock R.faults R.refusals lock.old)) (both (of_link L.faults L.endings L.looks link.new) (of_lock R.faults R.refusals lock.new)) }
-    ensures ends { IfOk result (λ served. EndsBy (until.Turns turns) served (length node.new.entries) (of_link L.faults L.endings L.looks link.old) (of_link L.faults L.endings L.looks link.new)) }
+    ensures counts { serving.NoneFell (serving.both (serving.of_link L.faults L.endings L.looks link.old) (serving.of_lock R.faults R.refusals lock.old)) (serving.both (serving.of_link L.faults L.endings L.looks link.new) (serving.of_lock R.faults R.refusals lock.new)) }
+    ensures cause { serving.IsCaused result (serving.both (serving.of_link L.faults L.endings L.looks link.old) (serving.of_lock R.faults R.refusals lock.old)) (serving.both (serving.of_link L.faults L.endings L.looks link.new) (serving.of_lock R.faults R.refusals lock.new)) }
+    ensures ends { IfOk result (λ served. serving.EndsBy (until.Turns turns) served (length node.new.entries) (serving.of_link L.faults L.endings L.looks link.old) (serving.of_link L.faults L.endings L.looks link.new)) }
     ensures turns { ServesTurns (until.Turns turns) script.now result node.old node.new (L.permissions link.old) (L.permissions link.new) (G.passes gate.old) (G.passes gate.new) }
-    ensures outside { Serves (rules_of table.now) (result_err result) node.old node.new (outside (L.pieces link.old) (R.state lock.old)) (outside (L.pieces link.new) (R.state lock.new)) }
+    ensures outside { hearing.Serves (rules_of table.now) (result_err result) node.old node.new (outside (L.pieces link.old) (R.state lock.old)) (outside (L.pieces link.new) (R.state lock.new)) }
 {
     serve_until(
         alloc,

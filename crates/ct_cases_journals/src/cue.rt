@@ -3,9 +3,9 @@ ghost use Rattle.std.specs.Prelude.{◌<◌};
 
 use ct_frame::event::{Event, Out};
 use ct_frame::frame::{Frame, Msg};
-use ct_script::plan::PlanItem;
 use ct_journal::journal::JournalEntry;
 use ct_script::cue::Cue;
+use ct_script::plan::PlanItem;
 use ct_values::client::{Answer, ClientOp};
 use ct_values::items::Items;
 use ct_values::key::Key;

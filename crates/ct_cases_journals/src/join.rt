@@ -1,6 +1,6 @@
 //! The steps of two journals, one after the other.
 ghost use Rattle.std.specs.Prelude.{◌≡◌, ◌≤◌, ◌<◌, ◌+◌, ◌^◌, ◌++◌, ◌∷◌, [], length, IfOk, OnOk};
-ghost use Rattle.ct_journal.specs.Order.{all_entries, count_sent, frames_in};
+ghost use Rattle.ct_journal.specs.Order as order;
 
 use ct_frame::event::{Event, Out};
 use ct_frame::frame::{Frame, Msg};
@@ -43,7 +43,7 @@ fn frame(sender: u32, receiver: u32) -> Frame {
 /// No message of a node to another, or one, or two.
 #[tactic(auto, unfolding(ct_journal::specs::Order::frames_in))]
 fn sends(alloc: Global, node: u32, receiver: u32, count: usize) -> Result<Items<Out>, Fail>
-    ensures { IfOk result (λ xs. length (frames_in xs) ≤ 2) }
+    ensures { IfOk result (λ xs. length (order.frames_in xs) ≤ 2) }
 {
     let mut outs = Vec::new(alloc);
     if count == 0 {
@@ -82,7 +82,7 @@ fn entry(
     receiver: u32,
     count: usize,
 ) -> Result<JournalEntry, Fail>
-    ensures { IfOk result (λ x. length (frames_in x.outs) ≤ 2) }
+    ensures { IfOk result (λ x. length (order.frames_in x.outs) ≤ 2) }
 {
     let outs = sends(alloc, node, receiver, count)?;
     let event = event(alloc, comes)?;
@@ -105,10 +105,10 @@ fn journal(
     two: JournalEntry,
     three: JournalEntry,
 ) -> Result<Journal, Fail>
-    requires one { length (frames_in one.outs) ≤ 2 }
-    requires two { length (frames_in two.outs) ≤ 2 }
-    requires three { length (frames_in three.outs) ≤ 2 }
-    ensures { IfOk result (λ j. length j.entries + count_sent j.entries ≤ 9) }
+    requires one { length (order.frames_in one.outs) ≤ 2 }
+    requires two { length (order.frames_in two.outs) ≤ 2 }
+    requires three { length (order.frames_in three.outs) ≤ 2 }
+    ensures { IfOk result (λ j. length j.entries + order.count_sent j.entries ≤ 9) }
 {
     let mut entries = Items::empty(alloc);
     if let Err(fail) = add(&mut entries, one) {
@@ -126,9 +126,9 @@ fn journal(
 
 #[tactic(auto, using(crate::proofs::Pairs::both_few))]
 fn both(alloc: Global, first: Journal, second: Journal) -> Result<Vec<Journal>, Fail>
-    requires first { length first.entries + count_sent first.entries ≤ 9 }
-    requires second { length second.entries + count_sent second.entries ≤ 9 }
-    ensures { IfOk result (λ js. length (all_entries js.items) + count_sent (all_entries js.items) < 2 ^ 61) }
+    requires first { length first.entries + order.count_sent first.entries ≤ 9 }
+    requires second { length second.entries + order.count_sent second.entries ≤ 9 }
+    ensures { IfOk result (λ js. length (order.all_entries js.items) + order.count_sent (order.all_entries js.items) < 2 ^ 61) }
 {
     let mut journals = Vec::new(alloc);
     journals.push(first)?;
@@ -148,7 +148,7 @@ fn told_by(step: &Step) -> Told {
 
 /// Node 0 is called, leads a round, and is sent a message.
 fn first_journal(alloc: Global) -> Result<Journal, Fail>
-    ensures { IfOk result (λ j. length j.entries + count_sent j.entries ≤ 9) }
+    ensures { IfOk result (λ j. length j.entries + order.count_sent j.entries ≤ 9) }
 {
     let called = entry(alloc, Comes::Call, 0, 1, 2)?;
     let leads = match entry(alloc, Comes::Round(3), 0, 1, 1) {
@@ -175,7 +175,7 @@ fn first_journal(alloc: Global) -> Result<Journal, Fail>
 
 /// Node 1 leads the round before, and is sent two messages.
 fn second_journal(alloc: Global) -> Result<Journal, Fail>
-    ensures { IfOk result (λ j. length j.entries + count_sent j.entries ≤ 9) }
+    ensures { IfOk result (λ j. length j.entries + order.count_sent j.entries ≤ 9) }
 {
     let leads = entry(alloc, Comes::Round(2), 1, 0, 1)?;
     let message = Comes::Message {
@@ -209,7 +209,7 @@ fn are_told(steps: &[Step], wanted: &[Told]) -> bool {
 }
 
 fn both_journals(alloc: Global) -> Result<Vec<Journal>, Fail>
-    ensures { IfOk result (λ js. length (all_entries js.items) + count_sent (all_entries js.items) < 2 ^ 61) }
+    ensures { IfOk result (λ js. length (order.all_entries js.items) + order.count_sent (order.all_entries js.items) < 2 ^ 61) }
 {
     let first = first_journal(alloc)?;
     let second = second_journal(alloc)?;

@@ -4,8 +4,8 @@ ghost use Rattle.ct_merge.specs.Rule.{are_in_order};
 
 use ct_frame::frame::{Assigned, PTable, TableRow};
 use ct_frame::round::Pull;
-use ct_merge::merged::MergedAll;
 use ct_law_merge::merges::{merge_addresses, merge_persistent, merge_volatile};
+use ct_merge::merged::MergedAll;
 use ct_merge::merging::Merging;
 use ct_merge::order::{are_in_order, is_in_order};
 use ct_values::address::Address;

@@ -1,6 +1,6 @@
 //! A record at its location master, with ample memory.
 ghost use Rattle.std.specs.Prelude.{OnOk};
-ghost use Rattle.ct_law_rules.specs.Form.{IsInForm, MayCome};
+ghost use Rattle.ct_law_rules.specs.Form as form;
 
 use ct_call::table::CallTable;
 use ct_frame::frame::{CallKind, Msg};
@@ -23,9 +23,9 @@ fn take(
     next: &mut u64,
     acts: &mut Items<Act>,
 ) -> Result<(), Fail>
-    requires in_form { IsInForm at.now next.old state.old }
-    requires may_come { MayCome state.old event }
-    ensures { OnOk result (IsInForm at.now next.new state.new) }
+    requires in_form { form.IsInForm at.now next.old state.old }
+    requires may_come { form.MayCome state.old event }
+    ensures { OnOk result (form.IsInForm at.now next.new state.new) }
 {
     let answer = step(alloc, state, at, table, &event, next, acts);
     drop(event);

@@ -2,7 +2,7 @@
 ghost use Rattle.std.specs.Prelude.{◌≡◌, ◌∷◌, [], true, IfOk};
 ghost use Rattle.std.specs.List.{list_all};
 ghost use Rattle.ct_call.specs.Rules.{Rules};
-ghost use Rattle.ct_actor.specs.Journalled.{IsRunBy, at_opening};
+ghost use Rattle.ct_actor.specs.Journalled as journalled;
 ghost use Rattle.ct_law_form.specs.Whole.{HasLimits};
 ghost use Rattle.ct_script.specs.Sound.{may_be_told};
 ghost use Rattle.ct_cases_small.specs.Alone.{MayBeToldAlone};
@@ -11,11 +11,11 @@ use ct_actor::node::Node;
 use ct_actor_serving::fault::{ServeFault, Served};
 use ct_actor_serving::serve::serve;
 use ct_call::table::CallTable;
-use ct_script::plan::PlanItem;
 use ct_outside::gate::OpenGate;
 use ct_outside::listing::{ListingGate, ListingLink};
 use ct_outside::memory_link::MemLink;
 use ct_outside::memory_lock::MemLock;
+use ct_script::plan::PlanItem;
 use ct_values::client::ClientOp;
 use ct_values::config::{Config, DbDecl, DbKind};
 use ct_values::items::Items;
@@ -80,8 +80,8 @@ fn rounds(alloc: Global, count: usize) -> Result<Vec<PlanItem>, Fail>
 fn node(alloc: Global, config: &Config) -> Result<Node, Fail>
     requires limits { HasLimits config.now }
     requires one { config.now.nodes ≡ 1 }
-    ensures opening { IfOk result (λ x. x ≡ at_opening 0 config.now) }
-    ensures run { IfOk result (λ x. (rules : Rules) → IsRunBy rules x) }
+    ensures opening { IfOk result (λ x. x ≡ journalled.at_opening 0 config.now) }
+    ensures run { IfOk result (λ x. (rules : Rules) → journalled.IsRunBy rules x) }
 {
     let node = Node::new(alloc, 0, config)?;
     Ok(node)
@@ -95,7 +95,7 @@ fn serve_alone(
     turns: u64,
     fails: u64,
 ) -> Result<Result<Served, ServeFault>, Fail>
-    requires run { (rules : Rules) → IsRunBy rules node.old }
+    requires run { (rules : Rules) → journalled.IsRunBy rules node.old }
     requires told { list_all (may_be_told node.old.core.config node.old.core.pnn) script.now ≡ true }
 {
     let table = CallTable::new(alloc);
@@ -192,7 +192,7 @@ fn serve_listed(
     permissions: &[bool],
     passes: &[(u32, u64)],
 ) -> bool
-    requires run { (rules : Rules) → IsRunBy rules node.old }
+    requires run { (rules : Rules) → journalled.IsRunBy rules node.old }
     requires told { list_all (may_be_told node.old.core.config node.old.core.pnn) script.now ≡ true }
 {
     let table = CallTable::new(alloc);

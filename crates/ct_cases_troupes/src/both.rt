@@ -3,8 +3,8 @@ ghost use Rattle.std.specs.Prelude.{[], IfOk};
 ghost use Rattle.ct_script.specs.Sound.{IsSound};
 
 use ct_call::table::CallTable;
-use ct_script::plan::Plan;
 use ct_journal::journal::Journal;
+use ct_script::plan::Plan;
 use ct_script::scripts::cluster_plan;
 use ct_troupe::both::Both;
 use ct_troupe::troupe::{PlayFault, Troupe};

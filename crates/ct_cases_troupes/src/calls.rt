@@ -1,8 +1,8 @@
 //! The chain of each call.
 use ct_chain::chain::chain_of;
+use ct_script::generated::generated_config;
 use ct_values::client::{ClientOp, Pair};
 use ct_values::config::Config;
-use ct_script::generated::generated_config;
 use ct_values::items::Items;
 use ct_values::key::Key;
 use ct_values::value::Value;

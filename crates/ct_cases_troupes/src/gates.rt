@@ -3,9 +3,9 @@ ghost use Rattle.std.specs.Prelude.{None};
 
 use crate::plans::two_columns;
 use ct_call::table::CallTable;
-use ct_script::plan::Plan;
 use ct_journal::journal::Journal;
 use ct_outside::gate::Gate;
+use ct_script::plan::Plan;
 use ct_troupe::both::Both;
 use ct_troupe::columns::Columns;
 use ct_troupe_threads::column::Column;

@@ -2,12 +2,12 @@
 ghost use Rattle.std.specs.Prelude.{◌≡◌, ◌≤◌, All, IfOk, length};
 ghost use Rattle.std.specs.List.{list_all};
 ghost use Rattle.ct_script.specs.Sound.{IsSound};
-ghost use Rattle.ct_cases_troupes.specs.Plain.{asks_only, is_asked};
+ghost use Rattle.ct_cases_troupes.specs.Plain as plain;
 
 use ct_chain::cut::cut;
 use ct_frame::event::Out;
-use ct_script::plan::{Plan, PlanItem};
 use ct_journal::journal::Journal;
+use ct_script::plan::{Plan, PlanItem};
 use ct_script::scripts::cluster_plan;
 use ct_values::client::{Answer, ClientOp};
 use ct_values::config::{Config, DbDecl, DbKind};
@@ -21,7 +21,7 @@ use std::test::Fail;
 // Is the item a call that may come?
 #[tactic(auto, unfolding(crate::specs::Plain::is_asked, ct_rules_node::specs::Coming::is_allowed_op))]
 fn is_asked(item: &PlanItem) -> bool
-    ensures { result ≡ is_asked item.now }
+    ensures { result ≡ plain.is_asked item.now }
 {
     match item {
         PlanItem::Call(ClientOp::Commit { writes, .. }) => 0 < writes.len() && writes.len() < 17,
@@ -32,7 +32,7 @@ fn is_asked(item: &PlanItem) -> bool
 
 // Are they all?
 fn all_asked(script: &[PlanItem]) -> bool
-    ensures { result ≡ list_all is_asked script.now }
+    ensures { result ≡ list_all plain.is_asked script.now }
 {
     script.iter().all(|item| is_asked(item))
 }
@@ -40,7 +40,7 @@ fn all_asked(script: &[PlanItem]) -> bool
 // Are all items such calls, 4,096 at most?
 #[tactic(auto, unfolding(crate::specs::Plain::asks_only))]
 fn asks_only(script: &[PlanItem]) -> bool
-    ensures { result ≡ asks_only script.now }
+    ensures { result ≡ plain.asks_only script.now }
 {
     if script.len() > 4096 {
         return false;
@@ -50,7 +50,7 @@ fn asks_only(script: &[PlanItem]) -> bool
 
 // So for each script?
 fn all_ask_only(scripts: &[Items<PlanItem>]) -> bool
-    ensures { result ≡ list_all asks_only scripts.now }
+    ensures { result ≡ list_all plain.asks_only scripts.now }
 {
     scripts.iter().all(|script| asks_only(script.as_slice()))
 }

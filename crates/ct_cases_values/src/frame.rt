@@ -1,8 +1,8 @@
 use ct_frame::event::{Event, Note, Out};
 use ct_frame::frame::{Assigned, CallKind, Frame, Msg, PTable, TableRow};
 use ct_frame::header::{BEING_REVOKED, HAS_DELEGATIONS, Header, NONE, RecCopy};
-use ct_script::plan::{Plan, PlanItem};
 use ct_frame::round::{Phase, Pull, PushBody, Stage};
+use ct_script::plan::{Plan, PlanItem};
 use ct_values::address::Address;
 use ct_values::boxed::BoxedItems;
 use ct_values::client::{Answer, ClientOp, Pair, Why};

@@ -7,7 +7,7 @@ ghost use Rattle.ct_journal.specs.Order.{entries_of};
 ghost use Rattle.ct_journal.specs.declared.journal.Journal.{Journal};
 ghost use Rattle.ct_law_journal_reach.specs.Counts.{cut_to};
 ghost use Rattle.ct_law_journal_reach.specs.Making.{is_not_dropped};
-ghost use Rattle.ct_journal_join_any.specs.Going.{GoesWith, IsSentAs, calls_below, number_if};
+ghost use Rattle.ct_journal_join_any.specs.Going as going;
 
 use ct_frame::event::Event;
 use ct_frame::frame::Frame;
@@ -18,7 +18,7 @@ use ct_world::world::World;
 
 /// Is it no client call, or one of a number below this?
 fn calls_below(call: u64, event: &Event) -> bool
-    ensures { result ≡ calls_below call event.now }
+    ensures { result ≡ going.calls_below call event.now }
 {
     match event {
         Event::Client { call: number, .. } => *number < call,
@@ -32,7 +32,7 @@ fn calls_below(call: u64, event: &Event) -> bool
 
 /// Are the numbers of all client calls among these entries below this?
 fn all_below(call: u64, past: &[JournalEntry]) -> bool
-    ensures { result ≡ list_all (λ x. calls_below call x.event) past.now }
+    ensures { result ≡ list_all (λ x. going.calls_below call x.event) past.now }
 {
     past.iter().all(|entry| calls_below(call, &entry.event))
 }
@@ -68,8 +68,8 @@ fn may_take_over(world: &World, node: u32, able: &[u32]) -> bool
 /// The least number, from this one on, of a message that is this one. Nothing is known where the search begins at 0.
 fn find_from(world: &World, frame: &Frame, from: u64) -> Option<u64>
     requires { length world.now.cluster.sent < 2 ^ 62 }
-    ensures found { IfSome result (λ k. IsSentAs world.now.cluster frame.now k) }
-    ensures none { IfNone result (1 ≤ from → (k : ℕ) → from ≤ k → IsSentAs world.now.cluster frame.now k → ⊥) }
+    ensures found { IfSome result (λ k. going.IsSentAs world.now.cluster frame.now k) }
+    ensures none { IfNone result (1 ≤ from → (k : ℕ) → from ≤ k → going.IsSentAs world.now.cluster frame.now k → ⊥) }
 {
     for number in from..u64::MAX {
         match world.message(number) {
@@ -85,8 +85,8 @@ fn find_from(world: &World, frame: &Frame, from: u64) -> Option<u64>
 /// The number of a message that is this one: the search begins at the hint, and then at the first message.
 fn find(world: &World, frame: &Frame, hint: u64) -> Option<u64>
     requires { length world.now.cluster.sent < 2 ^ 62 }
-    ensures found { IfSome result (λ k. IsSentAs world.now.cluster frame.now k) }
-    ensures none { IfNone result ((k : ℕ) → IsSentAs world.now.cluster frame.now k → ⊥) }
+    ensures found { IfSome result (λ k. going.IsSentAs world.now.cluster frame.now k) }
+    ensures none { IfNone result ((k : ℕ) → going.IsSentAs world.now.cluster frame.now k → ⊥) }
 {
     match find_from(world, frame, hint) {
         Some(number) => Some(number),
@@ -96,7 +96,7 @@ fn find(world: &World, frame: &Frame, hint: u64) -> Option<u64>
 
 /// A number, where this holds.
 fn number_if(holds: bool) -> Option<u64>
-    ensures { result ≡ number_if holds }
+    ensures { result ≡ going.number_if holds }
 {
     if holds { Some(0) } else { None }
 }
@@ -112,7 +112,7 @@ pub fn number_to_go(
 ) -> Option<u64>
     requires few { length world.now.cluster.sent < 2 ^ 62 }
     requires kept { list_all (λ s. is_not_dropped s.fate) world.now.cluster.sent ≡ true }
-    ensures { (js : List Journal) (ts : List ℕ) → entries_of (cut_to js ts) node ≡ past.now → GoesWith world.now.config js world.now.cluster ts node event.now result }
+    ensures { (js : List Journal) (ts : List ℕ) → entries_of (cut_to js ts) node ≡ past.now → going.GoesWith world.now.config js world.now.cluster ts node event.now result }
 {
     match event {
         Event::Client { call, .. } => number_if(all_below(*call, past)),

@@ -1,6 +1,6 @@
 //! The join of any journals that are runs.
 ghost use Rattle.ct_call.specs.Shown.{rules_of};
-ghost use Rattle.ct_law_journal_reach.specs.Counts.{AreNotTooMany, HaveOwnTickets};
+ghost use Rattle.ct_law_journal_reach.specs.Counts as counts;
 ghost use Rattle.ct_law_journal_schedule.specs.Laws.{AreRuns};
 ghost use Rattle.ct_rules_config.specs.Configured.{IsConfig};
 ghost use Rattle.ct_journal_join_any.specs.Joined.{JoinsRuns};
@@ -47,8 +47,8 @@ fn join_freely(
 ) -> Result<Vec<Step>, JoinFault>
     requires config { IsConfig config.now }
     requires runs { AreRuns config.now (rules_of table.now) journals.now }
-    requires few { AreNotTooMany journals.now }
-    requires tickets { HaveOwnTickets journals.now }
+    requires few { counts.AreNotTooMany journals.now }
+    requires tickets { counts.HaveOwnTickets journals.now }
     ensures { JoinsRuns config.now (rules_of table.now) journals.now result }
 {
     let _nodes = config.nodes;
@@ -72,8 +72,8 @@ pub fn join(
 ) -> Result<Vec<Step>, JoinFault>
     requires config { IsConfig config.now }
     requires runs { AreRuns config.now (rules_of table.now) journals.now }
-    requires few { AreNotTooMany journals.now }
-    requires tickets { HaveOwnTickets journals.now }
+    requires few { counts.AreNotTooMany journals.now }
+    requires tickets { counts.HaveOwnTickets journals.now }
     ensures { JoinsRuns config.now (rules_of table.now) journals.now result }
 {
     let _nodes = config.nodes;

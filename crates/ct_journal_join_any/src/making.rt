@@ -1,11 +1,11 @@
 //! The steps that make an entry of a node, and the cluster that takes them.
 ghost use Rattle.std.specs.Prelude.{◌≡◌, ◌++◌, IfOk, OnOk, Some, length};
 ghost use Rattle.ct_call.specs.Shown.{rules_of};
-ghost use Rattle.ct_rules_cluster.specs.Cluster.{is_waiting, sent_at};
+ghost use Rattle.ct_rules_cluster.specs.Cluster as cluster;
 ghost use Rattle.ct_journal.specs.Schedules.{after_step};
 ghost use Rattle.ct_law_journal_schedule.specs.Scheduling.{yields};
-ghost use Rattle.ct_law_journal_reach.specs.Making.{after_steps, comes_by, mark_step, mark_steps, steps_to_go};
-ghost use Rattle.ct_journal_join_any.specs.Going.{AreTaken, IsTaken};
+ghost use Rattle.ct_law_journal_reach.specs.Making as making;
+ghost use Rattle.ct_journal_join_any.specs.Going as going;
 
 use ct_call::table::CallTable;
 use ct_frame::event::Event;
@@ -19,7 +19,7 @@ use std::alloc::Global;
 /// The step by which the message of this number comes.
 #[tactic(auto, unfolding(ct_law_journal_reach::specs::Making::comes_by, ct_rules_cluster::specs::Faults::fault_of, ct_rules_cluster::specs::Faults::not_waiting, ct_rules_node::specs::Refusals::refused_if))]
 fn comes_by(world: &World, number: u64) -> Step
-    ensures { result ≡ comes_by number (is_waiting (sent_at number world.now.cluster)) }
+    ensures { result ≡ making.comes_by number (cluster.is_waiting (cluster.sent_at number world.now.cluster)) }
 {
     let deliver = Step::Deliver(number);
     match world.fault(&deliver) {
@@ -44,7 +44,7 @@ fn add_yield(steps: &mut Vec<Step>, node: u32, holder: Option<u32>) -> Result<()
 /// The node is given this mark, where it has another.
 #[tactic(auto, unfolding(ct_law_journal_reach::specs::Making::mark_step))]
 fn add_mark(steps: &mut Vec<Step>, node: u32, mark: bool, able: bool) -> Result<(), NoMemory>
-    ensures { OnOk result (steps.new.items ≡ steps.old.items ++ mark_step node mark able) }
+    ensures { OnOk result (steps.new.items ≡ steps.old.items ++ making.mark_step node mark able) }
 {
     if mark != able {
         steps.push(Step::Able { node, able })?;
@@ -60,7 +60,7 @@ fn add_marks(
     marks: &[bool],
 ) -> Result<(), NoMemory>
     requires { length marks.now ≡ nodes }
-    ensures { OnOk result (steps.new.items ≡ steps.old.items ++ mark_steps able.now 0 marks.now) }
+    ensures { OnOk result (steps.new.items ≡ steps.old.items ++ making.mark_steps able.now 0 marks.now) }
 {
     for node in 0..nodes {
         add_mark(steps, node, marks[node as usize], is_among(node, able))?;
@@ -78,7 +78,7 @@ pub fn steps_to_go(
     number: u64,
 ) -> Result<Vec<Step>, NoMemory>
     requires { length world.now.cluster.able ≡ world.now.config.nodes }
-    ensures { IfOk result (λ steps. steps.items ≡ steps_to_go world.now.cluster node event.now number) }
+    ensures { IfOk result (λ steps. steps.items ≡ making.steps_to_go world.now.cluster node event.now number) }
 {
     let mut steps = Vec::new(alloc);
     match event {
@@ -112,7 +112,7 @@ pub fn steps_to_go(
 /// The cluster takes a step.
 #[tactic(auto, using(crate::proofs::Stepping::is_asked, crate::proofs::Stepping::one_taken))]
 fn take(world: &mut World, table: &CallTable, step: &Step) -> Result<(), NoMemory>
-    requires { IsTaken world.old.config (rules_of table.now) world.old.cluster step.now }
+    requires { going.IsTaken world.old.config (rules_of table.now) world.old.cluster step.now }
     ensures taken { OnOk result (after_step world.old.config (rules_of table.now) world.old.cluster step.now ≡ Some world.new.cluster) }
     ensures same { OnOk result (world.new.config ≡ world.old.config) }
 {
@@ -124,8 +124,8 @@ fn take(world: &mut World, table: &CallTable, step: &Step) -> Result<(), NoMemor
 
 /// The cluster takes steps, one after the other. An error leaves it anywhere between.
 pub fn take_all(world: &mut World, table: &CallTable, steps: &[Step]) -> Result<(), NoMemory>
-    requires { AreTaken world.old.config (rules_of table.now) world.old.cluster steps.now }
-    ensures taken { OnOk result (after_steps world.old.config (rules_of table.now) (Some world.old.cluster) steps.now ≡ Some world.new.cluster) }
+    requires { going.AreTaken world.old.config (rules_of table.now) world.old.cluster steps.now }
+    ensures taken { OnOk result (making.after_steps world.old.config (rules_of table.now) (Some world.old.cluster) steps.now ≡ Some world.new.cluster) }
     ensures same { OnOk result (world.new.config ≡ world.old.config) }
 {
     for step in steps {

@@ -3,12 +3,12 @@ ghost use Rattle.std.specs.Prelude.{◌≡◌, ◌<◌, ◌≤◌, ◌^◌, ℕ,
 ghost use Rattle.ct_call.specs.Rules.{Rules};
 ghost use Rattle.ct_call.specs.Shown.{rules_of};
 ghost use Rattle.ct_journal.specs.Order.{entries_of};
-ghost use Rattle.ct_law_journal_reach.specs.Counts.{AreAll, count_at, cut_to, entry_after};
+ghost use Rattle.ct_law_journal_reach.specs.Counts as counts;
 ghost use Rattle.ct_law_journal_reach.specs.Laws.{NoneMayGo};
-ghost use Rattle.ct_law_journal_reach.specs.Making.{HasMade, MayGo};
+ghost use Rattle.ct_law_journal_reach.specs.Making as making;
 ghost use Rattle.ct_rules_config.specs.Configured.{IsConfig};
 ghost use Rattle.ct_journal_join_any.specs.Going.{GoesWith};
-ghost use Rattle.ct_journal_join_any.specs.Reaching.{HasReached, IsHeldAt, Reaches, ReachesOn};
+ghost use Rattle.ct_journal_join_any.specs.Reaching as reaching;
 
 use crate::going::number_to_go;
 use crate::making::{steps_to_go, take_all};
@@ -80,7 +80,7 @@ pub struct Reach {
 /// How many entries of a node are made.
 #[tactic(auto, unfolding(ct_law_journal_reach::specs::Counts::count_at, ct_rules_node::specs::Node::or_zero))]
 fn count_at(taken: &[u64], node: u32) -> u64
-    ensures { result ≡ count_at taken.now node }
+    ensures { result ≡ counts.count_at taken.now node }
 {
     match taken.get(node as usize) {
         Some(count) => *count,
@@ -105,7 +105,7 @@ impl Reach {
     pub fn new(alloc: Global, config: &Config, journals: &[Journal]) -> Result<Reach, NoMemory>
         requires { IsConfig config.now }
         ensures same { IfOk result (λ r. r.world.config ≡ config.now) }
-        ensures made { IfOk result (λ r. (rules : Rules) → HasMade r.world.config rules journals.now r.steps.items r.world.cluster r.taken.items) }
+        ensures made { IfOk result (λ r. (rules : Rules) → making.HasMade r.world.config rules journals.now r.steps.items r.world.cluster r.taken.items) }
     {
         Ok(Reach {
             world: World::new(alloc, config)?,
@@ -119,7 +119,7 @@ impl Reach {
     /// The next entry of a node.
     #[tactic(auto, unfolding(ct_law_journal_reach::specs::Counts::entry_after))]
     fn next_entry<'a>(&self, journals: &'a [Journal], node: u32) -> Option<&'a JournalEntry>
-        ensures { MatchOption result (entry_after journals.now self.now.taken.items node ≡ None) (λ x. entry_after journals.now self.now.taken.items node ≡ Some x.now) }
+        ensures { MatchOption result (counts.entry_after journals.now self.now.taken.items node ≡ None) (λ x. counts.entry_after journals.now self.now.taken.items node ≡ Some x.now) }
     {
         let count = count_at(self.taken.as_slice(), node);
         entries_of(journals, node).get(count as usize)
@@ -133,7 +133,7 @@ impl Reach {
         node: u32,
         event: &Event,
     ) -> Option<u64>
-        requires { HasReached (rules_of table.now) journals.now self.now }
+        requires { reaching.HasReached (rules_of table.now) journals.now self.now }
         ensures { GoesWith self.now.world.config journals.now self.now.world.cluster self.now.taken.items node event.now result }
     {
         let count = count_at(self.taken.as_slice(), node);
@@ -150,10 +150,10 @@ impl Reach {
         entry: &JournalEntry,
         number: u64,
     ) -> Result<(), NoMemory>
-        requires reached { HasReached (rules_of table.now) journals.now self.old }
-        requires next { entry_after journals.now self.old.taken.items node ≡ Some entry.now }
-        requires may { MayGo self.old.world.config journals.now self.old.world.cluster self.old.taken.items node entry.now.event number }
-        ensures { OnOk result (ReachesOn (rules_of table.now) journals.now self.old self.new) }
+        requires reached { reaching.HasReached (rules_of table.now) journals.now self.old }
+        requires next { counts.entry_after journals.now self.old.taken.items node ≡ Some entry.now }
+        requires may { making.MayGo self.old.world.config journals.now self.old.world.cluster self.old.taken.items node entry.now.event number }
+        ensures { OnOk result (reaching.ReachesOn (rules_of table.now) journals.now self.old self.new) }
     {
         let mut steps = steps_to_go(self.alloc, &self.world, node, &entry.event, number)?;
         take_all(&mut self.world, table, steps.as_slice())?;
@@ -171,8 +171,8 @@ impl Reach {
         journals: &[Journal],
         node: u32,
     ) -> Result<bool, NoMemory>
-        requires { HasReached (rules_of table.now) journals.now self.old }
-        ensures { IfOk result (λ some. Reaches (rules_of table.now) journals.now (IsHeldAt journals.now self.old node) some self.old self.new) }
+        requires { reaching.HasReached (rules_of table.now) journals.now self.old }
+        ensures { IfOk result (λ some. reaching.Reaches (rules_of table.now) journals.now (reaching.IsHeldAt journals.now self.old node) some self.old self.new) }
     {
         let Some(entry) = self.next_entry(journals, node) else {
             return Ok(false);
@@ -191,8 +191,8 @@ impl Reach {
         journals: &[Journal],
         node: u32,
     ) -> Result<bool, NoMemory>
-        requires { HasReached (rules_of table.now) journals.now self.old }
-        ensures { IfOk result (λ some. Reaches (rules_of table.now) journals.now (IsHeldAt journals.now self.old node) some self.old self.new) }
+        requires { reaching.HasReached (rules_of table.now) journals.now self.old }
+        ensures { IfOk result (λ some. reaching.Reaches (rules_of table.now) journals.now (reaching.IsHeldAt journals.now self.old node) some self.old self.new) }
     {
         let some = self.make_next(table, journals, node)?;
         let mut more = some;
@@ -205,8 +205,8 @@ impl Reach {
     /// Makes entries of one node after the other, of each as long as the next one may be made. Was one made? Where not, nothing is
     /// changed, and no next entry may be made.
     fn make_round(&mut self, table: &CallTable, journals: &[Journal]) -> Result<bool, NoMemory>
-        requires { HasReached (rules_of table.now) journals.now self.old }
-        ensures { IfOk result (λ some. Reaches (rules_of table.now) journals.now (NoneMayGo self.old.world.config journals.now self.old.world.cluster self.old.taken.items) some self.old self.new) }
+        requires { reaching.HasReached (rules_of table.now) journals.now self.old }
+        ensures { IfOk result (λ some. reaching.Reaches (rules_of table.now) journals.now (NoneMayGo self.old.world.config journals.now self.old.world.cluster self.old.taken.items) some self.old self.new) }
     {
         let nodes = self.world.config().nodes;
         let mut some = false;
@@ -219,8 +219,8 @@ impl Reach {
 
     /// Makes entries until no next one may be made.
     pub fn make_all(&mut self, table: &CallTable, journals: &[Journal]) -> Result<(), NoMemory>
-        requires { HasReached (rules_of table.now) journals.now self.old }
-        ensures reached { OnOk result (HasReached (rules_of table.now) journals.now self.new) }
+        requires { reaching.HasReached (rules_of table.now) journals.now self.old }
+        ensures reached { OnOk result (reaching.HasReached (rules_of table.now) journals.now self.new) }
         ensures same { OnOk result (self.new.world.config ≡ self.old.world.config) }
         ensures held { OnOk result (NoneMayGo self.new.world.config journals.now self.new.world.cluster self.new.taken.items) }
     {
@@ -235,9 +235,9 @@ impl Reach {
     pub fn has_all(&self, journals: &[Journal]) -> bool
         requires size { length self.now.taken.items ≡ length journals.now }
         requires few { length journals.now < 2 ^ 32 }
-        requires within { (n : ℕ) → count_at self.now.taken.items n ≤ length (entries_of journals.now n) }
-        ensures all { result ≡ true → AreAll journals.now self.now.taken.items }
-        ensures less { result ≡ false → (n : ℕ) × (count_at self.now.taken.items n < length (entries_of journals.now n)) }
+        requires within { (n : ℕ) → counts.count_at self.now.taken.items n ≤ length (entries_of journals.now n) }
+        ensures all { result ≡ true → counts.AreAll journals.now self.now.taken.items }
+        ensures less { result ≡ false → (n : ℕ) × (counts.count_at self.now.taken.items n < length (entries_of journals.now n)) }
     {
         for node in 0..journals.len() {
             let entries = entries_of(journals, node as u32);

@@ -3,7 +3,7 @@ ghost use Rattle.std.specs.Prelude.{◌≡◌, ◌≤◌, ◌<◌, ◌++◌, ◌
 ghost use Rattle.ct_call.specs.Shown.{rules_of};
 ghost use Rattle.ct_ladder.specs.declared.rung.Fate.TheVariants as fate;
 ghost use Rattle.ct_play.specs.Session.{pending_texts};
-ghost use Rattle.ct_ladder_play.specs.Playing.{Climbs, ClimbsAll, Ladders, without_feed, begins_lost, fate_told, is_still, ladder_from, ladder_in, line_climbed, line_row, lines_climbed, matter_at, matter_of, nodes_of, rungs_of, said_rungs, settle_climbed, step_fate, step_climbed, told_rungs, least_waiting};
+ghost use Rattle.ct_ladder_play.specs.Playing as playing;
 
 use ct_call::table::CallTable;
 use ct_ladder::rung::{Fate, Rung, Shown};
@@ -36,7 +36,7 @@ pub struct Ladder {
 }
 
 fn step_fate(step: &Step) -> Fate
-    ensures { result ≡ step_fate step.now }
+    ensures { result ≡ playing.step_fate step.now }
 {
     match step {
         Step::Deliver(number) => Fate::Came { number: *number },
@@ -47,7 +47,7 @@ fn step_fate(step: &Step) -> Fate
 }
 
 fn matter_of(line: &ScenarioLine) -> Matter
-    ensures { result ≡ matter_of line.now }
+    ensures { result ≡ playing.matter_of line.now }
 {
     match line {
         ScenarioLine::Config(_) => Matter::Acts { fate: Fate::Still },
@@ -62,7 +62,7 @@ fn matter_of(line: &ScenarioLine) -> Matter
 }
 
 fn matter_at(alloc: Global, line: &[u8]) -> Result<Matter, NoMemory>
-    ensures { IfOk result (λ m. m ≡ matter_at line.now) }
+    ensures { IfOk result (λ m. m ≡ playing.matter_at line.now) }
 {
     match parse_line(alloc, line) {
         Ok(item) => {
@@ -77,7 +77,7 @@ fn matter_at(alloc: Global, line: &[u8]) -> Result<Matter, NoMemory>
 
 /// A text without its line feed.
 fn without_feed(text: &[u8]) -> &[u8]
-    ensures { result.now ≡ without_feed text.now }
+    ensures { result.now ≡ playing.without_feed text.now }
 {
     let n = text.len().saturating_sub(1);
     &text[..n]
@@ -85,7 +85,7 @@ fn without_feed(text: &[u8]) -> &[u8]
 
 /// The row of a line of the run. What has no reading stands beside.
 fn line_row(alloc: Global, line: &[u8]) -> Result<Row, NoMemory>
-    ensures { IfOk result (λ r. r ≡ line_row line.now) }
+    ensures { IfOk result (λ r. r ≡ playing.line_row line.now) }
 {
     if let Some(row) = row_of(alloc, line)? {
         return Ok(row);
@@ -100,7 +100,7 @@ fn line_row(alloc: Global, line: &[u8]) -> Result<Row, NoMemory>
 }
 
 fn is_still(fate: Fate) -> bool
-    ensures { result ≡ is_still fate }
+    ensures { result ≡ playing.is_still fate }
 {
     match fate {
         Fate::Still => true,
@@ -111,7 +111,7 @@ fn is_still(fate: Fate) -> bool
 }
 
 fn begins_lost(text: &[u8]) -> bool
-    ensures { result ≡ begins_lost text.now }
+    ensures { result ≡ playing.begins_lost text.now }
 {
     let n = text.len().min(5);
     is_word(&text[..n], b"lost ")
@@ -119,7 +119,7 @@ fn begins_lost(text: &[u8]) -> bool
 
 /// What became of a message, where this was printed: it is lost where that is said first.
 fn fate_told(fate: Fate, texts: &[Items<u8>]) -> Fate
-    ensures { result ≡ fate_told fate texts.now }
+    ensures { result ≡ playing.fate_told fate texts.now }
 {
     let Some(text) = texts.first() else {
         return fate;
@@ -149,7 +149,7 @@ fn add_told(
     first: Fate,
     texts: &[Items<u8>],
 ) -> Result<(), NoMemory>
-    ensures { OnOk result (rungs.new.items ≡ rungs.old.items ++ told_rungs first texts.now) }
+    ensures { OnOk result (rungs.new.items ≡ rungs.old.items ++ playing.told_rungs first texts.now) }
 {
     let mut fate = first;
     for text in texts {
@@ -173,7 +173,7 @@ fn add_step(
     fate: Fate,
     texts: &[Items<u8>],
 ) -> Result<(), NoMemory>
-    ensures { OnOk result (rungs.new.items ≡ rungs.old.items ++ rungs_of fate texts.now) }
+    ensures { OnOk result (rungs.new.items ≡ rungs.old.items ++ playing.rungs_of fate texts.now) }
 {
     let fate = fate_told(fate, texts);
     if texts.is_empty() && !is_still(fate) {
@@ -198,7 +198,7 @@ fn step(
     fate: Fate,
     rungs: &mut Vec<Rung>,
 ) -> Result<(), PlayFault>
-    ensures { Climbs result (step_climbed (rules_of table.now) fate line.now session.old) session.new rungs.old.items rungs.new.items }
+    ensures { playing.Climbs result (playing.step_climbed (rules_of table.now) fate line.now session.old) session.new rungs.old.items rungs.new.items }
 {
     let texts = match session.play(alloc, table, line) {
         Ok(texts) => texts,
@@ -212,7 +212,7 @@ fn step(
 
 /// The message that waits and has the least number.
 fn least_waiting(session: &Session) -> Option<u64>
-    ensures { result ≡ least_waiting session.now }
+    ensures { result ≡ playing.least_waiting session.now }
 {
     match &session.world {
         Some(world) => world.next_waiting(),
@@ -229,7 +229,7 @@ fn settle(
     count: u32,
     rungs: &mut Vec<Rung>,
 ) -> Result<(), PlayFault>
-    ensures { Climbs result (settle_climbed (rules_of table.now) count session.old) session.new rungs.old.items rungs.new.items }
+    ensures { playing.Climbs result (playing.settle_climbed (rules_of table.now) count session.old) session.new rungs.old.items rungs.new.items }
 {
     for _i in 0..count {
         match least_waiting(session) {
@@ -254,7 +254,7 @@ fn climb(
     line: &[u8],
     rungs: &mut Vec<Rung>,
 ) -> Result<(), PlayFault>
-    ensures { Climbs result (line_climbed (rules_of table.now) line.now session.old) session.new rungs.old.items rungs.new.items }
+    ensures { playing.Climbs result (playing.line_climbed (rules_of table.now) line.now session.old) session.new rungs.old.items rungs.new.items }
 {
     match matter_at(alloc, line) {
         Ok(Matter::Settles { count }) => settle(alloc, table, session, count, rungs),
@@ -265,7 +265,7 @@ fn climb(
 
 /// The line itself stands above its rows, where it is shown.
 fn add_said(alloc: Global, rungs: &mut Vec<Rung>, shown: bool, line: &[u8]) -> Result<(), NoMemory>
-    ensures { OnOk result (rungs.new.items ≡ rungs.old.items ++ said_rungs shown line.now) }
+    ensures { OnOk result (rungs.new.items ≡ rungs.old.items ++ playing.said_rungs shown line.now) }
 {
     if !shown {
         return Ok(());
@@ -291,7 +291,7 @@ fn climb_all(
     rungs: &mut Vec<Rung>,
 ) -> Result<(), RunFault>
     requires { length lines.now ≤ 1099511627776 }
-    ensures { ClimbsAll result (lines_climbed (rules_of table.now) shown 1 session.old (map (λ l. l.now) lines.now)) session.new rungs.old.items rungs.new.items }
+    ensures { playing.ClimbsAll result (playing.lines_climbed (rules_of table.now) shown 1 session.old (map (λ l. l.now) lines.now)) session.new rungs.old.items rungs.new.items }
 {
     let mut number = 1u64;
     for line in lines {
@@ -310,14 +310,14 @@ fn climb_all(
 
 /// The calls that wait at the end.
 fn add_pending(alloc: Global, session: &Session, rungs: &mut Vec<Rung>) -> Result<(), NoMemory>
-    ensures { OnOk result (rungs.new.items ≡ rungs.old.items ++ told_rungs fate.Still (pending_texts session.now)) }
+    ensures { OnOk result (rungs.new.items ≡ rungs.old.items ++ playing.told_rungs fate.Still (pending_texts session.now)) }
 {
     let texts = session.pending(alloc)?;
     add_told(alloc, rungs, Fate::Still, &texts)
 }
 
 fn nodes_of(session: &Session) -> u32
-    ensures nodes { result ≡ nodes_of session.now }
+    ensures nodes { result ≡ playing.nodes_of session.now }
     ensures few { result ≤ 16 }
 {
     match session.places.nodes() {
@@ -335,7 +335,7 @@ fn ladder_in(
     parts: &[&[u8]],
 ) -> Result<Ladder, RunFault>
     requires { length parts.now ≤ 1099511627776 }
-    ensures ladder { Ladders result (ladder_in (rules_of table.now) shown (map (λ l. l.now) parts.now)) }
+    ensures ladder { playing.Ladders result (playing.ladder_in (rules_of table.now) shown (map (λ l. l.now) parts.now)) }
     ensures few { IfOk result (λ l. l.nodes ≤ 16) }
 {
     let mut session = Session::new(alloc);
@@ -367,7 +367,7 @@ pub fn ladder_from(
     bytes: &[u8],
 ) -> Result<Ladder, RunFault>
     requires { length bytes.now < 1099511627776 }
-    ensures ladder { Ladders result (ladder_from (rules_of table.now) shown bytes.now) }
+    ensures ladder { playing.Ladders result (playing.ladder_from (rules_of table.now) shown bytes.now) }
     ensures few { IfOk result (λ l. l.nodes ≤ 16) }
 {
     let parts = cut(alloc, bytes, b'\n')?;

@@ -2,9 +2,9 @@
 ghost use Rattle.std.specs.Prelude.{◌≡◌, ◌<◌, Bool, length, map, codes, string_bytes, None, Some};
 ghost use Rattle.std.specs.Str.{bytes_eq};
 ghost use Rattle.ct_call.specs.Shown.{rules_of};
-ghost use Rattle.ct_picture.specs.Running.{HasPictureCause, Pictures, Reports, WriteCause, end_of, message, most_bytes, status};
+ghost use Rattle.ct_picture.specs.Running as picture;
 ghost use Rattle.ct_picture.specs.declared.running.End.{End as Ended};
-ghost use Rattle.ct_ladder_play.specs.Running.{Draws, Laddered, Writes, wanted_of};
+ghost use Rattle.ct_ladder_play.specs.Running as running;
 ghost use Rattle.ct_ladder_play.specs.declared.running.Wanted.TheVariants as wanted;
 
 use crate::playing::ladder_from;
@@ -35,7 +35,7 @@ fn is_word(word: &String, name: &[u8]) -> bool
 
 /// What the words after the program's name ask for.
 fn wanted_of(words: &[String]) -> Option<Wanted>
-    ensures { result ≡ wanted_of (map string_bytes words.now) }
+    ensures { result ≡ running.wanted_of (map string_bytes words.now) }
 {
     let Some((word, more)) = words.split_first() else {
         return Some(Wanted::Run);
@@ -59,8 +59,8 @@ pub fn ladder_text(
     lines: bool,
     bytes: &[u8],
 ) -> Result<Vec<u8>, RunFault>
-    requires { length bytes.now < most_bytes }
-    ensures { Laddered (rules_of table.now) lines result bytes.now }
+    requires { length bytes.now < picture.most_bytes }
+    ensures { running.Laddered (rules_of table.now) lines result bytes.now }
 {
     let ladder = ladder_from(alloc, table, lines, bytes)?;
     if ladder.rungs.len() >= 4294967296 {
@@ -78,9 +78,9 @@ fn write_ladder<K: Sink>(
     bytes: &[u8],
     out: &mut K,
 ) -> End
-    requires { length bytes.now < most_bytes }
-    ensures writes { Writes (rules_of table.now) lines result bytes.now (K.held out.old) (K.held out.new) }
-    ensures cause { WriteCause result (K.faults out.old) (K.faults out.new) }
+    requires { length bytes.now < picture.most_bytes }
+    ensures writes { running.Writes (rules_of table.now) lines result bytes.now (K.held out.old) (K.held out.new) }
+    ensures cause { picture.WriteCause result (K.faults out.old) (K.faults out.new) }
 {
     let text = match ladder_text(alloc, table, lines, bytes) {
         Ok(text) => text,
@@ -101,8 +101,8 @@ pub fn ladder<S: Source, K: Sink>(
     input: &mut S,
     out: &mut K,
 ) -> End
-    ensures draws { Draws (rules_of table.now) lines result (S.left input.old) (S.left input.new) (K.held out.old) (K.held out.new) }
-    ensures cause { HasPictureCause result (S.faults input.old) (S.faults input.new) (K.faults out.old) (K.faults out.new) }
+    ensures draws { running.Draws (rules_of table.now) lines result (S.left input.old) (S.left input.new) (K.held out.old) (K.held out.new) }
+    ensures cause { picture.HasPictureCause result (S.faults input.old) (S.faults input.new) (K.faults out.old) (K.faults out.new) }
 {
     match read_all(alloc, input) {
         Ok(bytes) => write_ladder(alloc, table, lines, &bytes, out),
@@ -123,17 +123,17 @@ pub fn run<S: Source, K: Sink, E: Sink>(
     err: &mut E,
 ) -> u8
     // The input was read to its end and the picture of its run written, and err and the answer say how that ended.
-    ensures picture { wanted_of (map string_bytes words.now) ≡ Some wanted.Run → (e : Ended)
-        × Pictures e (S.left input.old) (S.left input.new) (K.held out.old) (K.held out.new)
-        × HasPictureCause e (S.faults input.old) (S.faults input.new) (K.faults out.old) (K.faults out.new)
-        × Reports (message e) (status e) result (E.held err.old) (E.held err.new) (E.faults err.old) (E.faults err.new) }
+    ensures picture { running.wanted_of (map string_bytes words.now) ≡ Some wanted.Run → (e : Ended)
+        × picture.Pictures e (S.left input.old) (S.left input.new) (K.held out.old) (K.held out.new)
+        × picture.HasPictureCause e (S.faults input.old) (S.faults input.new) (K.faults out.old) (K.faults out.new)
+        × picture.Reports (picture.message e) (picture.status e) result (E.held err.old) (E.held err.new) (E.faults err.old) (E.faults err.new) }
     // The same of a scenario.
-    ensures scenario { (lines : Bool) → wanted_of (map string_bytes words.now) ≡ Some (wanted.Scenario lines) → (e : Ended)
-        × Draws (rules_of table.now) lines e (S.left input.old) (S.left input.new) (K.held out.old) (K.held out.new)
-        × HasPictureCause e (S.faults input.old) (S.faults input.new) (K.faults out.old) (K.faults out.new)
-        × Reports (message e) (status e) result (E.held err.old) (E.held err.new) (E.faults err.old) (E.faults err.new) }
+    ensures scenario { (lines : Bool) → running.wanted_of (map string_bytes words.now) ≡ Some (wanted.Scenario lines) → (e : Ended)
+        × running.Draws (rules_of table.now) lines e (S.left input.old) (S.left input.new) (K.held out.old) (K.held out.new)
+        × picture.HasPictureCause e (S.faults input.old) (S.faults input.new) (K.faults out.old) (K.faults out.new)
+        × picture.Reports (picture.message e) (picture.status e) result (E.held err.old) (E.held err.new) (E.faults err.old) (E.faults err.new) }
     // Nothing was read or written, and err says so.
-    ensures usage { wanted_of (map string_bytes words.now) ≡ None → Reports (codes "ctdbpicture: usage\n") 1 result (E.held err.old) (E.held err.new) (E.faults err.old) (E.faults err.new)
+    ensures usage { running.wanted_of (map string_bytes words.now) ≡ None → picture.Reports (codes "ctdbpicture: usage\n") 1 result (E.held err.old) (E.held err.new) (E.faults err.old) (E.faults err.new)
         × (input.new ≡ input.old) × (out.new ≡ out.old) }
 {
     match wanted_of(words) {

@@ -1,6 +1,5 @@
 //! An exchange over a bus, by the numbers of the words.
-ghost use Rattle.ct_bus_exchange.specs.Shown.{handled_by};
-ghost use Rattle.ct_bus_run.specs.Ends.{BusEnds, HasBusCause};
+ghost use Rattle.ct_main.specs.Handed as handed;
 ghost use Rattle.ct_main.specs.Claims.{bus_wanted_by};
 ghost use Rattle.ct_words.specs.Reading.{HasBusRange};
 
@@ -23,8 +22,8 @@ pub(crate) fn exchange<K: Sink, B: BusTroupe>(
 ) -> BusEnd
     requires range { HasBusRange numbers.now }
     requires ready { B.ready troupe.old }
-    ensures ends { BusEnds (handled_by handlers.now) (bus_wanted_by numbers.now) result (K.held out.old) (K.held out.new) }
-    ensures cause { HasBusCause result (B.exchanges troupe.old) (B.exchanges troupe.new) (K.faults out.old) (K.faults out.new) }
+    ensures ends { handed.BusEnds (handed.handled_by handlers.now) (bus_wanted_by numbers.now) result (K.held out.old) (K.held out.new) }
+    ensures cause { handed.HasBusCause result (B.exchanges troupe.old) (B.exchanges troupe.new) (K.faults out.old) (K.faults out.new) }
 {
     let wanted = BusWanted {
         nodes: numbers.nodes,

@@ -1,19 +1,8 @@
 //! From the words that the program was called by to its status.
 ghost use Rattle.std.specs.Prelude.{◌≡◌, ℕ, true, false, None, Some, drop};
 ghost use Rattle.std.specs.Process.{exit_status};
-ghost use Rattle.ct_bus_exchange.specs.Shown.{handled_by};
-ghost use Rattle.ct_bus_run.specs.Ends.{BusEnds, HasBusCause};
-ghost use Rattle.ct_bus_run.specs.declared.running.BusEnd.{BusEnd as ExchangeEnd};
-ghost use Rattle.ct_call.specs.Shown.{rules_of};
-ghost use Rattle.ct_troupe_run.specs.Running.{HasRunCause, Runs};
-ghost use Rattle.ct_troupe_run.specs.declared.running.End.{End as Ran};
-ghost use Rattle.ct_lcp2_lines.specs.Claims.{Places};
-ghost use Rattle.ct_lcp2_lines.specs.declared.placer.End.{End as PlacingEnd};
-ghost use Rattle.ct_words.specs.declared.words.BusNumbers.{BusNumbers as Exchanged};
-ghost use Rattle.ct_words.specs.declared.words.ChainNumbers.{ChainNumbers as CutNumbers};
-ghost use Rattle.ct_words.specs.declared.words.PlanNumbers.{PlanNumbers as Numbers};
-ghost use Rattle.ct_troupe_run.specs.Chains.{RunsColumns};
 ghost use Rattle.ct_words.specs.declared.words.Word.TheVariants as word;
+ghost use Rattle.ct_main.specs.Handed as handed;
 ghost use Rattle.ct_main.specs.Claims as claims;
 ghost use Rattle.ct_main.specs.declared.player.End.{End as Ended};
 
@@ -23,8 +12,8 @@ use ct_bus_exchange::troupe::BusTroupe;
 use ct_call::table::CallTable;
 use ct_outside::sink::Sink;
 use ct_outside::source::Source;
-use ct_troupe::columns::Columns;
-use ct_troupe::troupe::Troupe;
+use ct_troupe_run::columns::Columns;
+use ct_troupe_run::running::Troupe;
 use std::alloc::Global;
 use std::process::ExitCode;
 
@@ -56,45 +45,45 @@ pub fn answer<S: Source, K: Sink, E: Sink, T: Troupe + Columns, B: BusTroupe>(
     requires bus_ready { B.ready bus.old }
     // The words behind the name say `play`: bytes that came in were played, and err and the answer say how that ended.
     ensures play { claims.asked (drop 1 all.now) ≡ Some word.Play → (e : Ended)
-        × claims.Plays (rules_of table.now) e (S.left input.old) (S.left input.new) (K.held out.old) (K.held out.new)
+        × claims.Plays (handed.rules_of table.now) e (S.left input.old) (S.left input.new) (K.held out.old) (K.held out.new)
         × claims.HasEndCause e (S.faults input.old) (S.faults input.new) (K.faults out.old) (K.faults out.new)
         × claims.Reports (claims.message e) (claims.status e) (exit_status result) (E.held err.old) (E.held err.new) (E.faults err.old) (E.faults err.new) }
     // The words say `lcp2`: the input's lines were read, and the placement printed.
-    ensures lcp2 { claims.asked (drop 1 all.now) ≡ Some word.Lcp2 → (e : PlacingEnd)
-        × Places e (S.left input.old) (S.left input.new) (K.held out.old) (K.held out.new)
+    ensures lcp2 { claims.asked (drop 1 all.now) ≡ Some word.Lcp2 → (e : handed.PlacingEnd)
+        × handed.Places e (S.left input.old) (S.left input.new) (K.held out.old) (K.held out.new)
         × claims.HasEndCause (claims.placed_end e) (S.faults input.old) (S.faults input.new) (K.faults out.old) (K.faults out.new)
         × claims.Reports (claims.message (claims.placed_end e)) (claims.status (claims.placed_end e)) (exit_status result) (E.held err.old) (E.held err.new) (E.faults err.old) (E.faults err.new) }
     // The words say `soak`, with a seed and a number of steps: nothing was read, and the line that counts them printed.
     ensures soak { (seed steps : ℕ) → claims.asked (drop 1 all.now) ≡ Some (word.Soak seed steps) → (e : Ended)
-        × claims.SoakEnds (rules_of table.now) (seed, steps) e (K.held out.old) (K.held out.new)
+        × claims.SoakEnds (handed.rules_of table.now) (seed, steps) e (K.held out.old) (K.held out.new)
         × claims.HasEndCause e (S.faults input.old) (S.faults input.new) (K.faults out.old) (K.faults out.new)
         × claims.Reports (claims.message e) (claims.status e) (exit_status result) (E.held err.old) (E.held err.new) (E.faults err.old) (E.faults err.new)
         × (input.new ≡ input.old) }
     // The words say `cluster`, with the numbers of a plan: the troupe played that plan, and the text of a schedule of its
     // journals was printed; nothing was read.
-    ensures cluster { (p : Numbers) → claims.asked (drop 1 all.now) ≡ Some (word.Cluster p) → (e : Ran)
-        × Runs (rules_of table.now) (claims.wanted_by false p) e (T.told troupe.new) (K.held out.old) (K.held out.new)
-        × HasRunCause e (T.faults troupe.old) (T.faults troupe.new) (K.faults out.old) (K.faults out.new)
+    ensures cluster { (p : handed.Numbers) → claims.asked (drop 1 all.now) ≡ Some (word.Cluster p) → (e : handed.Ran)
+        × handed.Runs (handed.rules_of table.now) (claims.wanted_by false p) e (T.told troupe.new) (K.held out.old) (K.held out.new)
+        × handed.HasRunCause e (T.faults troupe.old) (T.faults troupe.new) (K.faults out.old) (K.faults out.new)
         × claims.Reports (claims.cluster_message e) (claims.cluster_status e) (exit_status result) (E.held err.old) (E.held err.new) (E.faults err.old) (E.faults err.new)
         × (input.new ≡ input.old) }
     // The words say `loopback`: the same, with nodes that talk over sockets.
-    ensures loopback { (p : Numbers) → claims.asked (drop 1 all.now) ≡ Some (word.Loopback p) → (e : Ran)
-        × Runs (rules_of table.now) (claims.wanted_by true p) e (T.told troupe.new) (K.held out.old) (K.held out.new)
-        × HasRunCause e (T.faults troupe.old) (T.faults troupe.new) (K.faults out.old) (K.faults out.new)
+    ensures loopback { (p : handed.Numbers) → claims.asked (drop 1 all.now) ≡ Some (word.Loopback p) → (e : handed.Ran)
+        × handed.Runs (handed.rules_of table.now) (claims.wanted_by true p) e (T.told troupe.new) (K.held out.old) (K.held out.new)
+        × handed.HasRunCause e (T.faults troupe.old) (T.faults troupe.new) (K.faults out.old) (K.faults out.new)
         × claims.Reports (claims.cluster_message e) (claims.cluster_status e) (exit_status result) (E.held err.old) (E.held err.new) (E.faults err.old) (E.faults err.new)
         × (input.new ≡ input.old) }
     // The words say `chains`, with the numbers of a plan that is cut: the troupe played its columns, and the texts of schedules of
     // their journals were printed, one after the other; nothing was read.
-    ensures chains { (p : CutNumbers) → claims.asked (drop 1 all.now) ≡ Some (word.Chains p) → (e : Ran)
-        × RunsColumns (rules_of table.now) (claims.cut_wanted_by p) e (T.told_in troupe.new) (K.held out.old) (K.held out.new)
-        × HasRunCause e (T.column_faults troupe.old) (T.column_faults troupe.new) (K.faults out.old) (K.faults out.new)
+    ensures chains { (p : handed.CutNumbers) → claims.asked (drop 1 all.now) ≡ Some (word.Chains p) → (e : handed.Ran)
+        × handed.RunsColumns (handed.rules_of table.now) (claims.cut_wanted_by p) e (T.told_in troupe.new) (K.held out.old) (K.held out.new)
+        × handed.HasRunCause e (T.column_faults troupe.old) (T.column_faults troupe.new) (K.faults out.old) (K.faults out.new)
         × claims.Reports (claims.cluster_message e) (claims.cluster_status e) (exit_status result) (E.held err.old) (E.held err.new) (E.faults err.old) (E.faults err.new)
         × (input.new ≡ input.old) }
     // The words say `bus`, with the numbers of an exchange: the bus exchanged the messages that the seed makes, and the text of what
     // was handled was printed; nothing was read.
-    ensures bus { (p : Exchanged) → claims.asked (drop 1 all.now) ≡ Some (word.Bus p) → (e : ExchangeEnd)
-        × BusEnds (handled_by handlers.now) (claims.bus_wanted_by p) e (K.held out.old) (K.held out.new)
-        × HasBusCause e (B.exchanges bus.old) (B.exchanges bus.new) (K.faults out.old) (K.faults out.new)
+    ensures bus { (p : handed.Exchanged) → claims.asked (drop 1 all.now) ≡ Some (word.Bus p) → (e : handed.ExchangeEnd)
+        × handed.BusEnds (handed.handled_by handlers.now) (claims.bus_wanted_by p) e (K.held out.old) (K.held out.new)
+        × handed.HasBusCause e (B.exchanges bus.old) (B.exchanges bus.new) (K.faults out.old) (K.faults out.new)
         × claims.Reports (claims.message (claims.bus_end e)) (claims.status (claims.bus_end e)) (exit_status result) (E.held err.old) (E.held err.new) (E.faults err.old) (E.faults err.new)
         × (input.new ≡ input.old) }
     // For all other words the troupe plays nothing.

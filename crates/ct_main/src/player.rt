@@ -2,11 +2,8 @@
 ghost use Rattle.std.specs.Prelude.{◌≡◌, ◌≢◌, ◌≤◌, ◌<◌, ◌+◌, ◌^◌, ◌∷◌, [], ℕ, List, Option, Some, length, take, get_or, IfOk, OnOk, IsErrOf};
 ghost use Rattle.std.specs.List.{All};
 ghost use Rattle.std.specs.Io.KnownBytes.{Appends};
-ghost use Rattle.ct_outside.specs.Causes.{AppendsPart};
-ghost use Rattle.ct_call.specs.Rules.{Rules};
-ghost use Rattle.ct_call.specs.Shown.{rules_of};
-ghost use Rattle.ct_outside.specs.Causes.{Rose};
-ghost use Rattle.ct_main.specs.Claims.{HasEndCause, Plays};
+ghost use Rattle.ct_main.specs.Handed as handed;
+ghost use Rattle.ct_main.specs.Claims as claims;
 ghost use Rattle.ct_main.specs.Feeding as feeding;
 ghost use Rattle.ct_main.specs.declared.player.End.TheVariants as ended;
 ghost use Rattle.ct_main.specs.declared.player.Stop.TheVariants as stop;
@@ -130,7 +127,7 @@ impl Player {
     fn end<K: Sink>(&mut self, alloc: Global, table: &CallTable, out: &mut K) -> Result<(), Stop>
         requires count { self.old.count + 1 < 2 ^ 64 }
         requires line { length self.old.line ≤ 65535 }
-        ensures feeds { feeding.Feeds (rules_of table.now) result self.old (10 ∷ []) self.new (K.held out.old) (K.held out.new) }
+        ensures feeds { feeding.Feeds (handed.rules_of table.now) result self.old (10 ∷ []) self.new (K.held out.old) (K.held out.new) }
         ensures cause { feeding.HasStopCause (K.faults out.old) (K.faults out.new) result }
         ensures count { self.new.count ≤ self.old.count + 1 }
         ensures line { length self.new.line ≤ 65535 }
@@ -151,7 +148,7 @@ impl Player {
     fn keep(&mut self, bytes: &[u8]) -> Result<(), Stop>
         requires none { All (λ x. x ≢ 10) bytes.now }
         requires line { length self.old.line ≤ 65535 }
-        ensures feeds { (rules : Rules) (held : Option (List ℕ)) → feeding.Feeds rules result self.old bytes.now self.new held held }
+        ensures feeds { (rules : handed.Rules) (held : Option (List ℕ)) → feeding.Feeds rules result self.old bytes.now self.new held held }
         ensures writes { ¬ IsErrOf result stop.WriteFault }
         ensures count { self.new.count ≡ self.old.count }
         ensures line { length self.new.line ≤ 65535 }
@@ -174,7 +171,7 @@ impl Player {
         requires some { 0 < length bytes.now }
         requires count { self.old.count + 1 < 2 ^ 64 }
         requires line { length self.old.line ≤ 65535 }
-        ensures takes { feeding.FeedsFront (rules_of table.now) result self.old bytes.now self.new (K.held out.old) (K.held out.new) }
+        ensures takes { feeding.FeedsFront (handed.rules_of table.now) result self.old bytes.now self.new (K.held out.old) (K.held out.new) }
         ensures cause { feeding.HasStopCause (K.faults out.old) (K.faults out.new) result }
         ensures count { self.new.count ≤ self.old.count + 1 }
         ensures line { length self.new.line ≤ 65535 }
@@ -202,7 +199,7 @@ impl Player {
     ) -> Result<(), Stop>
         requires count { self.old.count + length bytes.now < 2 ^ 64 }
         requires line { length self.old.line ≤ 65535 }
-        ensures feeds { feeding.Feeds (rules_of table.now) result self.old bytes.now self.new (K.held out.old) (K.held out.new) }
+        ensures feeds { feeding.Feeds (handed.rules_of table.now) result self.old bytes.now self.new (K.held out.old) (K.held out.new) }
         ensures cause { feeding.HasStopCause (K.faults out.old) (K.faults out.new) result }
         ensures count { self.new.count ≤ self.old.count + length bytes.now }
         ensures line { length self.new.line ≤ 65535 }
@@ -222,7 +219,7 @@ impl Player {
         requires { self.now.count + 1 < 2 ^ 64 }
         ensures ends { feeding.Finishes result self.now (K.held out.old) (K.held out.new) }
         ensures later { K.faults out.old ≤ K.faults out.new }
-        ensures failed { result ≡ ended.WriteFault → Rose (K.faults out.old) (K.faults out.new) }
+        ensures failed { result ≡ ended.WriteFault → handed.Rose (K.faults out.old) (K.faults out.new) }
     {
         if !self.line.is_empty() {
             return End::Unended {
@@ -265,7 +262,7 @@ impl Player {
         requires room { 0 < length buffer.old }
         requires count { self.old.count + length buffer.old + 1 < 2 ^ 64 }
         requires line { length self.old.line ≤ 65535 }
-        ensures turns { feeding.Turns (rules_of table.now) result (length buffer.old) self.old self.new (S.left input.old) (S.left input.new) (K.held out.old) (K.held out.new) }
+        ensures turns { feeding.Turns (handed.rules_of table.now) result (length buffer.old) self.old self.new (S.left input.old) (S.left input.new) (K.held out.old) (K.held out.new) }
         ensures cause { feeding.TurnCause result (S.faults input.old) (S.faults input.new) (K.faults out.old) (K.faults out.new) }
         ensures count { IfOk result (λ n. self.new.count ≤ self.old.count + n) }
         ensures line { length self.new.line ≤ 65535 }
@@ -289,8 +286,8 @@ pub const MOST_BYTES: u64 = 1099511627776;
 
 /// Plays the input to its end, or as far as it goes.
 pub fn play<S: Source, K: Sink>(alloc: Global, table: &CallTable, input: &mut S, out: &mut K) -> End
-    ensures plays { Plays (rules_of table.now) result (S.left input.old) (S.left input.new) (K.held out.old) (K.held out.new) }
-    ensures cause { HasEndCause result (S.faults input.old) (S.faults input.new) (K.faults out.old) (K.faults out.new) }
+    ensures plays { claims.Plays (handed.rules_of table.now) result (S.left input.old) (S.left input.new) (K.held out.old) (K.held out.new) }
+    ensures cause { claims.HasEndCause result (S.faults input.old) (S.faults input.new) (K.faults out.old) (K.faults out.new) }
 {
     let mut player = Player {
         session: Session::new(alloc),

@@ -12,7 +12,7 @@ use ct_values::items::Items;
 use ct_values::memory::NoMemory;
 use ct_values::name::DbName;
 use ct_values::value::Value;
-use ct_world::world::World;
+pub use ct_world::world::World;
 use std::alloc::Global;
 
 /// The number that stands for no database. No configuration has a database of this number.

@@ -8,7 +8,7 @@ use ct_frame::frame::Assigned;
 use ct_lead::holder::Holder;
 use ct_lead::lead::Lead;
 use ct_node_plan::change::{Change, Left};
-use ct_node_state::node::Node;
+use ct_node_plan::handed::Node;
 use ct_values::items::Items;
 use ct_values::memory::NoMemory;
 use std::mem;

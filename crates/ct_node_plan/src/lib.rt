@@ -4,6 +4,7 @@
 #![tactic(auto)]
 
 pub mod change;
+pub mod handed;
 pub mod plans;
 pub mod posts;
 pub mod record;

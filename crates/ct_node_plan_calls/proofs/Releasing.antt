@@ -13,8 +13,8 @@ use Rattle.ct_rules_node.specs.Node.{Node, Phase, Idle, Serving, Installed, Free
 use Rattle.ct_rules_node.specs.Records.{acted, at_record, put_back, view}
 use Rattle.ct_rules_node.specs.Turn.{Turn, begins, does, posts, with_phase}
 use Rattle.ct_node_plan_calls.specs.Comes.{Comes}
-use Rattle.ct_node_state.specs.declared.turn.CoreFault.{CoreFault}
-use Rattle.ct_node_state.specs.declared.turn.CoreFault.TheVariants.{Exhausted, NoMemory}
+use Rattle.ct_node_plan.specs.Handed.{CoreFault}
+use Rattle.ct_node_plan.specs.Handed.{Exhausted, NoMemory}
 
 -- no number is made where a node is Frozen
 pub frozen_spent : (me g leader : ℕ) (t : Turn) → (frozen_if_unlocked me g leader t).spent ≡ t.spent

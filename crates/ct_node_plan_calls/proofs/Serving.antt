@@ -23,7 +23,7 @@ use Rattle.ct_rules_node.specs.Refusals.{first_of, refused_if}
 use Rattle.ct_rules_node.specs.Turn.{Turn, answers, begins, does, makes}
 use Rattle.ct_node_plan_calls.proofs.Writing.{at_limit, below_limit, commit_keeps}
 use Rattle.ct_node_plan_calls.proofs.Releasing.{frozen_spent}
-use Rattle.ct_node_state.specs.declared.turn.CoreFault.{CoreFault}
+use Rattle.ct_node_plan.specs.Handed.{CoreFault}
 
 -- ---- where a number reached 2^62 before, the whole step is refused
 

@@ -9,9 +9,8 @@ ghost use Rattle.ct_node_plan.specs.Changes.{Plans};
 
 use ct_call::table::CallTable;
 use ct_node_plan::change::Planned;
+use ct_node_plan::handed::{CoreFault, Node};
 use ct_node_plan::record::acted;
-use ct_node_state::node::Node;
-use ct_node_state::turn::CoreFault;
 use ct_record::moves;
 use ct_values::client::ClientOp;
 use ct_values::config::Config;

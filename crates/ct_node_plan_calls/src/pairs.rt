@@ -8,9 +8,8 @@ ghost use Rattle.ct_store.specs.Map.{look};
 ghost use Rattle.ct_node_plan.specs.Changes.{Plans};
 
 use ct_node_plan::change::Planned;
+use ct_node_plan::handed::{CoreFault, Node};
 use ct_node_plan::still::answered;
-use ct_node_state::node::Node;
-use ct_node_state::turn::CoreFault;
 use ct_values::client::Answer;
 use ct_values::key::Key;
 use ct_values::memory::NoMemory;

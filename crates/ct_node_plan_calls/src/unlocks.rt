@@ -11,9 +11,8 @@ ghost use Rattle.ct_node_plan_calls.specs.Comes.{Comes};
 
 use crate::calls::unlock;
 use ct_node_plan::change::Planned;
+use ct_node_plan::handed::{CoreFault, Node, Turn};
 use ct_node_plan::plans::whole;
-use ct_node_state::node::Node;
-use ct_node_state::turn::{CoreFault, Turn};
 use ct_record::moves::release;
 use ct_record_parts::draft::Draft;
 use ct_values::config::Config;

@@ -14,7 +14,7 @@ use Rattle.ct_rules_node.specs.Node.{Node, Phase, Idle, Serving, Installed, Free
 use Rattle.ct_rules_node.specs.Records.{acted, at_record, place_of, put_back, view}
 use Rattle.ct_rules_node.specs.Rounds.{Called, on_thaw, pending_calls, thaws, want_again, want_all}
 use Rattle.ct_rules_node.specs.Turn.{Turn, begins, does, notes, with_phase}
-use Rattle.ct_node_state.specs.declared.turn.CoreFault.{CoreFault}
+use Rattle.ct_node_plan.specs.Handed.{CoreFault}
 use Rattle.ct_node_plan_members.proofs.Counting.{again_low}
 
 second_false : (a b : Bool) → (a || b) ≡ false → b ≡ false

@@ -8,8 +8,7 @@ ghost use Rattle.ct_rules_node.specs.Turn.{answers};
 
 use ct_frame::event::Note;
 use ct_node_database::database::{Committing, Database};
-use ct_node_state::kinds::name_of;
-use ct_node_state::turn::Turn;
+use ct_node_plan::handed::{Turn, name_of};
 use ct_values::client::Answer;
 use ct_values::config::Config;
 use ct_values::items::Items;

@@ -9,15 +9,14 @@ ghost use Rattle.ct_rules_node.specs.Node.{Serving};
 ghost use Rattle.ct_rules_node.specs.Records.{at_record};
 ghost use Rattle.ct_rules_node.specs.Rounds.{on_thaw, pending_calls, want_again, want_all};
 ghost use Rattle.ct_rules_node.specs.Turn.{begins, notes, with_phase};
-ghost use Rattle.ct_node_state.specs.Goes.{Goes};
+ghost use Rattle.ct_node_plan.specs.Handed.{Goes};
 
 use ct_call::table::CallTable;
 use ct_frame::event::Note;
 use ct_node_plan::change::Planned;
+use ct_node_plan::handed::{CoreFault, Node, Turn};
 use ct_node_plan::plans::whole;
 use ct_node_plan::still::nothing;
-use ct_node_state::node::Node;
-use ct_node_state::turn::{CoreFault, Turn};
 use ct_node_view::waiting::{Called, pending_calls};
 use ct_record_parts::draft::Draft;
 use ct_rules::event::Place;

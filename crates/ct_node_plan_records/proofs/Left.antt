@@ -3,7 +3,7 @@ use Rattle.std.proofs.Common.{◌≡◌, ◌∙◌, ℕ, ◌<◌, true, List, []
 use Rattle.ct_node_database.specs.Noted.{is_deleted}
 use Rattle.ct_values.specs.declared.config.Config.{Config}
 use Rattle.ct_law_form.proofs.Formed.{put_ascends, put_length}
-use Rattle.ct_node_state.specs.Whole.{left_as}
+use Rattle.ct_node_plan.specs.Handed.{left_as}
 use Rattle.ct_node_plan.specs.Changes.{AreDeleted, all_left, left_at}
 use Rattle.ct_node_plan.specs.declared.change.Left.{Left}
 use Rattle.ct_law_rules_node.specs.NodeLaws.{NodeAscends}

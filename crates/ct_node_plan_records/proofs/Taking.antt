@@ -13,8 +13,8 @@ use Rattle.ct_rules.specs.declared.state.RecState.{RecState}
 use Rattle.ct_rules_node.specs.Node.{Node, db_at, state_at}
 use Rattle.ct_rules_node.specs.Records.{acted, at_record, out_of, place_of, put_back, view}
 use Rattle.ct_rules_node.specs.Turn.{Turn}
-use Rattle.ct_node_state.specs.Goes.{Goes}
-use Rattle.ct_node_state.specs.declared.turn.CoreFault.{CoreFault}
+use Rattle.ct_node_plan.specs.Handed.{Goes}
+use Rattle.ct_node_plan.specs.Handed.{CoreFault}
 use Rattle.ct_node_plan_records.specs.Keys.{is_deleted_at, vacuum_key}
 use Rattle.ct_node_plan_records.specs.Walked.{IsMiddle, node_so_far, so_far}
 use Rattle.ct_node_plan_records.specs.declared.walk.Walk.{Walk}

@@ -15,9 +15,9 @@ use Rattle.ct_rules_node.specs.Node.{Node, db_at, state_at}
 use Rattle.ct_rules_node.specs.Steps.{vacuum_all}
 use Rattle.ct_rules_node.specs.Turn.{Turn, begins}
 use Rattle.ct_law_rules_node.proofs.AtRecord.{at_ascends}
-use Rattle.ct_node_state.specs.Goes.{Goes}
-use Rattle.ct_node_state.specs.declared.turn.CoreFault.{CoreFault}
-use Rattle.ct_node_state.specs.declared.turn.CoreFault.TheVariants.{Exhausted, NoMemory}
+use Rattle.ct_node_plan.specs.Handed.{Goes}
+use Rattle.ct_node_plan.specs.Handed.{CoreFault}
+use Rattle.ct_node_plan.specs.Handed.{Exhausted, NoMemory}
 use Rattle.ct_tracking.specs.Candidates.{Ascends}
 use Rattle.ct_node_plan_records.specs.Keys.{deleted_of, is_deleted_at, vacuum_key, vacuum_keys}
 use Rattle.ct_node_plan_records.specs.Walked.{IsMiddle, Walks, after_key, node_so_far, so_far}

@@ -4,8 +4,8 @@ use Rattle.ct_values.specs.declared.config.Config.{Config}
 use Rattle.ct_node_plan.specs.Changes.{AreDeleted, all_left}
 use Rattle.ct_rules_node.specs.Node.{Node, db_at}
 use Rattle.ct_rules_node.specs.Turn.{Turn}
-use Rattle.ct_node_state.specs.declared.turn.CoreFault.{CoreFault}
-use Rattle.ct_node_state.specs.declared.turn.CoreFault.TheVariants.{Exhausted, NoMemory}
+use Rattle.ct_node_plan.specs.Handed.{CoreFault}
+use Rattle.ct_node_plan.specs.Handed.{Exhausted, NoMemory}
 use Rattle.ct_node_plan_records.specs.Keys.{is_deleted_at, vacuum_key}
 use Rattle.ct_node_plan_records.specs.declared.walk.Walk.{Walk}
 

@@ -12,13 +12,11 @@ ghost use Rattle.ct_rules_node.specs.Turn.{answers, begins};
 
 use ct_frame::event::Out;
 use ct_frame::frame::{Frame, Msg};
+use ct_node_admission::admission::is_current;
 use ct_node_database::database::Committing;
 use ct_node_plan::change::{Change, Planned};
+use ct_node_plan::handed::{CoreFault, Node, is_persistent, kind_at};
 use ct_node_plan::still::{nothing, one};
-use ct_node_state::kinds::{is_persistent, kind_at};
-use ct_node_state::node::Node;
-use ct_node_state::turn::CoreFault;
-use ct_node_admission::admission::is_current;
 use ct_persist::store::PStore;
 use ct_values::client::{Answer, Pair};
 use ct_values::config::Config;

@@ -13,14 +13,12 @@ ghost use Rattle.ct_rules_node.specs.Turn.{begins};
 
 use ct_call::table::CallTable;
 use ct_frame::frame::Frame;
-use ct_node_plan::change::Planned;
-use ct_node_plan::record::acted;
-use ct_node_plan::still::nothing;
-use ct_node_state::kinds::{has_records, kind_at};
-use ct_node_state::node::Node;
-use ct_node_state::turn::CoreFault;
 use ct_node_admission::admission::is_current;
 use ct_node_admission::named::record_in;
+use ct_node_plan::change::Planned;
+use ct_node_plan::handed::{CoreFault, Node, has_records, kind_at};
+use ct_node_plan::record::acted;
+use ct_node_plan::still::nothing;
 use ct_record::moves;
 use ct_values::config::Config;
 use ct_values::key::Key;

@@ -16,10 +16,8 @@ ghost use Rattle.ct_node_plan_records.specs.Walked.{Walks};
 use crate::walk::Walk;
 use ct_node_database::database::Database;
 use ct_node_plan::change::{Change, Planned};
+use ct_node_plan::handed::{CoreFault, Node, is_serving};
 use ct_node_plan::still::nothing;
-use ct_node_state::node::Node;
-use ct_node_state::phases::is_serving;
-use ct_node_state::turn::CoreFault;
 use ct_values::config::Config;
 use ct_values::key::Key;
 

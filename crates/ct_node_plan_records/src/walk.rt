@@ -6,16 +6,14 @@ ghost use Rattle.ct_node_database.specs.Noted.{is_deleted};
 ghost use Rattle.ct_rules.specs.State.{rsn_of};
 ghost use Rattle.ct_rules_node.specs.Node.{db_at, or_nothing, state_at};
 ghost use Rattle.ct_rules_node.specs.Records.{acted, place_of, view};
-ghost use Rattle.ct_node_state.specs.Goes.{Goes};
+ghost use Rattle.ct_node_plan.specs.Handed.{Goes};
 ghost use Rattle.ct_node_plan_records.specs.Keys.{is_deleted_at, vacuum_key};
 ghost use Rattle.ct_node_plan_records.specs.Walked.{IsMiddle, after_key, node_so_far, so_far};
 
 use ct_frame::event::Out;
 use ct_frame::header::{NONE, RecCopy};
 use ct_node_plan::change::Left;
-use ct_node_state::node::Node;
-use ct_node_state::outs::outs_of;
-use ct_node_state::turn::CoreFault;
+use ct_node_plan::handed::{CoreFault, Node, outs_of};
 use ct_record::moves;
 use ct_record_parts::draft::Draft;
 use ct_rules::event::Place;

@@ -3,9 +3,8 @@ ghost use Rattle.std.specs.Prelude.{◌≡◌, ◌++◌, OnOk, map};
 ghost use Rattle.ct_node_plan_runs.specs.Lead.{question_again, round_again, run_again};
 
 use ct_frame::event::Out;
+use ct_node_plan::handed::{Node, is_present_in};
 use ct_node_plan::posts::{post_all, post_releases, take};
-use ct_node_state::node::Node;
-use ct_node_state::phases::is_present_in;
 use ct_values::items::Items;
 use ct_values::memory::NoMemory;
 

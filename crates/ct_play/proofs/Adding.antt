@@ -14,7 +14,7 @@ use Rattle.ct_traverse_parts.specs.Walk.{Walk, Walked, Walks, ended_after}
 use Rattle.ct_traverse_parts.specs.declared.line.TFault.{TFault}
 use Rattle.ct_traverse_parts.specs.declared.line.TFault.TheVariants as unmoved
 use Rattle.ct_traverse_parts.specs.declared.line.TLine.{TLine}
-use Rattle.ct_world.specs.World.{Applies}
+use Rattle.ct_named.specs.Handed.{Applies}
 use Rattle.ct_rules_cluster.specs.Cluster.{World}
 use Rattle.ct_play.specs.Course.{Adds, AddsAll, Effect}
 use Rattle.ct_play.specs.Effect.{IsEffect, ShowsLines, TellsMove, Works, move_effect, refused_by, step_effect, stepped, taken, text_effect, traverse_texts, unmoved_by, what_of}

@@ -2,21 +2,20 @@
 ghost use Rattle.std.specs.Prelude.{◌≡◌, true};
 ghost use Rattle.ct_call.specs.Shown.{rules_of};
 ghost use Rattle.ct_rules_cluster.specs.Faults.{is_allowed};
-ghost use Rattle.ct_lines.specs.Spelled.{IsCommand, IsInRange};
-ghost use Rattle.ct_play.specs.Effect.{Works, commanded, line_effect, settled, stepped};
+ghost use Rattle.ct_lines.specs.Spelled as spelled;
+ghost use Rattle.ct_play.specs.Effect as effect;
 
 use crate::shown::shown;
 use crate::stepping::{settle, take};
 use crate::walking::{catted, traversed};
 use ct_call::table::CallTable;
 use ct_lines::line::{Command, ScenarioLine};
-use ct_named::named::{command_step, named_step, number_in_step};
+use ct_named::named::{World, command_step, named_step, number_in_step};
 use ct_play_text::what::PlayFault;
 use ct_rules_cluster::step::Step;
 use ct_traverse::walker::Walker;
 use ct_values::items::Items;
 use ct_values::memory::NoMemory;
-use ct_world::world::World;
 use std::alloc::Global;
 
 /// One step, and the texts of what it prints.
@@ -28,7 +27,7 @@ fn stepped(
     step: &Step,
 ) -> Result<Vec<Items<u8>>, PlayFault>
     requires { is_allowed step.now ≡ true }
-    ensures { Works result (stepped (rules_of table.now) world.old walker.old step.now) world.new walker.new }
+    ensures { effect.Works result (effect.stepped (rules_of table.now) world.old walker.old step.now) world.new walker.new }
 {
     let mut texts = Vec::new(alloc);
     match take(alloc, world, walker, table, step, &mut texts) {
@@ -45,7 +44,7 @@ fn settled(
     table: &CallTable,
     count: u32,
 ) -> Result<Vec<Items<u8>>, PlayFault>
-    ensures { Works result (settled (rules_of table.now) count world.old walker.old) world.new walker.new }
+    ensures { effect.Works result (effect.settled (rules_of table.now) count world.old walker.old) world.new walker.new }
 {
     let mut texts = Vec::new(alloc);
     match settle(alloc, world, walker, table, count, &mut texts) {
@@ -64,8 +63,8 @@ fn commanded(
     node: u32,
     command: &Command,
 ) -> Result<Vec<Items<u8>>, PlayFault>
-    requires { IsCommand command.now }
-    ensures { Works result (commanded (rules_of table.now) world.old walker.old node command.now) world.new walker.new }
+    requires { spelled.IsCommand command.now }
+    ensures { effect.Works result (effect.commanded (rules_of table.now) world.old walker.old node command.now) world.new walker.new }
 {
     match command {
         Command::Shows(command) => shown(alloc, world, node, command),
@@ -86,8 +85,8 @@ pub fn line_effect(
     table: &CallTable,
     line: ScenarioLine,
 ) -> Result<Vec<Items<u8>>, PlayFault>
-    requires { IsInRange line }
-    ensures { Works result (line_effect (rules_of table.now) world.old walker.old line) world.new walker.new }
+    requires { spelled.IsInRange line }
+    ensures { effect.Works result (effect.line_effect (rules_of table.now) world.old walker.old line) world.new walker.new }
 {
     match line {
         ScenarioLine::Config(_) => Ok(Vec::new(alloc)),

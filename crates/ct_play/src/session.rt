@@ -7,13 +7,14 @@ ghost use Rattle.ct_text.specs.Line.{pending_text};
 ghost use Rattle.ct_traverse_parts.specs.Text.{pending_traverse_text};
 ghost use Rattle.ct_play.specs.Effect.{line_effect};
 ghost use Rattle.ct_play.specs.Opening.{world_at};
-ghost use Rattle.ct_play.specs.Session.{Plays, in_its_place, is_config_line, line_played, pending_texts, placed, put, start, waiting_texts};
+ghost use Rattle.ct_play.specs.Session as session;
 
 use crate::effect::line_effect;
 use ct_call::table::CallTable;
 use ct_lines::line::{LineKindFault, ScenarioLine};
 use ct_lines::parse::parse_line;
 use ct_lines::places::Places;
+use ct_named::named::World;
 use ct_play_text::what::{PlayFault, What};
 use ct_rules_cluster::step::PendingCall;
 use ct_text::line::pending_text;
@@ -23,7 +24,6 @@ use ct_traverse_parts::text::pending_traverse_text;
 use ct_values::config::Config;
 use ct_values::items::Items;
 use ct_values::memory::NoMemory;
-use ct_world::world::World;
 use std::alloc::Global;
 
 /// What the lines so far said, the cluster, once a line opened it, and its traverses.
@@ -46,7 +46,7 @@ impl Drop for Session {
 
 /// Does the line say what the cluster is?
 fn is_config_line(line: &ScenarioLine) -> bool
-    ensures { result ≡ is_config_line line.now }
+    ensures { result ≡ session.is_config_line line.now }
 {
     match line {
         ScenarioLine::Config(_) => true,
@@ -95,7 +95,7 @@ fn add_texts(
 
 /// The text of each client call that waits, and then of each traverse.
 fn waiting(alloc: Global, world: &World, walker: &Walker) -> Result<Vec<Items<u8>>, NoMemory>
-    ensures { IfOk result (λ v. v.items ≡ waiting_texts world.now walker.now) }
+    ensures { IfOk result (λ v. v.items ≡ session.waiting_texts world.now walker.now) }
 {
     let calls = world.pending()?;
     let mut texts = texts(alloc, calls.as_slice(), world.config())?;
@@ -107,7 +107,7 @@ fn waiting(alloc: Global, world: &World, walker: &Walker) -> Result<Vec<Items<u8
 impl Session {
     /// Before the first line. It takes no memory.
     pub fn new(alloc: Global) -> Session
-        ensures { result ≡ start }
+        ensures { result ≡ session.start }
     {
         Session {
             places: Places::new(alloc),
@@ -125,7 +125,7 @@ impl Session {
     ) -> Result<Vec<Items<u8>>, PlayFault>
         requires range { IsInRange line }
         requires nodes { IsSome self.old.places.nodes }
-        ensures { Plays result (put self.old.places (line_effect (rules_of table.now) (world_at self.old.places self.old.world) self.old.walker line)) self.new }
+        ensures { session.Plays result (session.put self.old.places (line_effect (rules_of table.now) (world_at self.old.places self.old.world) self.old.walker line)) self.new }
     {
         if let Some(world) = &mut self.world {
             return line_effect(alloc, world, &mut self.walker, table, line);
@@ -152,7 +152,7 @@ impl Session {
     ) -> Result<Vec<Items<u8>>, PlayFault>
         requires range { IsInRange line }
         requires nodes { IsSome self.old.places.nodes }
-        ensures { Plays result (in_its_place (rules_of table.now) line self.old.world self.old.walker self.old.places) self.new }
+        ensures { session.Plays result (session.in_its_place (rules_of table.now) line self.old.world self.old.walker self.old.places) self.new }
     {
         if is_config_line(&line) {
             return Ok(Vec::new(alloc));
@@ -168,7 +168,7 @@ impl Session {
         line: ScenarioLine,
     ) -> Result<Vec<Items<u8>>, PlayFault>
         requires { IsInRange line }
-        ensures { Plays result (placed (rules_of table.now) line self.old (refusal line self.old.places)) self.new }
+        ensures { session.Plays result (session.placed (rules_of table.now) line self.old (refusal line self.old.places)) self.new }
     {
         match self.places.check(&line) {
             Ok(()) => self.in_its_place(alloc, table, line),
@@ -186,7 +186,7 @@ impl Session {
         table: &CallTable,
         line: &[u8],
     ) -> Result<Vec<Items<u8>>, PlayFault>
-        ensures { Plays result (line_played (rules_of table.now) line.now self.old) self.new }
+        ensures { session.Plays result (session.line_played (rules_of table.now) line.now self.old) self.new }
     {
         match parse_line(alloc, line) {
             Ok(item) => self.placed(alloc, table, item),
@@ -197,7 +197,7 @@ impl Session {
 
     /// The text of each client call that waits, and then of each traverse.
     pub fn pending(&self, alloc: Global) -> Result<Vec<Items<u8>>, NoMemory>
-        ensures { IfOk result (λ v. v.items ≡ pending_texts self.now) }
+        ensures { IfOk result (λ v. v.items ≡ session.pending_texts self.now) }
     {
         match &self.world {
             Some(world) => waiting(alloc, world, &self.walker),

@@ -1,19 +1,19 @@
 //! What a command shows, and why one is refused.
 ghost use Rattle.std.specs.Prelude.{◌≡◌, [], IfOk};
-ghost use Rattle.ct_play.specs.Effect.{ShowsLines, cut_after, refused_by, shown};
+ghost use Rattle.ct_play.specs.Effect as effect;
 
 use ct_lines::line::ShowCommand;
+use ct_named::named::World;
 use ct_play_text::what::{PlayFault, What};
 use ct_rules_cluster::step::{Step, StepFault};
 use ct_text_commands::command::{TextFault, command_text};
 use ct_values::items::Items;
 use ct_values::memory::NoMemory;
-use ct_world::world::World;
 use std::alloc::Global;
 
 /// Why a step is refused, as why its line is.
 pub fn refused_by(fault: StepFault) -> PlayFault
-    ensures { result ≡ refused_by fault }
+    ensures { result ≡ effect.refused_by fault }
 {
     let what = match fault {
         StepFault::NoSuchNode(node) => What::NoSuchNode(node),
@@ -35,7 +35,7 @@ pub fn refused_by(fault: StepFault) -> PlayFault
 
 /// A text cut after each line feed.
 pub fn cut(alloc: Global, text: &[u8]) -> Result<Vec<Items<u8>>, NoMemory>
-    ensures { IfOk result (λ v. v.items ≡ cut_after [] text.now) }
+    ensures { IfOk result (λ v. v.items ≡ effect.cut_after [] text.now) }
 {
     let mut lines = Vec::new(alloc);
     let mut line = Items::empty(alloc);
@@ -59,7 +59,7 @@ pub fn shown(
     node: u32,
     command: &ShowCommand,
 ) -> Result<Vec<Items<u8>>, PlayFault>
-    ensures { ShowsLines result (shown world.now node command.now) }
+    ensures { effect.ShowsLines result (effect.shown world.now node command.now) }
 {
     let step = Step::Retry(node);
     if let Some(fault) = world.fault(&step) {

@@ -5,11 +5,12 @@ ghost use Rattle.ct_rules_cluster.specs.Faults.{is_allowed};
 ghost use Rattle.ct_rules_cluster.specs.declared.step.Step.TheVariants as step;
 ghost use Rattle.ct_text.specs.Line.{line_text};
 ghost use Rattle.ct_play.specs.Course.{Adds};
-ghost use Rattle.ct_play.specs.Effect.{settled, stepped};
+ghost use Rattle.ct_play.specs.Effect as effect;
 
 use crate::shown::refused_by;
 use crate::walking::tell;
 use ct_call::table::CallTable;
+use ct_named::named::World;
 use ct_play_text::what::PlayFault;
 use ct_rules_cluster::step::{Line, Step};
 use ct_text::line::line_text;
@@ -17,7 +18,6 @@ use ct_traverse::walker::Walker;
 use ct_values::config::Config;
 use ct_values::items::Items;
 use ct_values::memory::NoMemory;
-use ct_world::world::World;
 use std::alloc::Global;
 
 /// The text of each of these lines, after these texts.
@@ -46,7 +46,7 @@ pub fn take(
     texts: &mut Vec<Items<u8>>,
 ) -> Result<(), PlayFault>
     requires { is_allowed step.now ≡ true }
-    ensures { Adds result (stepped (rules_of table.now) world.old walker.old step.now) texts.old.items world.new walker.new texts.new.items }
+    ensures { Adds result (effect.stepped (rules_of table.now) world.old walker.old step.now) texts.old.items world.new walker.new texts.new.items }
 {
     match world.apply(table, step) {
         Ok(lines) => {
@@ -71,7 +71,7 @@ fn deliver(
     number: u64,
     texts: &mut Vec<Items<u8>>,
 ) -> Result<(), PlayFault>
-    ensures { Adds result (stepped (rules_of table.now) world.old walker.old (step.Deliver number)) texts.old.items world.new walker.new texts.new.items }
+    ensures { Adds result (effect.stepped (rules_of table.now) world.old walker.old (step.Deliver number)) texts.old.items world.new walker.new texts.new.items }
 {
     let step = Step::Deliver(number);
     take(alloc, world, walker, table, &step, texts)
@@ -86,7 +86,7 @@ pub fn settle(
     count: u32,
     texts: &mut Vec<Items<u8>>,
 ) -> Result<(), PlayFault>
-    ensures { Adds result (settled (rules_of table.now) count world.old walker.old) texts.old.items world.new walker.new texts.new.items }
+    ensures { Adds result (effect.settled (rules_of table.now) count world.old walker.old) texts.old.items world.new walker.new texts.new.items }
 {
     for i in 0..count {
         match world.next_waiting() {

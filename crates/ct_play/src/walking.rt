@@ -3,12 +3,12 @@ ghost use Rattle.std.specs.Prelude.{◌≡◌, false, IfOk};
 ghost use Rattle.ct_rules_node.specs.Node.{is_persistent, kind_at};
 ghost use Rattle.ct_lines.specs.declared.line.ShowCommand.TheVariants as shows;
 ghost use Rattle.ct_play.specs.Course.{Adds};
-ghost use Rattle.ct_play.specs.Effect.{ShowsLines, TellsMove, Works, catted, message_carried, shown, traverse_begun, traverse_texts, traversed, unmoved_by, walked};
+ghost use Rattle.ct_play.specs.Effect as effect;
 ghost use Rattle.ct_named.specs.Named.{number_in_step};
 
 use crate::shown::{cut, shown};
 use ct_lines::line::{ShowCommand, TraverseLine};
-use ct_named::named::number_in_step;
+use ct_named::named::{World, number_in_step};
 use ct_node_state::kinds::{is_persistent, kind_at};
 use ct_play_text::what::{PlayFault, What};
 use ct_traverse::walker::Walker;
@@ -17,12 +17,11 @@ use ct_traverse_parts::text::push_traverse;
 use ct_values::items::Items;
 use ct_values::memory::NoMemory;
 use ct_values::name::DbName;
-use ct_world::world::World;
 use std::alloc::Global;
 
 /// Why a move of traverses is refused, as why its line is.
 fn unmoved_by(fault: TFault) -> PlayFault
-    ensures { result ≡ unmoved_by fault }
+    ensures { result ≡ effect.unmoved_by fault }
 {
     let what = match fault {
         TFault::NoSuchNode(node) => What::NoSuchNode(node),
@@ -38,7 +37,7 @@ fn unmoved_by(fault: TFault) -> PlayFault
 
 /// The texts of these lines, each by itself.
 fn traverse_texts(alloc: Global, lines: &[TLine]) -> Result<Vec<Items<u8>>, NoMemory>
-    ensures { IfOk result (λ v. v.items ≡ traverse_texts lines.now) }
+    ensures { IfOk result (λ v. v.items ≡ effect.traverse_texts lines.now) }
 {
     let mut text = Vec::new(alloc);
     for line in lines {
@@ -53,7 +52,7 @@ pub fn tell(
     called: Result<Vec<TLine>, TFault>,
     texts: &mut Vec<Items<u8>>,
 ) -> Result<(), PlayFault>
-    ensures { TellsMove called result texts.old.items texts.new.items }
+    ensures { effect.TellsMove called result texts.old.items texts.new.items }
 {
     match called {
         Ok(lines) => {
@@ -81,7 +80,7 @@ fn carry(
     number: u64,
     texts: &mut Vec<Items<u8>>,
 ) -> Result<(), PlayFault>
-    ensures { Adds result (message_carried world.now walker.old number) texts.old.items world.now walker.new texts.new.items }
+    ensures { Adds result (effect.message_carried world.now walker.old number) texts.old.items world.now walker.new texts.new.items }
 {
     tell(alloc, walker.carry(world, number), texts)
 }
@@ -94,7 +93,7 @@ fn walk(
     count: u32,
     texts: &mut Vec<Items<u8>>,
 ) -> Result<(), PlayFault>
-    ensures { Adds result (walked count world.now walker.old) texts.old.items world.now walker.new texts.new.items }
+    ensures { Adds result (effect.walked count world.now walker.old) texts.old.items world.now walker.new texts.new.items }
 {
     for i in 0..count {
         match walker.next_waiting() {
@@ -117,7 +116,7 @@ fn traverse(
     line: &TraverseLine,
     texts: &mut Vec<Items<u8>>,
 ) -> Result<(), PlayFault>
-    ensures { Adds result (traversed world.now walker.old line.now) texts.old.items world.now walker.new texts.new.items }
+    ensures { Adds result (effect.traversed world.now walker.old line.now) texts.old.items world.now walker.new texts.new.items }
 {
     match line {
         TraverseLine::Walk(count) => walk(alloc, world, walker, *count, texts),
@@ -134,7 +133,7 @@ pub fn traversed(
     walker: &mut Walker,
     line: &TraverseLine,
 ) -> Result<Vec<Items<u8>>, PlayFault>
-    ensures { Works result (traversed world.now walker.old line.now) world.now walker.new }
+    ensures { effect.Works result (effect.traversed world.now walker.old line.now) world.now walker.new }
 {
     let mut texts = Vec::new(alloc);
     match traverse(alloc, world, walker, line, &mut texts) {
@@ -153,7 +152,7 @@ fn begun(
     db: u32,
 ) -> Result<Vec<Items<u8>>, PlayFault>
     requires { is_persistent (kind_at world.now.config db) ≡ false }
-    ensures { Works result (traverse_begun world.now walker.old node db) world.now walker.new }
+    ensures { effect.Works result (effect.traverse_begun world.now walker.old node db) world.now walker.new }
 {
     let mut texts = Vec::new(alloc);
     match tell(alloc, walker.begin(world, node, db), &mut texts) {
@@ -169,7 +168,7 @@ fn dumped(
     node: u32,
     name: &DbName,
 ) -> Result<Vec<Items<u8>>, PlayFault>
-    ensures { ShowsLines result (shown world.now node (shows.CatTdb name.now)) }
+    ensures { effect.ShowsLines result (effect.shown world.now node (shows.CatTdb name.now)) }
 {
     let command = ShowCommand::CatTdb(name.copy()?);
     shown(alloc, world, node, &command)
@@ -184,7 +183,7 @@ pub fn catted(
     node: u32,
     name: &DbName,
 ) -> Result<Vec<Items<u8>>, PlayFault>
-    ensures { Works result (catted world.now walker.old node name.now (number_in_step world.now.config name.now)) world.now walker.new }
+    ensures { effect.Works result (effect.catted world.now walker.old node name.now (number_in_step world.now.config name.now)) world.now walker.new }
 {
     let db = number_in_step(world.config(), name);
     if is_persistent(kind_at(world.config(), db)) {

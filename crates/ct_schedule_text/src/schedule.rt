@@ -5,10 +5,10 @@ ghost use Rattle.ct_call.specs.Shown.{rules_of};
 ghost use Rattle.ct_rules_cluster.specs.Faults.{is_allowed};
 ghost use Rattle.ct_rules_config.specs.Configured.{IsConfig};
 ghost use Rattle.ct_text.specs.Line.{line_text, pending_text};
-ghost use Rattle.ct_schedule_text.specs.Counted.{frame_by, last_frame, step_done, steps_done};
+ghost use Rattle.ct_schedule_text.specs.Counted as counted;
 ghost use Rattle.ct_rules_cluster.specs.Cluster.{opening};
 ghost use Rattle.ct_rules_cluster.specs.Traces.{ran};
-ghost use Rattle.ct_schedule_text.specs.Schedule.{command_name, run_text, schedule_text, summary_text};
+ghost use Rattle.ct_schedule_text.specs.Schedule as schedule;
 
 use crate::telling::Lines;
 use ct_call::table::CallTable;
@@ -32,7 +32,7 @@ pub struct Summary {
 }
 
 fn frame_by(before: u64, line: &Line) -> u64
-    ensures { result ≡ frame_by before line.now }
+    ensures { result ≡ counted.frame_by before line.now }
 {
     match line {
         Line::Sent { number, .. } => *number,
@@ -42,7 +42,7 @@ fn frame_by(before: u64, line: &Line) -> u64
 
 /// The number of the last message that lines tell of, or the one before.
 fn last_frame(before: u64, lines: &[Line]) -> u64
-    ensures { result ≡ last_frame before lines.now }
+    ensures { result ≡ counted.last_frame before lines.now }
 {
     let mut last = before;
     for line in lines {
@@ -73,9 +73,9 @@ fn add(
 ) -> Result<u64, NoMemory>
     requires { is_allowed step.now ≡ true }
     ensures config { OnOk result (world.new.config ≡ world.old.config) }
-    ensures cluster { OnOk result (world.new.cluster ≡ (step_done world.old.config (rules_of table.now) world.old.cluster step.now).cluster) }
-    ensures text { OnOk result (text.new.items ≡ text.old.items ++ flat_map (line_text config.now) (step_done world.old.config (rules_of table.now) world.old.cluster step.now).lines) }
-    ensures last { IfOk result (λ last. last ≡ last_frame before (step_done world.old.config (rules_of table.now) world.old.cluster step.now).lines) }
+    ensures cluster { OnOk result (world.new.cluster ≡ (counted.step_done world.old.config (rules_of table.now) world.old.cluster step.now).cluster) }
+    ensures text { OnOk result (text.new.items ≡ text.old.items ++ flat_map (line_text config.now) (counted.step_done world.old.config (rules_of table.now) world.old.cluster step.now).lines) }
+    ensures last { IfOk result (λ last. last ≡ counted.last_frame before (counted.step_done world.old.config (rules_of table.now) world.old.cluster step.now).lines) }
 {
     match world.apply(table, step) {
         Ok(lines) => {
@@ -98,9 +98,9 @@ fn play(
     steps: &[Step],
 ) -> Result<u64, NoMemory>
     requires { list_all is_allowed steps.now ≡ true }
-    ensures cluster { OnOk result (world.new.cluster ≡ (steps_done world.old.config (rules_of table.now) world.old.cluster steps.now).cluster) }
-    ensures text { OnOk result (text.new.items ≡ text.old.items ++ flat_map (line_text config.now) (steps_done world.old.config (rules_of table.now) world.old.cluster steps.now).lines) }
-    ensures last { IfOk result (λ last. last ≡ last_frame 0 (steps_done world.old.config (rules_of table.now) world.old.cluster steps.now).lines) }
+    ensures cluster { OnOk result (world.new.cluster ≡ (counted.steps_done world.old.config (rules_of table.now) world.old.cluster steps.now).cluster) }
+    ensures text { OnOk result (text.new.items ≡ text.old.items ++ flat_map (line_text config.now) (counted.steps_done world.old.config (rules_of table.now) world.old.cluster steps.now).lines) }
+    ensures last { IfOk result (λ last. last ≡ counted.last_frame 0 (counted.steps_done world.old.config (rules_of table.now) world.old.cluster steps.now).lines) }
 {
     let mut last = 0;
     for step in steps {
@@ -121,7 +121,7 @@ fn push_calls(text: &mut Vec<u8>, calls: &[PendingCall], config: &Config) -> Res
 
 /// The word of the command.
 fn push_command(text: &mut Vec<u8>, net: bool) -> Result<(), NoMemory>
-    ensures { OnOk result (text.new.items ≡ text.old.items ++ command_name net) }
+    ensures { OnOk result (text.new.items ≡ text.old.items ++ schedule.command_name net) }
 {
     if net {
         push(text, b"loopback")
@@ -137,7 +137,7 @@ pub fn push_summary(
     summary: &Summary,
     frames: u64,
 ) -> Result<(), NoMemory>
-    ensures { OnOk result (text.new.items ≡ text.old.items ++ summary_text nodes summary.now frames) }
+    ensures { OnOk result (text.new.items ≡ text.old.items ++ schedule.summary_text nodes summary.now frames) }
 {
     push_command(text, summary.net)?;
     push_number(text, b" ", u64::from(nodes))?;
@@ -159,7 +159,7 @@ pub fn text_of_steps(
 ) -> Result<Lines, NoMemory>
     requires config { IsConfig config.now }
     requires allowed { list_all is_allowed steps.now ≡ true }
-    ensures text { IfOk result (λ v. v.text.items ≡ run_text config.now (ran config.now (rules_of table.now) (opening config.now) [] steps.now)) }
+    ensures text { IfOk result (λ v. v.text.items ≡ schedule.run_text config.now (ran config.now (rules_of table.now) (opening config.now) [] steps.now)) }
     ensures sent { IfOk result (λ v. v.sent ≡ length (ran config.now (rules_of table.now) (opening config.now) [] steps.now).cluster.sent) }
 {
     let mut world = World::new(alloc, config)?;
@@ -180,7 +180,7 @@ pub fn schedule_text(
 ) -> Result<Vec<u8>, NoMemory>
     requires config { IsConfig config.now }
     requires allowed { list_all is_allowed steps.now ≡ true }
-    ensures { IfOk result (λ text. text.items ≡ schedule_text config.now (rules_of table.now) steps.now summary.now) }
+    ensures { IfOk result (λ text. text.items ≡ schedule.schedule_text config.now (rules_of table.now) steps.now summary.now) }
 {
     let Lines { mut text, sent } = text_of_steps(alloc, table, config, steps)?;
     push_summary(&mut text, config.nodes, summary, sent)?;

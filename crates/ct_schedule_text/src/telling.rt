@@ -5,7 +5,7 @@ ghost use Rattle.ct_frame.specs.declared.event.Out.TheVariants as out;
 ghost use Rattle.ct_rules_node.specs.Node.{or_zero};
 ghost use Rattle.ct_text.specs.Line.{line_text};
 ghost use Rattle.ct_journal.specs.Order.{next_entry, taken_of, ticket_after};
-ghost use Rattle.ct_schedule_text.specs.Telling.{AddsLines, AreLines, AreUntold, first_telling, is_asked_call, names_no_call, open_call, open_without, entry_passed, told_answered, told_entry, told_event, told_from, told_if_next, told_out, told_outs, told_yield};
+ghost use Rattle.ct_schedule_text.specs.Telling as telling;
 
 use ct_frame::event::{Event, Out};
 use ct_frame::frame::Frame;
@@ -57,15 +57,15 @@ impl Model for Teller {
 /// Is it this call of this node?
 #[tactic(auto, unfolding(crate::specs::Telling::is_asked_call))]
 fn is_asked_call(node: u32, call: u64, asked: &Asked) -> bool
-    ensures { result ≡ is_asked_call node call asked.now }
+    ensures { result ≡ telling.is_asked_call node call asked.now }
 {
     asked.node == node && asked.call == call
 }
 
 /// The place of the open call of this node that has this number there, or behind all where there is none.
 fn place_of(node: u32, call: u64, calls: &[Asked]) -> usize
-    ensures there { slice_get calls.now result ≡ open_call node call calls.now }
-    ensures left { remove calls.now result ≡ open_without node call calls.now }
+    ensures there { slice_get calls.now result ≡ telling.open_call node call calls.now }
+    ensures left { remove calls.now result ≡ telling.open_without node call calls.now }
 {
     for (i, asked) in calls.iter().enumerate() {
         if is_asked_call(node, call, asked) {
@@ -77,8 +77,8 @@ fn place_of(node: u32, call: u64, calls: &[Asked]) -> usize
 
 /// Takes the open call of this node that has this number there off, if there is one.
 fn take_open(calls: &mut Vec<Asked>, node: u32, call: u64) -> Option<Asked>
-    ensures taken { result ≡ open_call node call calls.old.items }
-    ensures left { calls.new.items ≡ open_without node call calls.old.items }
+    ensures taken { result ≡ telling.open_call node call calls.old.items }
+    ensures left { calls.new.items ≡ telling.open_without node call calls.old.items }
 {
     let place = place_of(node, call, calls.as_slice());
     if place < calls.len() {
@@ -90,7 +90,7 @@ fn take_open(calls: &mut Vec<Asked>, node: u32, call: u64) -> Option<Asked>
 /// Does an answer name no other call?
 #[tactic(auto, unfolding(crate::specs::Telling::names_no_call))]
 fn names_no_call(answer: &Answer) -> bool
-    ensures { result ≡ names_no_call answer.now }
+    ensures { result ≡ telling.names_no_call answer.now }
 {
     match answer {
         Answer::Refused(Why::CallPending(_)) => false,
@@ -142,7 +142,7 @@ fn tell_yield(
     node: u32,
     holder: Option<u32>,
 ) -> Result<(), NoMemory>
-    ensures { OnOk result (text.new.items ≡ text.old.items ++ flat_map (line_text config.now) (told_yield node holder)) }
+    ensures { OnOk result (text.new.items ≡ text.old.items ++ flat_map (line_text config.now) (telling.told_yield node holder)) }
 {
     if let Some(other) = holder {
         if other != node {
@@ -156,7 +156,7 @@ impl Teller {
     /// No line is told.
     #[tactic(auto, unfolding(crate::specs::Telling::first_telling, ct_journal::specs::Order::first_front))]
     fn new(alloc: Global, journals: &[Journal]) -> Result<Teller, NoMemory>
-        ensures { IfOk result (λ t. t ≡ first_telling journals.now) }
+        ensures { IfOk result (λ t. t ≡ telling.first_telling journals.now) }
     {
         Ok(Teller {
             taken: Vec::from_elem(alloc, 0, journals.len())?,
@@ -191,7 +191,7 @@ impl Teller {
         node: u32,
         frame: &Frame,
     ) -> Result<bool, NoMemory>
-        ensures { IfOk result (λ told. AddsLines config.now told (told_out node (out.Send frame.now) self.old) self.new text.old.items text.new.items) }
+        ensures { IfOk result (λ told. telling.AddsLines config.now told (telling.told_out node (out.Send frame.now) self.old) self.new text.old.items text.new.items) }
     {
         if LIMIT - 1 <= self.sent {
             return Ok(false);
@@ -211,7 +211,7 @@ impl Teller {
         call: u64,
         answer: &Answer,
     ) -> Result<bool, NoMemory>
-        ensures { IfOk result (λ told. AddsLines config.now told (told_answered node call answer.now self.old (open_call node call self.old.calls)) self.new text.old.items text.new.items) }
+        ensures { IfOk result (λ told. telling.AddsLines config.now told (telling.told_answered node call answer.now self.old (telling.open_call node call self.old.calls)) self.new text.old.items text.new.items) }
     {
         match take_open(&mut self.calls, node, call) {
             Some(asked) => {
@@ -231,7 +231,7 @@ impl Teller {
         node: u32,
         out: &Out,
     ) -> Result<bool, NoMemory>
-        ensures { IfOk result (λ told. AddsLines config.now told (told_out node out.now self.old) self.new text.old.items text.new.items) }
+        ensures { IfOk result (λ told. telling.AddsLines config.now told (telling.told_out node out.now self.old) self.new text.old.items text.new.items) }
     {
         match out {
             Out::Send(frame) => self.tell_sent(text, config, node, frame),
@@ -257,7 +257,7 @@ impl Teller {
         node: u32,
         outs: &[Out],
     ) -> Result<bool, NoMemory>
-        ensures { IfOk result (λ told. AddsLines config.now told (told_outs node outs.now self.old) self.new text.old.items text.new.items) }
+        ensures { IfOk result (λ told. telling.AddsLines config.now told (telling.told_outs node outs.now self.old) self.new text.old.items text.new.items) }
     {
         for out in outs {
             if !self.tell_out(text, config, node, out)? {
@@ -279,7 +279,7 @@ impl Teller {
         event: &Event,
     ) -> Result<bool, NoMemory>
         ensures front { self.new.front ≡ self.old.front }
-        ensures lines { IfOk result (λ told. AddsLines config.now told (told_event node event.now self.old) self.new text.old.items text.new.items) }
+        ensures lines { IfOk result (λ told. telling.AddsLines config.now told (telling.told_event node event.now self.old) self.new text.old.items text.new.items) }
     {
         match event {
             Event::Client { call, .. } => {
@@ -313,7 +313,7 @@ impl Teller {
     fn pass(&mut self, node: u32, event: &Event)
         requires there { node < length self.old.front.taken }
         requires room { taken_of self.old.front node < 2 ^ 64 - 1 }
-        ensures { self.new ≡ entry_passed node event.now self.old }
+        ensures { self.new ≡ telling.entry_passed node event.now self.old }
     {
         count_taken(&mut self.taken, node);
         self.ticket = ticket_after(event, self.ticket);
@@ -330,7 +330,7 @@ impl Teller {
     ) -> Result<bool, NoMemory>
         requires there { node < length self.old.front.taken }
         requires room { taken_of self.old.front node < 2 ^ 64 - 1 }
-        ensures { IfOk result (λ told. AddsLines config.now told (told_entry node entry.now self.old) self.new text.old.items text.new.items) }
+        ensures { IfOk result (λ told. telling.AddsLines config.now told (telling.told_entry node entry.now self.old) self.new text.old.items text.new.items) }
     {
         if !self.tell_event(text, config, node, &entry.event)? {
             return Ok(false);
@@ -365,7 +365,7 @@ impl Teller {
         node: u32,
     ) -> Result<bool, NoMemory>
         requires places { length self.old.front.taken ≡ length journals.now }
-        ensures { IfOk result (λ told. AddsLines config.now told (told_if_next node (next_entry journals.now self.old.front node) self.old) self.new text.old.items text.new.items) }
+        ensures { IfOk result (λ told. telling.AddsLines config.now told (telling.told_if_next node (next_entry journals.now self.old.front node) self.old) self.new text.old.items text.new.items) }
     {
         match self.next_entry(journals, node) {
             Some(entry) => self.tell_entry(text, config, node, entry),
@@ -382,7 +382,7 @@ impl Teller {
         order: &[u32],
     ) -> Result<bool, NoMemory>
         requires places { length self.old.front.taken ≡ length journals.now }
-        ensures { IfOk result (λ told. AddsLines config.now told (told_from journals.now order.now self.old) self.new text.old.items text.new.items) }
+        ensures { IfOk result (λ told. telling.AddsLines config.now told (telling.told_from journals.now order.now self.old) self.new text.old.items text.new.items) }
     {
         for node in order {
             if !self.tell_next(text, config, journals, *node)? {
@@ -403,7 +403,7 @@ pub fn lines_of(
     journals: &[Journal],
     order: &[u32],
 ) -> Result<Option<Lines>, NoMemory>
-    ensures { IfOk result (λ o. MatchOption o (AreUntold journals.now order.now) (λ v. AreLines config.now journals.now order.now v.text.items v.sent)) }
+    ensures { IfOk result (λ o. MatchOption o (telling.AreUntold journals.now order.now) (λ v. telling.AreLines config.now journals.now order.now v.text.items v.sent)) }
 {
     let mut teller = Teller::new(alloc, journals)?;
     let mut text = Vec::new(alloc);

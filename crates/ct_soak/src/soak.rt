@@ -5,7 +5,7 @@ ghost use Rattle.ct_values.specs.Name.{bad_byte};
 ghost use Rattle.ct_lines.specs.declared.line.Command.TheVariants.{Steps};
 ghost use Rattle.ct_lines.specs.declared.line.StepCommand.TheVariants as command;
 ghost use Rattle.ct_lines.specs.Spelled.{IsInRange};
-ghost use Rattle.ct_soak.specs.Soak.{IsView, call, commit_line, is_first, key_in, kind_in, letter_in, line_of_kind, members_with, message_in, message_line, name_in, node_in, number_in, pair_in, record_line, round_line, runs, soak_line, turn_line, value_in};
+ghost use Rattle.ct_soak.specs.Soak as soak;
 
 use ct_lines::line::{Command, NamedOp, ScenarioLine, StepCommand};
 use ct_rules_cluster::step::Step;
@@ -21,7 +21,7 @@ use std::alloc::Global;
 /// Which kind of line.
 #[tactic(auto, unfolding(crate::specs::Soak::kind_in))]
 fn kind_in(word: u32) -> u32
-    ensures { result ≡ kind_in word }
+    ensures { result ≡ soak.kind_in word }
 {
     word % 32
 }
@@ -29,7 +29,7 @@ fn kind_in(word: u32) -> u32
 /// At which node.
 #[tactic(auto, unfolding(crate::specs::Soak::node_in))]
 fn node_in(word: u32) -> u32
-    ensures { result ≡ node_in word }
+    ensures { result ≡ soak.node_in word }
 {
     word / 32 % 4
 }
@@ -37,7 +37,7 @@ fn node_in(word: u32) -> u32
 /// One of the letters `a` to `h`.
 #[tactic(auto, unfolding(crate::specs::Soak::letter_in))]
 fn letter_in(word: u32) -> u8
-    ensures { result ≡ letter_in word }
+    ensures { result ≡ soak.letter_in word }
 {
     b'a' + (word / 128 % 8) as u8
 }
@@ -45,7 +45,7 @@ fn letter_in(word: u32) -> u8
 /// Is it the database `t`?
 #[tactic(auto, unfolding(crate::specs::Soak::is_first))]
 fn is_first(word: u32) -> bool
-    ensures { result ≡ is_first word }
+    ensures { result ≡ soak.is_first word }
 {
     word / 1024 % 2 == 0
 }
@@ -53,7 +53,7 @@ fn is_first(word: u32) -> bool
 /// A number below 1,000.
 #[tactic(auto, unfolding(crate::specs::Soak::number_in))]
 fn number_in(word: u32) -> u32
-    ensures exact { result ≡ number_in word }
+    ensures exact { result ≡ soak.number_in word }
     ensures below { result < 1000 }
 {
     word / 2048 % 1000
@@ -63,13 +63,13 @@ fn number_in(word: u32) -> u32
 #[tactic(auto, unfolding(crate::specs::Soak::message_in))]
 fn message_in(word: u32, sent: u64) -> u64
     requires { sent < 2 ^ 62 }
-    ensures { result ≡ message_in word sent }
+    ensures { result ≡ soak.message_in word sent }
 {
     1 + u64::from(word / 2048) % (sent + 1)
 }
 
 fn key_in(alloc: Global, word: u32) -> Result<Key, NoMemory>
-    ensures { IfOk result (λ key. key ≡ key_in word) }
+    ensures { IfOk result (λ key. key ≡ soak.key_in word) }
 {
     let mut bytes = Vec::new(alloc);
     bytes.push(letter_in(word))?;
@@ -81,7 +81,7 @@ fn key_in(alloc: Global, word: u32) -> Result<Key, NoMemory>
 
 #[tactic(auto, using(crate::proofs::Ranges::short))]
 fn value_in(alloc: Global, word: u32) -> Result<Value, NoMemory>
-    ensures { IfOk result (λ value. value ≡ value_in word) }
+    ensures { IfOk result (λ value. value ≡ soak.value_in word) }
 {
     let mut text = Vec::new(alloc);
     push_decimal(&mut text, u64::from(number_in(word)))?;
@@ -92,7 +92,7 @@ fn value_in(alloc: Global, word: u32) -> Result<Value, NoMemory>
 }
 
 fn pair_in(alloc: Global, word: u32) -> Result<Pair, NoMemory>
-    ensures { IfOk result (λ pair. pair ≡ pair_in word) }
+    ensures { IfOk result (λ pair. pair ≡ soak.pair_in word) }
 {
     let key = key_in(alloc, word)?;
     let value = value_in(alloc, word)?;
@@ -115,7 +115,7 @@ fn named(alloc: Global, name: &[u8]) -> Result<DbName, NoMemory>
 }
 
 fn name_in(alloc: Global, word: u32) -> Result<DbName, NoMemory>
-    ensures { IfOk result (λ db. db ≡ name_in word) }
+    ensures { IfOk result (λ db. db ≡ soak.name_in word) }
 {
     if is_first(word) {
         named(alloc, b"t")
@@ -126,7 +126,7 @@ fn name_in(alloc: Global, word: u32) -> Result<DbName, NoMemory>
 
 /// Does the node run?
 fn runs(running: &[bool], node: u32) -> bool
-    ensures { result ≡ runs running.now node }
+    ensures { result ≡ soak.runs running.now node }
 {
     match running.get(node as usize) {
         Some(runs) => *runs,
@@ -140,7 +140,7 @@ fn members_among(
     node: u32,
     running: &[bool],
 ) -> Result<Items<u32>, NoMemory>
-    ensures { IfOk result (λ members. members ≡ filter (λ n. runs running.now n || nat_eq n node) nodes.now) }
+    ensures { IfOk result (λ members. members ≡ filter (λ n. soak.runs running.now n || nat_eq n node) nodes.now) }
 {
     let mut members = Items::empty(alloc);
     for n in nodes {
@@ -153,14 +153,14 @@ fn members_among(
 
 /// The nodes that run, and this one.
 fn members_with(alloc: Global, node: u32, running: &[bool]) -> Result<Items<u32>, NoMemory>
-    ensures { IfOk result (λ members. members ≡ members_with node running.now) }
+    ensures { IfOk result (λ members. members ≡ soak.members_with node running.now) }
 {
     members_among(alloc, &[0, 1, 2, 3], node, running)
 }
 
 /// A call at the node on the database.
 fn call(alloc: Global, word: u32, op: NamedOp) -> Result<ScenarioLine, NoMemory>
-    ensures { IfOk result (λ line. line ≡ call word op) }
+    ensures { IfOk result (λ line. line ≡ soak.call word op) }
 {
     Ok(ScenarioLine::ByName {
         node: node_in(word),
@@ -170,7 +170,7 @@ fn call(alloc: Global, word: u32, op: NamedOp) -> Result<ScenarioLine, NoMemory>
 }
 
 fn write_key(alloc: Global, word: u32) -> Result<Command, NoMemory>
-    ensures { IfOk result (λ c. c ≡ Steps (command.WriteKey (name_in word) (key_in word) (value_in word))) }
+    ensures { IfOk result (λ c. c ≡ Steps (command.WriteKey (soak.name_in word) (soak.key_in word) (soak.value_in word))) }
 {
     let db = name_in(alloc, word)?;
     let key = key_in(alloc, word)?;
@@ -180,7 +180,7 @@ fn write_key(alloc: Global, word: u32) -> Result<Command, NoMemory>
 
 /// A call on a record, by its kind below 17.
 fn record_line(alloc: Global, word: u32, kind: u32) -> Result<ScenarioLine, NoMemory>
-    ensures { IfOk result (λ line. line ≡ record_line word kind) }
+    ensures { IfOk result (λ line. line ≡ soak.record_line word kind) }
 {
     if kind < 4 {
         call(alloc, word, NamedOp::Lock(key_in(alloc, word)?))
@@ -215,7 +215,7 @@ fn record_line(alloc: Global, word: u32, kind: u32) -> Result<ScenarioLine, NoMe
 /// A step of a message, by its kind from 25 and below 28. It takes no memory.
 fn message_line(word: u32, sent: u64, kind: u32) -> ScenarioLine
     requires { sent < 2 ^ 62 }
-    ensures { result ≡ message_line word sent kind }
+    ensures { result ≡ soak.message_line word sent kind }
 {
     let number = message_in(word, sent);
     if kind == 25 {
@@ -229,7 +229,7 @@ fn message_line(word: u32, sent: u64, kind: u32) -> ScenarioLine
 
 /// Each eighth one is a round; the others ask for the lock of database `p`.
 fn round_line(alloc: Global, word: u32, running: &[bool]) -> Result<ScenarioLine, NoMemory>
-    ensures { IfOk result (λ line. line ≡ round_line word running.now) }
+    ensures { IfOk result (λ line. line ≡ soak.round_line word running.now) }
 {
     let node = node_in(word);
     if number_in(word) % 8 == 0 {
@@ -260,7 +260,7 @@ fn database_key(alloc: Global) -> Result<Key, NoMemory>
 
 /// The node stops, or starts where it is down. It takes no memory.
 fn turn_line(word: u32, running: &[bool]) -> ScenarioLine
-    ensures { result ≡ turn_line word running.now }
+    ensures { result ≡ soak.turn_line word running.now }
 {
     let node = node_in(word);
     if runs(running, node) {
@@ -272,7 +272,7 @@ fn turn_line(word: u32, running: &[bool]) -> ScenarioLine
 
 /// Each sixteenth one stops or starts a node; the others commit.
 fn commit_line(alloc: Global, word: u32, running: &[bool]) -> Result<ScenarioLine, NoMemory>
-    ensures { IfOk result (λ line. line ≡ commit_line word running.now) }
+    ensures { IfOk result (λ line. line ≡ soak.commit_line word running.now) }
 {
     if number_in(word) % 16 == 0 {
         return Ok(turn_line(word, running));
@@ -294,7 +294,7 @@ fn line_of_kind(
     kind: u32,
 ) -> Result<ScenarioLine, NoMemory>
     requires { sent < 2 ^ 62 }
-    ensures { IfOk result (λ line. line ≡ line_of_kind word (record { sent = sent; running = running.now }) kind) }
+    ensures { IfOk result (λ line. line ≡ soak.line_of_kind word (record { sent = sent; running = running.now }) kind) }
 {
     if kind < 17 {
         record_line(alloc, word, kind)
@@ -326,8 +326,8 @@ pub fn soak_line(
     sent: u64,
     running: &[bool],
 ) -> Result<ScenarioLine, NoMemory>
-    requires { IsView (record { sent = sent; running = running.now }) }
-    ensures exact { IfOk result (λ line. line ≡ soak_line word (record { sent = sent; running = running.now })) }
+    requires { soak.IsView (record { sent = sent; running = running.now }) }
+    ensures exact { IfOk result (λ line. line ≡ soak.soak_line word (record { sent = sent; running = running.now })) }
     ensures in_range { IfOk result IsInRange }
 {
     line_of_kind(alloc, word, sent, running, kind_in(word))

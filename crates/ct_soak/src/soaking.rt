@@ -3,20 +3,19 @@ ghost use Rattle.std.specs.Prelude.{◌≡◌, ◌≤◌, ◌<◌, ◌+◌, ◌^
 ghost use Rattle.ct_call.specs.Shown.{rules_of};
 ghost use Rattle.ct_rules_cluster.specs.Faults.{is_allowed};
 ghost use Rattle.ct_rules_cluster.specs.Steps.{applied};
-ghost use Rattle.ct_lines.specs.Spelled.{IsCommand, IsInRange};
+ghost use Rattle.ct_lines.specs.Spelled as spelled;
 ghost use Rattle.ct_soak.specs.Counts.{IsCounted, calls_after, is_taken, last_sent, last_ticket, sent_by, ticket_by};
 ghost use Rattle.ct_soak.specs.Soaking.{Soaked, commanded, counts_text, first, line_took, settled, soak_config, soak_text, took, word_took};
 
 use crate::soak::soak_line;
 use ct_call::table::CallTable;
 use ct_lines::line::{Command, ScenarioLine};
-use ct_named::named::{command_step, named_step, number_in_step};
+use ct_named::named::{World, command_step, named_step, number_in_step};
 use ct_rules_cluster::step::{Line, Step, StepFault};
 use ct_script::generated::generated_config;
 use ct_text::words::{push, push_number};
 use ct_values::config::Config;
 use ct_values::memory::NoMemory;
-use ct_world::world::World;
 use rand_core::utils::NextWord;
 use rand_pcg::Lcg64Xsh32;
 use std::alloc::Global;
@@ -169,7 +168,7 @@ impl Soaking {
         node: u32,
         command: &Command,
     ) -> Result<(), NoMemory>
-        requires range { IsCommand command.now }
+        requires range { spelled.IsCommand command.now }
         requires room { self.old.skipped + 1 < 2 ^ 64 }
         ensures took { OnOk result (self.new ≡ commanded (rules_of table.now) self.old node command.now) }
         ensures room { OnOk result (self.new.skipped ≤ self.old.skipped + 1) }
@@ -188,7 +187,7 @@ impl Soaking {
     /// What a line does.
     #[tactic(auto, using(ct_named::proofs::Allowed::change_allowed, ct_named::proofs::Allowed::named_allowed))]
     fn line(&mut self, alloc: Global, table: &CallTable, line: ScenarioLine) -> Result<(), NoMemory>
-        requires range { IsInRange line }
+        requires range { spelled.IsInRange line }
         requires room { self.old.skipped + 1 < 2 ^ 64 }
         ensures took { OnOk result (self.new ≡ line_took (rules_of table.now) self.old line) }
         ensures room { OnOk result (self.new.skipped ≤ self.old.skipped + 1) }

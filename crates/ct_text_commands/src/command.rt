@@ -1,7 +1,7 @@
 //! The text of a command that shows something.
 ghost use Rattle.std.specs.Prelude.{◌≡◌, Some, IfOk};
 ghost use Rattle.ct_text_commands.specs.Command.{Tells, cat_text, command_text, dump_text, seq_text, seqnum_text};
-ghost use Rattle.ct_text_commands.specs.Lists.{db_named, dbs_text, ip_text, nodes_text, pnn_text};
+ghost use Rattle.ct_text_commands.specs.Lists as lists;
 ghost use Rattle.ct_text_commands.specs.Status.{status_text};
 ghost use Rattle.ct_law_form.specs.Whole.{HasLimits};
 
@@ -41,7 +41,7 @@ impl From<NoMemory> for TextFault {
 }
 
 fn pnn_text(alloc: Global, core: &Core) -> Result<Vec<u8>, NoMemory>
-    ensures { IfOk result (λ v. v.items ≡ pnn_text core.now.pnn) }
+    ensures { IfOk result (λ v. v.items ≡ lists.pnn_text core.now.pnn) }
 {
     let mut text = Vec::new(alloc);
     push_pnn(&mut text, core.pnn())?;
@@ -49,7 +49,7 @@ fn pnn_text(alloc: Global, core: &Core) -> Result<Vec<u8>, NoMemory>
 }
 
 fn nodes_text(alloc: Global, core: &Core) -> Result<Vec<u8>, NoMemory>
-    ensures { IfOk result (λ v. v.items ≡ nodes_text core.now.config) }
+    ensures { IfOk result (λ v. v.items ≡ lists.nodes_text core.now.config) }
 {
     let mut text = Vec::new(alloc);
     push_nodes(&mut text, core.config())?;
@@ -83,7 +83,7 @@ fn status_text(
 }
 
 fn ip_text(alloc: Global, core: &Core) -> Result<Vec<u8>, NoMemory>
-    ensures { IfOk result (λ v. v.items ≡ ip_text core.now.config core.now.pnn core.now.node.placement) }
+    ensures { IfOk result (λ v. v.items ≡ lists.ip_text core.now.config core.now.pnn core.now.node.placement) }
 {
     let mut text = Vec::new(alloc);
     push_ip(&mut text, core.config(), core.pnn(), core.placement())?;
@@ -91,7 +91,7 @@ fn ip_text(alloc: Global, core: &Core) -> Result<Vec<u8>, NoMemory>
 }
 
 fn dbs_text(alloc: Global, core: &Core) -> Result<Vec<u8>, NoMemory>
-    ensures { IfOk result (λ v. v.items ≡ dbs_text core.now.config) }
+    ensures { IfOk result (λ v. v.items ≡ lists.dbs_text core.now.config) }
 {
     let mut text = Vec::new(alloc);
     push_dbs(&mut text, core.config())?;
@@ -112,7 +112,7 @@ fn dump_text(alloc: Global, core: &Core, db: u32) -> Result<Vec<u8>, NoMemory>
 
 fn cat_text(alloc: Global, core: &Core, name: &DbName) -> Result<Vec<u8>, TextFault>
     requires { HasLimits core.now.config }
-    ensures { Tells (λ v. v.items) result (cat_text core.now.config core.now.node (db_named core.now.config name.now)) }
+    ensures { Tells (λ v. v.items) result (cat_text core.now.config core.now.node (lists.db_named core.now.config name.now)) }
 {
     match db_named(core.config(), name) {
         Some(db) => Ok(dump_text(alloc, core, db)?),
@@ -140,7 +140,7 @@ fn seqnum_of(alloc: Global, core: &Core, db: u32) -> Result<Vec<u8>, TextFault>
 
 fn seqnum_text(alloc: Global, core: &Core, name: &DbName) -> Result<Vec<u8>, TextFault>
     requires { HasLimits core.now.config }
-    ensures { Tells (λ v. v.items) result (seqnum_text core.now.config core.now.node (db_named core.now.config name.now)) }
+    ensures { Tells (λ v. v.items) result (seqnum_text core.now.config core.now.node (lists.db_named core.now.config name.now)) }
 {
     match db_named(core.config(), name) {
         Some(db) => seqnum_of(alloc, core, db),

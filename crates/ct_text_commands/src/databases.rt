@@ -2,7 +2,7 @@
 ghost use Rattle.std.specs.Prelude.{◌≡◌, ◌<◌, ◌^◌, ◌++◌, length, nat_eq, OnOk};
 ghost use Rattle.std.specs.Cmp.Lexicographic.{pointwise};
 ghost use Rattle.ct_text_commands.specs.Command.{seq_text};
-ghost use Rattle.ct_text_commands.specs.Lists.{db_line, db_named, dbs_text, kind_text};
+ghost use Rattle.ct_text_commands.specs.Lists as lists;
 
 use crate::lines::push_number_line;
 use ct_text::words::{push, push_number};
@@ -20,7 +20,7 @@ fn has_name(decl: &DbDecl, name: &DbName) -> bool
 #[tactic(auto, unfolding(crate::specs::Lists::db_named))]
 pub fn db_named(config: &Config, name: &DbName) -> Option<u32>
     requires { length config.now.dbs < 2 ^ 32 }
-    ensures { result ≡ db_named config.now name.now }
+    ensures { result ≡ lists.db_named config.now name.now }
 {
     for (i, decl) in config.dbs.as_slice().iter().enumerate() {
         if has_name(decl, name) {
@@ -31,7 +31,7 @@ pub fn db_named(config: &Config, name: &DbName) -> Option<u32>
 }
 
 fn push_kind(text: &mut Vec<u8>, kind: DbKind) -> Result<(), NoMemory>
-    ensures { OnOk result (text.new.items ≡ text.old.items ++ kind_text kind) }
+    ensures { OnOk result (text.new.items ≡ text.old.items ++ lists.kind_text kind) }
 {
     match kind {
         DbKind::Volatile => Ok(()),
@@ -42,7 +42,7 @@ fn push_kind(text: &mut Vec<u8>, kind: DbKind) -> Result<(), NoMemory>
 
 /// A database with its number.
 fn push_db(text: &mut Vec<u8>, number: u64, decl: &DbDecl) -> Result<(), NoMemory>
-    ensures { OnOk result (text.new.items ≡ text.old.items ++ db_line number decl.now) }
+    ensures { OnOk result (text.new.items ≡ text.old.items ++ lists.db_line number decl.now) }
 {
     push_number(text, b"dbid:", number)?;
     push(text, b" name:")?;
@@ -54,7 +54,7 @@ fn push_db(text: &mut Vec<u8>, number: u64, decl: &DbDecl) -> Result<(), NoMemor
 /// Each database of the configuration.
 #[tactic(auto, unfolding(crate::specs::Lists::dbs_text))]
 pub(crate) fn push_dbs(text: &mut Vec<u8>, config: &Config) -> Result<(), NoMemory>
-    ensures { OnOk result (text.new.items ≡ text.old.items ++ dbs_text config.now) }
+    ensures { OnOk result (text.new.items ≡ text.old.items ++ lists.dbs_text config.now) }
 {
     for (number, decl) in config.dbs.as_slice().iter().enumerate() {
         push_db(text, number as u64, decl)?;

@@ -1,9 +1,9 @@
 //! The texts that tell of nodes. Each is written at the end of a text.
 ghost use Rattle.std.specs.Prelude.{◌≡◌, ◌++◌, codes, slice_get, OnOk};
-ghost use Rattle.ct_text_commands.specs.Lists.{ip_text, node_line, nodes_text, place_line, places_text, pnn_text};
+ghost use Rattle.ct_text_commands.specs.Lists as lists;
 ghost use Rattle.ct_rules_cluster.specs.Cluster.{is_true};
 ghost use Rattle.ct_text.specs.Words.{node_text};
-ghost use Rattle.ct_text_commands.specs.Status.{current_text, generation_text, leader_text, master_line, master_lines, mode_text, own_text, size_line, state_line, state_text, states_text, told_text};
+ghost use Rattle.ct_text_commands.specs.Status as status;
 
 use crate::lines::push_number_line;
 use ct_frame::frame::Assigned;
@@ -16,14 +16,14 @@ use ct_values::memory::NoMemory;
 
 /// The number of a node.
 pub(crate) fn push_pnn(text: &mut Vec<u8>, node: u32) -> Result<(), NoMemory>
-    ensures { OnOk result (text.new.items ≡ text.old.items ++ pnn_text node) }
+    ensures { OnOk result (text.new.items ≡ text.old.items ++ lists.pnn_text node) }
 {
     push_number_line(text, b"PNN:", u64::from(node))
 }
 
 /// A line for a node.
 fn push_node_line(text: &mut Vec<u8>, node: u32) -> Result<(), NoMemory>
-    ensures { OnOk result (text.new.items ≡ text.old.items ++ node_line node) }
+    ensures { OnOk result (text.new.items ≡ text.old.items ++ lists.node_line node) }
 {
     push_number_line(text, b"node ", u64::from(node))
 }
@@ -31,7 +31,7 @@ fn push_node_line(text: &mut Vec<u8>, node: u32) -> Result<(), NoMemory>
 /// Each node of the configuration.
 #[tactic(auto, unfolding(crate::specs::Lists::nodes_text, ct_rules_cluster::specs::Cluster::everyone, ct_rules_cluster::specs::Cluster::numbers))]
 pub(crate) fn push_nodes(text: &mut Vec<u8>, config: &Config) -> Result<(), NoMemory>
-    ensures { OnOk result (text.new.items ≡ text.old.items ++ nodes_text config.now) }
+    ensures { OnOk result (text.new.items ≡ text.old.items ++ lists.nodes_text config.now) }
 {
     for node in 0..config.nodes {
         push_node_line(text, node)?;
@@ -58,7 +58,7 @@ fn push_state(
     able: &[bool],
     node: u32,
 ) -> Result<(), NoMemory>
-    ensures { OnOk result (text.new.items ≡ text.old.items ++ state_text running.now able.now node) }
+    ensures { OnOk result (text.new.items ≡ text.old.items ++ status.state_text running.now able.now node) }
 {
     if !is_marked(running, node) {
         return push(text, b"DISCONNECTED");
@@ -72,7 +72,7 @@ fn push_state(
 
 /// What stands behind the node that is asked.
 fn push_own(text: &mut Vec<u8>, own: u32, node: u32) -> Result<(), NoMemory>
-    ensures { OnOk result (text.new.items ≡ text.old.items ++ own_text own node) }
+    ensures { OnOk result (text.new.items ≡ text.old.items ++ status.own_text own node) }
 {
     if node == own {
         return push(text, b" (THIS NODE)");
@@ -88,7 +88,7 @@ fn push_state_line(
     able: &[bool],
     node: u32,
 ) -> Result<(), NoMemory>
-    ensures { OnOk result (text.new.items ≡ text.old.items ++ state_line own running.now able.now node) }
+    ensures { OnOk result (text.new.items ≡ text.old.items ++ status.state_line own running.now able.now node) }
 {
     push_number(text, b"pnn:", u64::from(node))?;
     push(text, b" ")?;
@@ -106,7 +106,7 @@ pub(crate) fn push_states(
     running: &[bool],
     able: &[bool],
 ) -> Result<(), NoMemory>
-    ensures { OnOk result (text.new.items ≡ text.old.items ++ states_text config.now own running.now able.now) }
+    ensures { OnOk result (text.new.items ≡ text.old.items ++ status.states_text config.now own running.now able.now) }
 {
     for node in 0..config.nodes {
         push_state_line(text, own, running, able, node)?;
@@ -116,7 +116,7 @@ pub(crate) fn push_states(
 
 /// A location master by its place.
 fn push_master(text: &mut Vec<u8>, place: u64, master: u32) -> Result<(), NoMemory>
-    ensures { OnOk result (text.new.items ≡ text.old.items ++ master_line place master) }
+    ensures { OnOk result (text.new.items ≡ text.old.items ++ status.master_line place master) }
 {
     push_number(text, b"hash:", place)?;
     push_number_line(text, b" lmaster:", u64::from(master))
@@ -124,7 +124,7 @@ fn push_master(text: &mut Vec<u8>, place: u64, master: u32) -> Result<(), NoMemo
 
 /// The location masters by their places.
 fn push_masters(text: &mut Vec<u8>, members: &[u32]) -> Result<(), NoMemory>
-    ensures { OnOk result (text.new.items ≡ text.old.items ++ master_lines 0 members.now) }
+    ensures { OnOk result (text.new.items ≡ text.old.items ++ status.master_lines 0 members.now) }
 {
     for (place, member) in members.iter().enumerate() {
         push_master(text, place as u64, *member)?;
@@ -134,7 +134,7 @@ fn push_masters(text: &mut Vec<u8>, members: &[u32]) -> Result<(), NoMemory>
 
 /// How many members there are.
 fn push_size(text: &mut Vec<u8>, members: &[u32]) -> Result<(), NoMemory>
-    ensures { OnOk result (text.new.items ≡ text.old.items ++ size_line members.now) }
+    ensures { OnOk result (text.new.items ≡ text.old.items ++ status.size_line members.now) }
 {
     push_number_line(text, b"Size:", members.len() as u64)
 }
@@ -142,7 +142,7 @@ fn push_size(text: &mut Vec<u8>, members: &[u32]) -> Result<(), NoMemory>
 /// A generation and its members.
 #[tactic(auto, using(crate::proofs::Numbers::three_parts), unfolding(crate::specs::Status::current_text))]
 fn push_current(text: &mut Vec<u8>, generation: u64, members: &[u32]) -> Result<(), NoMemory>
-    ensures { OnOk result (text.new.items ≡ text.old.items ++ current_text generation members.now) }
+    ensures { OnOk result (text.new.items ≡ text.old.items ++ status.current_text generation members.now) }
 {
     push_number_line(text, b"Generation:", generation)?;
     push_size(text, members)?;
@@ -151,7 +151,7 @@ fn push_current(text: &mut Vec<u8>, generation: u64, members: &[u32]) -> Result<
 
 /// The generation, where there is one, and its members.
 fn push_generation(text: &mut Vec<u8>, generation: u64, members: &[u32]) -> Result<(), NoMemory>
-    ensures { OnOk result (text.new.items ≡ text.old.items ++ generation_text generation members.now) }
+    ensures { OnOk result (text.new.items ≡ text.old.items ++ status.generation_text generation members.now) }
 {
     if generation == 0 {
         return push(text, b"Generation:INVALID\nSize:0\n");
@@ -161,7 +161,7 @@ fn push_generation(text: &mut Vec<u8>, generation: u64, members: &[u32]) -> Resu
 
 /// Does the node serve?
 fn push_mode(text: &mut Vec<u8>, serves: bool) -> Result<(), NoMemory>
-    ensures { OnOk result (text.new.items ≡ text.old.items ++ mode_text serves) }
+    ensures { OnOk result (text.new.items ≡ text.old.items ++ status.mode_text serves) }
 {
     if serves {
         push(text, b"Recovery mode:NORMAL (0)\n")
@@ -172,7 +172,7 @@ fn push_mode(text: &mut Vec<u8>, serves: bool) -> Result<(), NoMemory>
 
 /// Who pushed what was installed last.
 fn push_leader(text: &mut Vec<u8>, leader: Option<u32>) -> Result<(), NoMemory>
-    ensures { OnOk result (text.new.items ≡ text.old.items ++ leader_text leader) }
+    ensures { OnOk result (text.new.items ≡ text.old.items ++ status.leader_text leader) }
 {
     match leader {
         None => push(text, b"Leader:UNKNOWN\n"),
@@ -189,7 +189,7 @@ pub(crate) fn push_told(
     serves: bool,
     leader: Option<u32>,
 ) -> Result<(), NoMemory>
-    ensures { OnOk result (text.new.items ≡ text.old.items ++ told_text generation members.now serves leader) }
+    ensures { OnOk result (text.new.items ≡ text.old.items ++ status.told_text generation members.now serves leader) }
 {
     push_generation(text, generation, members)?;
     push_mode(text, serves)?;
@@ -208,7 +208,7 @@ fn push_node(text: &mut Vec<u8>, node: Option<u32>) -> Result<(), NoMemory>
 
 /// An address and the node that it is known to be at.
 fn push_place(text: &mut Vec<u8>, placement: &[Assigned], address: Address) -> Result<(), NoMemory>
-    ensures { OnOk result (text.new.items ≡ text.old.items ++ place_line placement.now address) }
+    ensures { OnOk result (text.new.items ≡ text.old.items ++ lists.place_line placement.now address) }
 {
     push_address(text, address)?;
     push(text, b" ")?;
@@ -219,7 +219,7 @@ fn push_place(text: &mut Vec<u8>, placement: &[Assigned], address: Address) -> R
 /// Each public address of the configuration, as a node knows where it is.
 #[tactic(auto, unfolding(crate::specs::Lists::places_text))]
 fn push_places(text: &mut Vec<u8>, config: &Config, placement: &[Assigned]) -> Result<(), NoMemory>
-    ensures { OnOk result (text.new.items ≡ text.old.items ++ places_text config.now placement.now) }
+    ensures { OnOk result (text.new.items ≡ text.old.items ++ lists.places_text config.now placement.now) }
 {
     for address in config.addresses.as_slice() {
         push_place(text, placement, *address)?;
@@ -235,7 +235,7 @@ pub(crate) fn push_ip(
     own: u32,
     placement: &[Assigned],
 ) -> Result<(), NoMemory>
-    ensures { OnOk result (text.new.items ≡ text.old.items ++ ip_text config.now own placement.now) }
+    ensures { OnOk result (text.new.items ≡ text.old.items ++ lists.ip_text config.now own placement.now) }
 {
     push_number_line(text, b"Public IPs on node ", u64::from(own))?;
     push_places(text, config, placement)

@@ -10,8 +10,8 @@ use crate::columns::Columns;
 use crate::troupe::{PlayFault, Troupe};
 use crate::turns::Turns;
 use ct_call::table::CallTable;
-use ct_script::plan::Plan;
 use ct_journal::journal::Journal;
+use ct_script::plan::Plan;
 use ct_values::memory::NoMemory;
 use std::alloc::Global;
 

@@ -9,8 +9,8 @@ ghost use Rattle.ct_troupe.specs.Columns.{HavePlayed};
 
 use crate::troupe::PlayFault;
 use ct_call::table::CallTable;
-use ct_script::plan::Plan;
 use ct_journal::journal::Journal;
+use ct_script::plan::Plan;
 use std::alloc::Global;
 
 /// Whoever plays the plans of columns, each by itself, and tells afterwards what the nodes of each were given and did. Columns are

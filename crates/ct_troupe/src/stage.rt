@@ -6,7 +6,7 @@ ghost use Rattle.ct_call.specs.Shown.{rules_of};
 ghost use Rattle.ct_journal.specs.Order.{ticket_after};
 ghost use Rattle.ct_journal.specs.declared.journal.JournalEntry.{JournalEntry};
 ghost use Rattle.ct_script.specs.Sound.{IsSound};
-ghost use Rattle.ct_troupe.specs.Stages.{IsAtRest, IsNoted, IsPlaying, Passes, TakesSome, Turns, journals_of, seen};
+ghost use Rattle.ct_troupe.specs.Stages as stages;
 ghost use Rattle.ct_actor.specs.declared.seat.Seat.{Seat as Seated};
 
 use ct_actor::node::Node;
@@ -14,10 +14,10 @@ use ct_actor::queue::{Queue, next_of, post};
 use ct_actor::seat::Seat;
 use ct_call::table::CallTable;
 use ct_frame::event::Event;
-use ct_script::plan::Plan;
 use ct_journal::journal::Journal;
 use ct_node_state::turn::CoreFault;
 use ct_script::cue::Cue;
+use ct_script::plan::Plan;
 use ct_values::memory::NoMemory;
 use std::alloc::Global;
 
@@ -54,7 +54,7 @@ impl Stage {
     /// All nodes at the opening of the cluster.
     pub fn new(alloc: Global, plan: &Plan) -> Result<Stage, NoMemory>
         requires { IsSound plan.now }
-        ensures { IfOk result (λ s. (rules : Rules) → IsPlaying rules plan.now (seen s)) }
+        ensures { IfOk result (λ s. (rules : Rules) → stages.IsPlaying rules plan.now (stages.seen s)) }
     {
         let mut seats = Vec::new(alloc);
         let mut queues = Vec::new(alloc);
@@ -76,7 +76,7 @@ impl Stage {
     fn note(&mut self, node: usize) -> Result<(), NoMemory>
         requires node { node < length self.old.seats.items }
         requires few { self.old.count < 2 ^ 61 }
-        ensures { OnOk result ((s : Seated) (x : JournalEntry) → slice_get self.old.seats.items node ≡ Some s → last_entry s.node ≡ Some x → IsNoted x (seen self.old) (seen self.new)) }
+        ensures { OnOk result ((s : Seated) (x : JournalEntry) → slice_get self.old.seats.items node ≡ Some s → last_entry s.node ≡ Some x → stages.IsNoted x (stages.seen self.old) (stages.seen self.new)) }
     {
         let Some(entry) = self.seats[node].node.entries().last() else {
             return Ok(());
@@ -96,9 +96,9 @@ impl Stage {
     #[tactic(auto, using(crate::proofs::Staging::first_for))]
     fn take(&mut self, table: &CallTable, plan: &Plan, node: u32) -> Result<bool, CoreFault>
         requires sound { IsSound plan.now }
-        requires playing { IsPlaying (rules_of table.now) plan.now (seen self.old) }
+        requires playing { stages.IsPlaying (rules_of table.now) plan.now (stages.seen self.old) }
         requires node { node < plan.now.config.nodes }
-        ensures { IfOk result (λ some. TakesSome (rules_of table.now) plan.now node some (seen self.old) (seen self.new)) }
+        ensures { IfOk result (λ some. stages.TakesSome (rules_of table.now) plan.now node some (stages.seen self.old) (stages.seen self.new)) }
     {
         let place = node as usize;
         match next_of(&mut self.queues, place) {
@@ -118,9 +118,9 @@ impl Stage {
     #[tactic(auto, using(crate::proofs::Staging::rested, crate::proofs::Staging::noted_place))]
     fn act(&mut self, table: &CallTable, plan: &Plan, node: u32) -> Result<bool, CoreFault>
         requires sound { IsSound plan.now }
-        requires playing { IsPlaying (rules_of table.now) plan.now (seen self.old) }
+        requires playing { stages.IsPlaying (rules_of table.now) plan.now (stages.seen self.old) }
         requires node { node < plan.now.config.nodes }
-        ensures { IfOk result (λ some. Turns (rules_of table.now) plan.now node some (seen self.old) (seen self.new)) }
+        ensures { IfOk result (λ some. stages.Turns (rules_of table.now) plan.now node some (stages.seen self.old) (stages.seen self.new)) }
     {
         if !self.take(table, plan, node)? {
             return Ok(false);
@@ -133,9 +133,9 @@ impl Stage {
     #[tactic(auto, using(crate::proofs::Staging::is_full))]
     fn turn(&mut self, table: &CallTable, plan: &Plan, node: u32) -> Result<bool, NoMemory>
         requires sound { IsSound plan.now }
-        requires playing { IsPlaying (rules_of table.now) plan.now (seen self.old) }
+        requires playing { stages.IsPlaying (rules_of table.now) plan.now (stages.seen self.old) }
         requires node { node < plan.now.config.nodes }
-        ensures { IfOk result (λ some. Turns (rules_of table.now) plan.now node some (seen self.old) (seen self.new)) }
+        ensures { IfOk result (λ some. stages.Turns (rules_of table.now) plan.now node some (stages.seen self.old) (stages.seen self.new)) }
     {
         if self.seats[node as usize].node.entries().len() >= MOST_ENTRIES {
             return Ok(false);
@@ -150,8 +150,8 @@ impl Stage {
     #[tactic(auto, using(crate::proofs::Staging::passing_first, crate::proofs::Staging::passing_turn, crate::proofs::Staging::passes))]
     fn pass(&mut self, table: &CallTable, plan: &Plan) -> Result<bool, NoMemory>
         requires sound { IsSound plan.now }
-        requires playing { IsPlaying (rules_of table.now) plan.now (seen self.old) }
-        ensures { IfOk result (λ some. Passes (rules_of table.now) plan.now some (seen self.old) (seen self.new)) }
+        requires playing { stages.IsPlaying (rules_of table.now) plan.now (stages.seen self.old) }
+        ensures { IfOk result (λ some. stages.Passes (rules_of table.now) plan.now some (stages.seen self.old) (stages.seen self.new)) }
     {
         let mut some = false;
         for node in 0..plan.config.nodes {
@@ -166,8 +166,8 @@ impl Stage {
     #[tactic(auto, using(crate::proofs::Staging::going_first, crate::proofs::Staging::going_on, crate::proofs::Staging::going_end))]
     pub fn play(&mut self, table: &CallTable, plan: &Plan) -> Result<(), NoMemory>
         requires sound { IsSound plan.now }
-        requires playing { IsPlaying (rules_of table.now) plan.now (seen self.old) }
-        ensures { OnOk result (IsAtRest (rules_of table.now) plan.now (seen self.new)) }
+        requires playing { stages.IsPlaying (rules_of table.now) plan.now (stages.seen self.old) }
+        ensures { OnOk result (stages.IsAtRest (rules_of table.now) plan.now (stages.seen self.new)) }
     {
         let mut some = true;
         while some {
@@ -178,7 +178,7 @@ impl Stage {
 
     /// The journals of the nodes, in their order.
     pub fn into_journals(self, alloc: Global) -> Result<Vec<Journal>, NoMemory>
-        ensures { IfOk result (λ v. v.items ≡ journals_of self.seats.items) }
+        ensures { IfOk result (λ v. v.items ≡ stages.journals_of self.seats.items) }
     {
         let mut journals = Vec::new(alloc);
         for seat in self.seats {

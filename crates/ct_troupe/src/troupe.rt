@@ -4,11 +4,11 @@ ghost use Rattle.ct_call.specs.Shown.{rules_of};
 ghost use Rattle.ct_journal.specs.declared.journal.Journal.{Journal as Told};
 ghost use Rattle.ct_outside.specs.Told.{RisesWhere};
 ghost use Rattle.ct_script.specs.Sound.{IsSound};
-ghost use Rattle.ct_troupe.specs.Played.{HasPlayed, is_link_fault};
+ghost use Rattle.ct_troupe.specs.Played as played;
 
 use ct_call::table::CallTable;
-use ct_script::plan::Plan;
 use ct_journal::journal::Journal;
+use ct_script::plan::Plan;
 use ct_values::memory::NoMemory;
 use std::alloc::{AllocError, Global};
 use thiserror::Error;
@@ -59,8 +59,8 @@ pub trait Troupe {
     fn play(&mut self, alloc: Global, table: &CallTable, plan: &Plan) -> Result<(), PlayFault>
         requires sound { IsSound plan.now }
         requires ready { ready self.old }
-        ensures played { HasPlayed (rules_of table.now) plan.now result (told self.new) }
-        ensures cause { RisesWhere (is_link_fault result) (faults self.old) (faults self.new) };
+        ensures played { played.HasPlayed (rules_of table.now) plan.now result (told self.new) }
+        ensures cause { RisesWhere (played.is_link_fault result) (faults self.old) (faults self.new) };
 
     /// The journals of the last play: none before the first one.
     fn journals(&self) -> &[Journal]

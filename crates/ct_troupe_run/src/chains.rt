@@ -5,15 +5,15 @@ ghost use Rattle.ct_outside.specs.Causes.{HasWriteCause};
 ghost use Rattle.ct_script.specs.Sound.{IsSound};
 ghost use Rattle.ct_troupe.specs.Columns.{ArePlayedIn};
 ghost use Rattle.ct_troupe_run.specs.Running.{HasRunCause};
-ghost use Rattle.ct_troupe_run.specs.Chains.{HasCutRange, RunsColumns, WritesChains, chains_summary, plans_of};
+ghost use Rattle.ct_troupe_run.specs.Chains as chains;
 
 use crate::columns::{Counts, write_columns};
 use crate::running::End;
 use ct_call::table::CallTable;
 use ct_chain::cut::cut;
-use ct_script::plan::Plan;
 use ct_outside::fault::SinkFault;
 use ct_outside::sink::{Sink, write_all};
+use ct_script::plan::Plan;
 use ct_script::scripts::cluster_plan;
 use ct_text::words::{push, push_number};
 use ct_troupe::columns::Columns;
@@ -33,8 +33,8 @@ pub struct CutWanted {
 
 /// The plans of the columns.
 fn plans_of(alloc: Global, wanted: &CutWanted) -> Result<Vec<Plan>, NoMemory>
-    requires { HasCutRange wanted.now }
-    ensures exact { IfOk result (λ v. v.items ≡ plans_of wanted.now) }
+    requires { chains.HasCutRange wanted.now }
+    ensures exact { IfOk result (λ v. v.items ≡ chains.plans_of wanted.now) }
     ensures sound { IfOk result (λ v. All IsSound v.items) }
 {
     let whole = cluster_plan(alloc, wanted.nodes, wanted.calls, wanted.seed)?;
@@ -43,7 +43,7 @@ fn plans_of(alloc: Global, wanted: &CutWanted) -> Result<Vec<Plan>, NoMemory>
 
 /// The line that counts.
 fn summary(alloc: Global, wanted: &CutWanted, counts: Counts) -> Result<Vec<u8>, NoMemory>
-    ensures { IfOk result (λ v. v.items ≡ chains_summary wanted.now counts) }
+    ensures { IfOk result (λ v. v.items ≡ chains.chains_summary wanted.now counts) }
 {
     let mut text = Vec::new(alloc);
     push_number(&mut text, b"chains ", u64::from(wanted.nodes))?;
@@ -68,7 +68,7 @@ fn write_chains<K: Sink, T: Columns>(
     requires few { length plans.now ≤ 8 }
     requires sound { All IsSound plans.now }
     requires played { ArePlayedIn (rules_of table.now) plans.now (T.told_in troupe.now) }
-    ensures writes { WritesChains (rules_of table.now) wanted.now plans.now (T.told_in troupe.now) result (K.held out.old) (K.held out.new) }
+    ensures writes { chains.WritesChains (rules_of table.now) wanted.now plans.now (T.told_in troupe.now) result (K.held out.old) (K.held out.new) }
     ensures cause { HasWriteCause (K.faults out.old) (K.faults out.new) result }
 {
     let counts = match write_columns(alloc, table, plans, troupe, out) {
@@ -92,9 +92,9 @@ pub fn chains<K: Sink, T: Columns>(
     out: &mut K,
     troupe: &mut T,
 ) -> End
-    requires range { HasCutRange wanted.now }
+    requires range { chains.HasCutRange wanted.now }
     requires ready { T.columns_ready troupe.old }
-    ensures runs { RunsColumns (rules_of table.now) wanted.now result (T.told_in troupe.new) (K.held out.old) (K.held out.new) }
+    ensures runs { chains.RunsColumns (rules_of table.now) wanted.now result (T.told_in troupe.new) (K.held out.old) (K.held out.new) }
     ensures cause { HasRunCause result (T.column_faults troupe.old) (T.column_faults troupe.new) (K.faults out.old) (K.faults out.new) }
 {
     let plans = match plans_of(alloc, wanted) {

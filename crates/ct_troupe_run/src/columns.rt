@@ -5,17 +5,17 @@ ghost use Rattle.ct_outside.specs.Causes.{HasWriteCause};
 ghost use Rattle.ct_script.specs.Sound.{IsSound};
 ghost use Rattle.ct_troupe.specs.Played.{ArePlayed};
 ghost use Rattle.ct_troupe.specs.Columns.{ArePlayedIn};
-ghost use Rattle.ct_troupe_run.specs.Columns.{IsTold, WritesColumn, WritesColumns, column_text};
+ghost use Rattle.ct_troupe_run.specs.Columns as columns;
 
 use crate::text::{count_entries, run_text};
 use ct_call::table::CallTable;
-use ct_script::plan::Plan;
 use ct_journal::journal::Journal;
 use ct_outside::fault::SinkFault;
 use ct_outside::sink::{Sink, write_all};
 use ct_schedule_text::telling::Lines;
+use ct_script::plan::Plan;
 use ct_text::words::{push, push_number};
-use ct_troupe::columns::Columns;
+pub use ct_troupe::columns::Columns;
 use ct_values::memory::NoMemory;
 use std::alloc::Global;
 
@@ -40,7 +40,7 @@ impl Counts {
 
 /// The text of a column, from its lines.
 fn column_text(alloc: Global, number: u32, lines: &[u8]) -> Result<Vec<u8>, NoMemory>
-    ensures { IfOk result (λ v. v.items ≡ column_text number lines.now) }
+    ensures { IfOk result (λ v. v.items ≡ columns.column_text number lines.now) }
 {
     let mut text = Vec::new(alloc);
     push_number(&mut text, b"column ", u64::from(number))?;
@@ -60,7 +60,7 @@ fn told_column(
 ) -> Result<(Vec<u8>, Counts), NoMemory>
     requires sound { IsSound plan.now }
     requires played { ArePlayed (rules_of table.now) plan.now journals.now }
-    ensures { IfOk result (λ v. IsTold (rules_of table.now) plan.now number journals.now v.0.items v.1) }
+    ensures { IfOk result (λ v. columns.IsTold (rules_of table.now) plan.now number journals.now v.0.items v.1) }
 {
     let Lines { text: lines, sent } = run_text(alloc, table, plan, journals)?;
     let text = column_text(alloc, number, lines.as_slice())?;
@@ -83,7 +83,7 @@ fn write_column<K: Sink>(
 ) -> Result<Counts, SinkFault>
     requires sound { IsSound plan.now }
     requires played { ArePlayed (rules_of table.now) plan.now journals.now }
-    ensures writes { WritesColumn (rules_of table.now) plan.now number journals.now result (K.held out.old) (K.held out.new) }
+    ensures writes { columns.WritesColumn (rules_of table.now) plan.now number journals.now result (K.held out.old) (K.held out.new) }
     ensures cause { HasWriteCause (K.faults out.old) (K.faults out.new) result }
 {
     let (text, counts) = match told_column(alloc, table, plan, number, journals) {
@@ -109,7 +109,7 @@ pub fn write_columns<K: Sink, T: Columns>(
     requires few { length plans.now ≤ 8 }
     requires sound { All IsSound plans.now }
     requires played { ArePlayedIn (rules_of table.now) plans.now (T.told_in troupe.now) }
-    ensures writes { WritesColumns (rules_of table.now) plans.now (T.told_in troupe.now) result (K.held out.old) (K.held out.new) }
+    ensures writes { columns.WritesColumns (rules_of table.now) plans.now (T.told_in troupe.now) result (K.held out.old) (K.held out.new) }
     ensures cause { HasWriteCause (K.faults out.old) (K.faults out.new) result }
 {
     let mut counts = Counts {

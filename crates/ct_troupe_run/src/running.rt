@@ -5,19 +5,20 @@ ghost use Rattle.ct_journal.specs.Order.{AreInOrder};
 ghost use Rattle.ct_outside.specs.Causes.{Rose};
 ghost use Rattle.ct_script.specs.Sound.{IsSound};
 ghost use Rattle.ct_troupe.specs.Played.{ArePlayed};
-ghost use Rattle.ct_troupe_run.specs.Running.{HasPlanRange, HasRunCause, IsScheduleText, Runs, Writes, plan_of, summary_of};
+ghost use Rattle.ct_troupe_run.specs.Running as running;
 ghost use Rattle.ct_troupe_run.specs.declared.running.End.TheVariants as ended;
 
 use crate::text::{count_entries, run_text};
 use ct_call::table::CallTable;
-use ct_script::plan::Plan;
 use ct_journal::journal::Journal;
 use ct_outside::fault::SinkFault;
 use ct_outside::sink::{Sink, write_all};
 use ct_schedule_text::schedule::{Summary, push_summary};
 use ct_schedule_text::telling::Lines;
+use ct_script::plan::Plan;
 use ct_script::scripts::cluster_plan;
-use ct_troupe::troupe::{PlayFault, Troupe};
+use ct_troupe::troupe::PlayFault;
+pub use ct_troupe::troupe::Troupe;
 use ct_values::memory::NoMemory;
 use std::alloc::Global;
 
@@ -44,8 +45,8 @@ pub enum End {
 
 /// The plan that is wanted.
 fn plan_of(alloc: Global, wanted: &Wanted) -> Result<Plan, NoMemory>
-    requires { HasPlanRange wanted.now }
-    ensures exact { IfOk result (λ p. p ≡ plan_of wanted.now) }
+    requires { running.HasPlanRange wanted.now }
+    ensures exact { IfOk result (λ p. p ≡ running.plan_of wanted.now) }
     ensures sound { IfOk result IsSound }
 {
     let mut plan = cluster_plan(alloc, wanted.nodes, wanted.calls, wanted.seed)?;
@@ -56,7 +57,7 @@ fn plan_of(alloc: Global, wanted: &Wanted) -> Result<Plan, NoMemory>
 /// What is told of the journals beside their schedule.
 fn summary_of(wanted: &Wanted, journals: &[Journal]) -> Summary
     requires { AreInOrder journals.now }
-    ensures { result ≡ summary_of wanted.now journals.now }
+    ensures { result ≡ running.summary_of wanted.now journals.now }
 {
     Summary {
         net: wanted.net,
@@ -74,10 +75,10 @@ fn text_of(
     plan: &Plan,
     journals: &[Journal],
 ) -> Result<Vec<u8>, NoMemory>
-    requires plan { plan.now ≡ plan_of wanted.now }
+    requires plan { plan.now ≡ running.plan_of wanted.now }
     requires sound { IsSound plan.now }
     requires played { ArePlayed (rules_of table.now) plan.now journals.now }
-    ensures { IfOk result (λ text. IsScheduleText (rules_of table.now) wanted.now journals.now text.items) }
+    ensures { IfOk result (λ text. running.IsScheduleText (rules_of table.now) wanted.now journals.now text.items) }
 {
     let Lines { mut text, sent } = run_text(alloc, table, plan, journals)?;
     let summary = summary_of(wanted, journals);
@@ -87,7 +88,7 @@ fn text_of(
 
 /// Writes a text, which ends the run.
 pub fn write_text<K: Sink>(text: &[u8], out: &mut K) -> End
-    ensures writes { Writes result text.now (K.held out.old) (K.held out.new) }
+    ensures writes { running.Writes result text.now (K.held out.old) (K.held out.new) }
     ensures later { K.faults out.old ≤ K.faults out.new }
     ensures failed { result ≡ ended.WriteFault → Rose (K.faults out.old) (K.faults out.new) }
 {
@@ -107,10 +108,10 @@ pub fn cluster<K: Sink, T: Troupe>(
     out: &mut K,
     troupe: &mut T,
 ) -> End
-    requires range { HasPlanRange wanted.now }
+    requires range { running.HasPlanRange wanted.now }
     requires ready { T.ready troupe.old }
-    ensures runs { Runs (rules_of table.now) wanted.now result (T.told troupe.new) (K.held out.old) (K.held out.new) }
-    ensures cause { HasRunCause result (T.faults troupe.old) (T.faults troupe.new) (K.faults out.old) (K.faults out.new) }
+    ensures runs { running.Runs (rules_of table.now) wanted.now result (T.told troupe.new) (K.held out.old) (K.held out.new) }
+    ensures cause { running.HasRunCause result (T.faults troupe.old) (T.faults troupe.new) (K.faults out.old) (K.faults out.new) }
 {
     let plan = match plan_of(alloc, wanted) {
         Ok(plan) => plan,

@@ -2,27 +2,27 @@
 ghost use Rattle.std.specs.Prelude.{◌≡◌, ◌<◌, ◌^◌, length, IfOk, MatchOption};
 ghost use Rattle.ct_call.specs.Rules.{Rules};
 ghost use Rattle.ct_call.specs.Shown.{rules_of};
-ghost use Rattle.ct_journal.specs.Order.{AreInOrder, all_entries};
+ghost use Rattle.ct_journal.specs.Order as order;
 ghost use Rattle.ct_script.specs.Sound.{IsSound};
 ghost use Rattle.ct_troupe.specs.Played.{ArePlayed};
-ghost use Rattle.ct_troupe_run.specs.Text.{AreUntoldInOrder, IsRunText};
+ghost use Rattle.ct_troupe_run.specs.Text as text;
 
 use ct_call::table::CallTable;
-use ct_script::plan::Plan;
 use ct_journal::journal::Journal;
 use ct_journal_join::join::{InOrderFault, join_in_order};
 use ct_journal_order::counts::Tally;
 use ct_journal_order::order::order_of;
 use ct_schedule_text::schedule::text_of_steps;
 use ct_schedule_text::telling::{Lines, lines_of};
+use ct_script::plan::Plan;
 use ct_values::memory::NoMemory;
 use std::alloc::Global;
 
 /// How many entries the journals have.
 #[tactic(auto, using(crate::proofs::Told::counted))]
 pub fn count_entries(journals: &[Journal]) -> u64
-    requires { AreInOrder journals.now }
-    ensures { result ≡ length (all_entries journals.now) }
+    requires { order.AreInOrder journals.now }
+    ensures { result ≡ length (order.all_entries journals.now) }
 {
     let tally = Tally::of(journals);
     tally.all.saturating_sub(tally.sent)
@@ -34,7 +34,7 @@ pub fn count_entries(journals: &[Journal]) -> u64
 fn told_lines(alloc: Global, plan: &Plan, journals: &[Journal]) -> Result<Option<Lines>, NoMemory>
     requires sound { IsSound plan.now }
     requires few { length journals.now < 2 ^ 32 }
-    ensures { IfOk result (λ o. MatchOption o (AreUntoldInOrder journals.now) (λ v. (rules : Rules) → ArePlayed rules plan.now journals.now → IsRunText rules plan.now journals.now v.text.items v.sent)) }
+    ensures { IfOk result (λ o. MatchOption o (text.AreUntoldInOrder journals.now) (λ v. (rules : Rules) → ArePlayed rules plan.now journals.now → text.IsRunText rules plan.now journals.now v.text.items v.sent)) }
 {
     let Some(order) = order_of(alloc, journals)? else {
         return Ok(None);
@@ -55,7 +55,7 @@ fn played_lines(
 ) -> Result<Lines, NoMemory>
     requires sound { IsSound plan.now }
     requires played { ArePlayed (rules_of table.now) plan.now journals.now }
-    ensures { IfOk result (λ v. IsRunText (rules_of table.now) plan.now journals.now v.text.items v.sent) }
+    ensures { IfOk result (λ v. text.IsRunText (rules_of table.now) plan.now journals.now v.text.items v.sent) }
 {
     let steps = match join_in_order(alloc, journals) {
         Ok(steps) => steps,
@@ -76,7 +76,7 @@ pub fn run_text(
 ) -> Result<Lines, NoMemory>
     requires sound { IsSound plan.now }
     requires played { ArePlayed (rules_of table.now) plan.now journals.now }
-    ensures { IfOk result (λ v. IsRunText (rules_of table.now) plan.now journals.now v.text.items v.sent) }
+    ensures { IfOk result (λ v. text.IsRunText (rules_of table.now) plan.now journals.now v.text.items v.sent) }
 {
     match told_lines(alloc, plan, journals)? {
         Some(lines) => Ok(lines),

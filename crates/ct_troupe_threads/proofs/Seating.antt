@@ -16,10 +16,10 @@ use Rattle.ct_journal.specs.declared.journal.JournalEntry.{JournalEntry}
 use Rattle.ct_law_journal_growing.specs.Following.{Follows}
 use Rattle.ct_law_journal_growing.proofs.Following.{ends_scripted, follows_first}
 use Rattle.ct_outside.specs.Told.{Lists}
-use Rattle.ct_actor.specs.Journalled.{IsRunBy, Journalled, at_opening}
-use Rattle.ct_actor.specs.Seats.{IsSeatOf, TakesEvent, TakesItem}
-use Rattle.ct_actor.specs.declared.seat.Seat.{Seat}
-use Rattle.ct_actor.proofs.Running.{run_of, starts_run}
+use Rattle.ct_actor_serving.specs.Handed.{IsRunBy, Journalled, at_opening}
+use Rattle.ct_actor_serving.specs.Handed.{IsSeatOf, TakesEvent, TakesItem}
+use Rattle.ct_actor_serving.specs.Handed.{Seat}
+use Rattle.ct_actor_serving.proofs.Handed.{run_of, starts_run}
 use Rattle.ct_actor_serving.specs.Turns.{made_in, may_all_turn, passes_over}
 use Rattle.ct_actor_serving.specs.declared.fault.Until.TheVariants as until
 use Rattle.ct_actor_serving.proofs.Turns.{IsTurning, may_begin, turning_first, turning_next}

@@ -10,8 +10,8 @@ use Rattle.ct_journal.specs.declared.journal.Journal.{Journal}
 use Rattle.ct_journal.specs.declared.journal.JournalEntry.{JournalEntry}
 use Rattle.ct_law_journal_growing.specs.Following.{Follows}
 use Rattle.ct_law_journal_growing.proofs.Following.{ends_scripted}
-use Rattle.ct_actor.specs.Journalled.{Journalled, at_opening}
-use Rattle.ct_actor.proofs.Running.{run_of}
+use Rattle.ct_actor_serving.specs.Handed.{Journalled, at_opening}
+use Rattle.ct_actor_serving.proofs.Handed.{run_of}
 use Rattle.ct_script.specs.Sound.{IsSound, may_be_told, script_of}
 use Rattle.ct_actor_serving.specs.Serving.{Counts, EndsBy, HasActed, of_link}
 use Rattle.ct_actor_serving.specs.declared.fault.Served.{Served}

@@ -7,8 +7,8 @@ use Rattle.ct_script.specs.declared.plan.Plan.{Plan}
 use Rattle.ct_journal.specs.declared.journal.Journal.{Journal}
 use Rattle.ct_journal.specs.declared.journal.JournalEntry.{JournalEntry}
 use Rattle.ct_outside.specs.Told.{Lists}
-use Rattle.ct_actor.specs.Seats.{IsSeatOf}
-use Rattle.ct_actor.specs.declared.seat.Seat.{Seat}
+use Rattle.ct_actor_serving.specs.Handed.{IsSeatOf}
+use Rattle.ct_actor_serving.specs.Handed.{Seat}
 use Rattle.ct_actor_serving.specs.Turns.{made_in, may_all_turn, passes_over}
 use Rattle.ct_actor_serving.specs.declared.fault.Until.TheVariants as until
 

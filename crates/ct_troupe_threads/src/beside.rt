@@ -1,22 +1,21 @@
 //! One node of a plan, which serves in a thread of its own.
 ghost use Rattle.std.specs.Prelude.{◌≡◌, ◌<◌, IfOk, IfSome};
 ghost use Rattle.ct_call.specs.Shown.{rules_of};
-ghost use Rattle.ct_script.specs.Sound.{IsSound, script_of};
+ghost use Rattle.ct_script.specs.Sound as sound;
 ghost use Rattle.ct_actor_serving.specs.Serving.{of_link};
-ghost use Rattle.ct_troupe_threads.specs.Threaded.{HasServed, ServedFor};
+ghost use Rattle.ct_troupe_threads.specs.Threaded as threaded;
 
 use crate::seated::serve_seated;
-use ct_actor::node::Node;
 use ct_actor_serving::fault::{ServeFault, Until};
-use ct_actor_serving::serve::serve_until;
+use ct_actor_serving::serve::{Node, serve_until};
 use ct_call::table::CallTable;
-use ct_script::plan::{Plan, PlanItem};
 use ct_journal::journal::Journal;
 use ct_links::hub::Hub;
 use ct_links::seats::LockBook;
 use ct_outside::gate::{Gate, OpenGate};
 use ct_outside::link::Link;
 use ct_outside::lock::RecLock;
+use ct_script::plan::{Plan, PlanItem};
 use ct_values::memory::NoMemory;
 use std::alloc::Global;
 use std::sync::{Mutex, Wait};
@@ -24,7 +23,7 @@ use std::sync::{Mutex, Wait};
 /// The script of the node.
 #[tactic(auto, unfolding(ct_script::specs::Sound::script_of, ct_script::specs::Sound::or_no_items))]
 fn script_at(plan: &Plan, node: u32) -> &[PlanItem]
-    ensures { result.now ≡ script_of plan.now node }
+    ensures { result.now ≡ sound.script_of plan.now node }
 {
     match plan.scripts.as_slice().get(node as usize) {
         Some(script) => script.as_slice(),
@@ -45,10 +44,10 @@ pub fn serve_plan<L: Link, S: RecLock, G: Gate>(
     node: u32,
     until: Until,
 ) -> Result<Option<Journal>, NoMemory>
-    requires sound { IsSound plan.now }
+    requires sound { sound.IsSound plan.now }
     requires node { node < plan.now.config.nodes }
-    ensures served { IfOk result (λ o. IfSome o (HasServed (rules_of table.now) plan.now node)) }
-    ensures ends { IfOk result (λ o. IfSome o (ServedFor until (of_link L.faults L.endings L.looks link.old) (of_link L.faults L.endings L.looks link.new))) }
+    ensures served { IfOk result (λ o. IfSome o (threaded.HasServed (rules_of table.now) plan.now node)) }
+    ensures ends { IfOk result (λ o. IfSome o (threaded.ServedFor until (of_link L.faults L.endings L.looks link.old) (of_link L.faults L.endings L.looks link.new))) }
 {
     let mut own = Node::new(alloc, node, &plan.config)?;
     match serve_until(
@@ -79,10 +78,10 @@ pub fn serve_beside<R: Wait, G: Gate>(
     gates: &[Mutex<&mut G>],
     node: u32,
 ) -> Result<Option<Journal>, NoMemory>
-    requires sound { IsSound plan.now }
+    requires sound { sound.IsSound plan.now }
     requires node { node < plan.now.config.nodes }
     requires hub { hub.now ≡ plan.now.config.nodes }
-    ensures { IfOk result (λ o. IfSome o (HasServed (rules_of table.now) plan.now node)) }
+    ensures { IfOk result (λ o. IfSome o (threaded.HasServed (rules_of table.now) plan.now node)) }
 {
     let mut link = hub.link(node);
     let mut seat = book.seat();

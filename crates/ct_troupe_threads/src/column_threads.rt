@@ -6,10 +6,10 @@ ghost use Rattle.ct_call.specs.Shown.{rules_of};
 ghost use Rattle.ct_outside.specs.Told.{RisesWhere};
 ghost use Rattle.ct_script.specs.Sound.{IsSound};
 ghost use Rattle.ct_troupe.specs.Both.{journals_by};
-ghost use Rattle.ct_troupe.specs.Played.{HasPlayed, is_link_fault};
+ghost use Rattle.ct_troupe.specs.Played as played;
 ghost use Rattle.ct_troupe.specs.Stages.{AllHaveArrived};
 ghost use Rattle.ct_troupe.specs.Columns.{HavePlayed};
-ghost use Rattle.ct_troupe_threads.specs.Sides.{has_ended, journals_in};
+ghost use Rattle.ct_troupe_threads.specs.Sides as sides;
 
 use crate::column::Column;
 use crate::column_gate::ColumnGate;
@@ -17,11 +17,11 @@ use crate::gate::ThreadGate;
 use crate::loopback::Loopback;
 use crate::threads::Threads;
 use ct_call::table::CallTable;
-use ct_script::plan::Plan;
 use ct_journal::journal::Journal;
-use ct_troupe::both::Both;
-use ct_troupe::columns::Columns;
-use ct_troupe::troupe::{PlayFault, Troupe};
+use ct_script::plan::Plan;
+pub use ct_troupe::both::Both;
+pub use ct_troupe::columns::Columns;
+pub use ct_troupe::troupe::{PlayFault, Troupe};
 use std::alloc::Global;
 use std::net::{Net, TcpListener, TcpStream};
 use std::sync::Wait;
@@ -62,7 +62,7 @@ impl<R: Drop, G: Drop> ColumnThreads<R, G> {
 
 /// Have the last plays of these columns all come to their end?
 fn have_ended<G>(columns: &[Column<G>]) -> bool
-    ensures { result ≡ list_all has_ended columns.now }
+    ensures { result ≡ list_all sides.has_ended columns.now }
 {
     columns.iter().all(|column| column.ended.is_ok())
 }
@@ -71,7 +71,7 @@ impl<R, G> ColumnThreads<R, G> {
     /// Where none of the column's journals has 1,000,000 entries, each message that was sent in it has arrived.
     #[tactic(auto, using(ct_troupe::proofs::Ending::none_left), unfolding(crate::specs::Sides::journals_in, crate::specs::Sides::or_no_journals))]
     pub fn all_have_arrived(&self, number: u32)
-        ensures { AllHaveArrived (journals_in self.now.columns.items self.now.played number) }
+        ensures { AllHaveArrived (sides.journals_in self.now.columns.items self.now.played number) }
     {
         if (number as usize) < self.played {
             if let Some(column) = self.columns.get(number as usize) {
@@ -98,10 +98,10 @@ impl<
     fn play(&mut self, alloc: Global, table: &CallTable, plan: &Plan) -> Result<(), PlayFault>
         requires sound { IsSound plan.now }
         requires ready { IsSync R.row }
-        ensures played { HasPlayed (rules_of table.now) plan.now result (journals_by self.new.both.last self.new.both.threads self.new.both.loopback.journals) }
-        ensures cause { RisesWhere (is_link_fault result) self.old.both.loopback.faults self.new.both.loopback.faults }
+        ensures played { played.HasPlayed (rules_of table.now) plan.now result (journals_by self.new.both.last self.new.both.threads self.new.both.loopback.journals) }
+        ensures cause { RisesWhere (played.is_link_fault result) self.old.both.loopback.faults self.new.both.loopback.faults }
         ensures faultless { plan.now.net ≡ false → self.new.both.loopback.faults ≡ self.old.both.loopback.faults }
-        ensures columns { journals_in self.new.columns.items self.new.played ≡ journals_in self.old.columns.items self.old.played }
+        ensures columns { sides.journals_in self.new.columns.items self.new.played ≡ sides.journals_in self.old.columns.items self.old.played }
     {
         self.both.play(alloc, table, plan)
     }
@@ -112,7 +112,7 @@ impl<
 }
 
 impl<R: Spawns + Wait + Sync, G: ColumnGate> Columns for ColumnThreads<R, G> {
-    ghost told_in = { λ t. journals_in t.columns.items t.played };
+    ghost told_in = { λ t. sides.journals_in t.columns.items t.played };
 
     /// None of the columns fails: where what its threads did is no play of its plan, it is played again.
     ghost column_faults = { λ _. 0 };
@@ -131,8 +131,8 @@ impl<R: Spawns + Wait + Sync, G: ColumnGate> Columns for ColumnThreads<R, G> {
         requires few { length plans.now ≤ 8 }
         requires sound { All IsSound plans.now }
         requires ready { IsSync R.row }
-        ensures played { HavePlayed (rules_of table.now) plans.now result (journals_in self.new.columns.items self.new.played) }
-        ensures cause { RisesWhere (is_link_fault result) 0 0 }
+        ensures played { HavePlayed (rules_of table.now) plans.now result (sides.journals_in self.new.columns.items self.new.played) }
+        ensures cause { RisesWhere (played.is_link_fault result) 0 0 }
         ensures both { self.new.both ≡ self.old.both }
     {
         self.played = 0;

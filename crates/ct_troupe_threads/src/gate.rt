@@ -8,9 +8,9 @@ ghost use Rattle.ct_troupe.specs.Played.{ArePlayed};
 
 use crate::threaded::play_in_threads;
 use ct_call::table::CallTable;
-use ct_script::plan::Plan;
 use ct_journal::journal::Journal;
 use ct_outside::gate::{Gate, OpenGate};
+use ct_script::plan::Plan;
 use ct_values::memory::NoMemory;
 use std::alloc::Global;
 use std::marker::Send;

@@ -7,8 +7,8 @@ ghost use Rattle.ct_troupe.specs.Stages.{AllHaveArrived};
 ghost use Rattle.ct_troupe_threads.specs.Threaded.{AreSettled};
 
 use ct_call::table::CallTable;
-use ct_script::plan::Plan;
 use ct_journal::journal::Journal;
+use ct_script::plan::Plan;
 use ct_troupe::troupe::Troupe;
 use ct_troupe::turns::Turns;
 use ct_values::items::Items;

@@ -5,14 +5,14 @@ ghost use Rattle.ct_outside.specs.Told.{RisesWhere};
 ghost use Rattle.ct_call.specs.Shown.{rules_of};
 ghost use Rattle.ct_links.specs.Streams.{more_where};
 ghost use Rattle.ct_script.specs.Sound.{IsSound};
-ghost use Rattle.ct_troupe.specs.Played.{HasPlayed, is_link_fault};
+ghost use Rattle.ct_troupe.specs.Played as played;
 ghost use Rattle.ct_troupe_threads.specs.Meshed.{AllHadTurns};
 
 use crate::meshed::{NodeEnds, join_nodes, play_over_streams};
 use ct_call::table::CallTable;
-use ct_script::plan::Plan;
 use ct_journal::journal::Journal;
 use ct_links::link::LinkTally;
+use ct_script::plan::Plan;
 use ct_troupe::troupe::{PlayFault, Troupe};
 use ct_values::items::Items;
 use std::alloc::Global;
@@ -61,8 +61,8 @@ impl<R> Loopback<R> {
         ensures same { result ≡ fault }
         ensures journals { self.new.journals ≡ self.old.journals }
         ensures tallies { self.new.tallies ≡ self.old.tallies }
-        ensures cause { RisesWhere (is_link_fault (Err result)) self.old.faults self.new.faults }
-        ensures counts { self.new.faults ≡ more_where (is_link_fault (Err fault)) self.old.faults }
+        ensures cause { RisesWhere (played.is_link_fault (Err result)) self.old.faults self.new.faults }
+        ensures counts { self.new.faults ≡ more_where (played.is_link_fault (Err fault)) self.old.faults }
     {
         if let PlayFault::Link = fault {
             self.faults = self.faults.saturating_add(1);
@@ -85,8 +85,8 @@ impl<R: Spawns + Wait + Sync + Net<Listener = TcpListener, Stream = TcpStream>> 
     fn play(&mut self, alloc: Global, table: &CallTable, plan: &Plan) -> Result<(), PlayFault>
         requires sound { IsSound plan.now }
         requires ready { IsSync R.row }
-        ensures played { HasPlayed (rules_of table.now) plan.now result self.new.journals }
-        ensures cause { RisesWhere (is_link_fault result) self.old.faults self.new.faults }
+        ensures played { played.HasPlayed (rules_of table.now) plan.now result self.new.journals }
+        ensures cause { RisesWhere (played.is_link_fault result) self.old.faults self.new.faults }
         ensures turns { AllHadTurns plan.now result self.new.tallies }
     {
         self.journals = Items::empty(alloc);

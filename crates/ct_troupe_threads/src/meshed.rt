@@ -3,19 +3,19 @@ ghost use Rattle.std.specs.Prelude.{◌≡◌, ◌<◌, ◌^◌, ℕ, true, Some
 ghost use Rattle.std.specs.List.{list_any};
 ghost use Rattle.ct_call.specs.Shown.{rules_of};
 ghost use Rattle.ct_script.specs.Sound.{IsSound};
-ghost use Rattle.ct_troupe_threads.specs.Meshed.{HadTurns, HasEnded, has_failed, joining_fault};
+ghost use Rattle.ct_troupe_threads.specs.Meshed as meshed;
 ghost use Rattle.ct_troupe_threads.specs.Threaded.{served};
 ghost use Rattle.ct_troupe.specs.Played.{ArePlayed};
 ghost use Rattle.ct_troupe.specs.declared.troupe.PlayFault.TheVariants as fault;
 
 use crate::node::{NodeEnd, serve_over};
 use ct_call::table::CallTable;
-use ct_script::plan::Plan;
 use ct_journal::journal::Journal;
 use ct_journal_order::order::in_order;
 use ct_links::link::{LinkTally, Peer};
 use ct_links::mesh::{MeshFault, mesh};
 use ct_links::seats::LockBook;
+use ct_script::plan::Plan;
 use ct_troupe::troupe::PlayFault;
 use ct_values::memory::NoMemory;
 use std::alloc::Global;
@@ -42,7 +42,7 @@ fn serve_all<R: Threads + Wait + Sync>(
     requires sound { IsSound plan.now }
     requires streams { length streams.now ≡ plan.now.config.nodes }
     ensures count { IfOk result (λ v. length v.items ≡ plan.now.config.nodes) }
-    ensures each { IfOk result (λ v. (n : ℕ) (r : _) → slice_get v.items n ≡ Some r → IfOk r (λ o. IfSome o (HasEnded (rules_of table.now) plan.now n))) }
+    ensures each { IfOk result (λ v. (n : ℕ) (r : _) → slice_get v.items n ≡ Some r → IfOk r (λ o. IfSome o (meshed.HasEnded (rules_of table.now) plan.now n))) }
 {
     let book = LockBook::new(rt, alloc);
     let pages = &book;
@@ -52,7 +52,7 @@ fn serve_all<R: Threads + Wait + Sync>(
         plan.config.nodes as usize,
         &|node: usize| -> Result<Option<NodeEnd>, NoMemory>
             requires { IsSound plan.now × (node < plan.now.config.nodes) × (node < 2 ^ 32) × (node < length streams.now) }
-            ensures { IfOk result (λ o. IfSome o (HasEnded (rules_of table.entry.now) plan.entry.now node)) }
+            ensures { IfOk result (λ o. IfSome o (meshed.HasEnded (rules_of table.entry.now) plan.entry.now node)) }
         {
             serve_over(
                 alloc,
@@ -69,7 +69,7 @@ fn serve_all<R: Threads + Wait + Sync>(
 
 /// The fault of a play whose nodes are not joined.
 fn joining_fault(fault: MeshFault) -> PlayFault
-    ensures { result ≡ joining_fault fault }
+    ensures { result ≡ meshed.joining_fault fault }
 {
     match fault {
         MeshFault::Refused => PlayFault::Link,
@@ -94,7 +94,7 @@ pub fn join_nodes<R: Net<Listener = TcpListener, Stream = TcpStream>>(
 
 /// Could a node not serve to its end?
 fn some_failed(all: &[Result<Option<NodeEnd>, NoMemory>]) -> bool
-    ensures { result ≡ list_any has_failed all.now }
+    ensures { result ≡ list_any meshed.has_failed all.now }
 {
     all.iter().any(|left| matches!(left, Ok(None)))
 }
@@ -105,8 +105,8 @@ fn ends_of(
     all: Vec<Result<Option<NodeEnd>, NoMemory>>,
 ) -> Result<Vec<NodeEnd>, PlayFault>
     ensures ends { IfOk result (λ v. all.items ≡ map served v.items) }
-    ensures failed { list_any has_failed all.items ≡ true → result ≡ Err fault.Link }
-    ensures link { result ≡ Err fault.Link → list_any has_failed all.items ≡ true }
+    ensures failed { list_any meshed.has_failed all.items ≡ true → result ≡ Err fault.Link }
+    ensures link { result ≡ Err fault.Link → list_any meshed.has_failed all.items ≡ true }
 {
     if some_failed(all.as_slice()) {
         return Err(PlayFault::Link);
@@ -150,7 +150,7 @@ pub fn play_over_streams<R: Threads + Wait + Sync>(
     requires sound { IsSound plan.now }
     requires streams { length streams.now ≡ plan.now.config.nodes }
     ensures played { IfOk result (λ e. ArePlayed (rules_of table.now) plan.now e.journals.items) }
-    ensures turns { IfOk result (λ e. (length e.tallies.items ≡ plan.now.config.nodes) × All HadTurns e.tallies.items) }
+    ensures turns { IfOk result (λ e. (length e.tallies.items ≡ plan.now.config.nodes) × All meshed.HadTurns e.tallies.items) }
 {
     let all = serve_all(rt, alloc, table, plan, streams)?;
     let ends = ends_of(alloc, all)?;

@@ -1,22 +1,17 @@
 //! One node of a plan, which serves over a hub: messages are handed on whole.
 ghost use Rattle.std.specs.Prelude.{◌≡◌, ◌<◌, ◌+◌, ◌^◌, [], None, IfOk, IfSome, IsTrue, OnOk, length, nat_le};
 ghost use Rattle.ct_call.specs.Shown.{rules_of};
-ghost use Rattle.ct_script.specs.Cues.{first_cue, most_entries, next_item};
-ghost use Rattle.ct_script.specs.Sound.{IsSound, script_of};
-ghost use Rattle.ct_actor.specs.Journalled.{at_opening};
-ghost use Rattle.ct_actor.specs.Queues.{is_for};
-ghost use Rattle.ct_actor.specs.Seats.{IsSeatOf};
-ghost use Rattle.ct_troupe_threads.specs.Seated.{ServesInTurns, StaysSeated};
+ghost use Rattle.ct_script.specs.Cues as cues;
+ghost use Rattle.ct_script.specs.Sound as sound;
+ghost use Rattle.ct_actor_serving.specs.Handed as handed;
+ghost use Rattle.ct_troupe_threads.specs.Seated as seated;
 ghost use Rattle.ct_troupe_threads.specs.Threaded.{HasServed};
 
 use crate::settled::MOST_ENTRIES;
-use ct_actor::node::Node;
-use ct_actor::seat::Seat;
+use ct_actor_serving::serve::{Node, Seat, is_for};
 use ct_call::table::CallTable;
 use ct_frame::event::Out;
 use ct_frame::frame::Frame;
-use ct_script::plan::{Plan, PlanItem};
-use ct_frame_fields::fields::well_formed;
 use ct_journal::journal::Journal;
 use ct_links::hub::{Handed, HubLink};
 use ct_node_state::turn::CoreFault;
@@ -24,6 +19,7 @@ use ct_outside::fault::TakeFault;
 use ct_outside::gate::Gate;
 use ct_outside::lock::RecLock;
 use ct_script::cue::Cue;
+use ct_script::plan::{Plan, PlanItem};
 use ct_values::memory::NoMemory;
 use std::alloc::Global;
 use std::sync::Wait;
@@ -47,7 +43,7 @@ fn stop_of(fault: CoreFault) -> Stop {
 /// The script of the node.
 #[tactic(auto, unfolding(ct_script::specs::Sound::script_of, ct_script::specs::Sound::or_no_items))]
 fn script_at(plan: &Plan, node: u32) -> &[PlanItem]
-    ensures { result.now ≡ script_of plan.now node }
+    ensures { result.now ≡ sound.script_of plan.now node }
 {
     match plan.scripts.as_slice().get(node as usize) {
         Some(script) => script.as_slice(),
@@ -65,14 +61,6 @@ fn send_last<R: Wait>(node: &Node, link: &mut HubLink<'_, R>) -> Result<(), NoMe
     Ok(())
 }
 
-/// May the message arrive at the node?
-#[tactic(auto, unfolding(ct_actor::specs::Queues::is_for))]
-fn is_for(node: u32, frame: &Frame) -> bool
-    ensures { result ≡ is_for node frame.now }
-{
-    well_formed(frame) && frame.receiver == node
-}
-
 /// A message arrives, and the node sends what it then does.
 #[tactic(auto, using(crate::proofs::Seating::took_event))]
 fn take_message<R: Wait>(
@@ -83,8 +71,8 @@ fn take_message<R: Wait>(
     frame: Frame,
     link: &mut HubLink<'_, R>,
 ) -> Result<(), Stop>
-    requires seat { IsSeatOf (rules_of table.now) plan.now node seat.old }
-    ensures { OnOk result (StaysSeated (rules_of table.now) plan.now node seat.old seat.new) }
+    requires seat { handed.IsSeatOf (rules_of table.now) plan.now node seat.old }
+    ensures { OnOk result (seated.StaysSeated (rules_of table.now) plan.now node seat.old seat.new) }
 {
     if !is_for(node, &frame) {
         return Err(Stop::Fails);
@@ -123,9 +111,9 @@ fn take_item<R: Wait, S: RecLock>(
     link: &mut HubLink<'_, R>,
     lock: &mut S,
 ) -> Result<(), Stop>
-    requires sound { IsSound plan.now }
-    requires seat { IsSeatOf (rules_of table.now) plan.now node seat.old }
-    ensures { OnOk result (StaysSeated (rules_of table.now) plan.now node seat.old seat.new) }
+    requires sound { sound.IsSound plan.now }
+    requires seat { handed.IsSeatOf (rules_of table.now) plan.now node seat.old }
+    ensures { OnOk result (seated.StaysSeated (rules_of table.now) plan.now node seat.old seat.new) }
 {
     let last = match last_ticket(plan, seat, node, lock) {
         Ok(last) => last,
@@ -147,7 +135,7 @@ fn take_item<R: Wait, S: RecLock>(
 /// May the node wait for a message? It may where it has no item of its script to take.
 #[tactic(auto, using(crate::proofs::Seating::none_next))]
 fn may_wait(plan: &Plan, seat: &Seat, node: u32) -> bool
-    ensures { IsTrue result → next_item (script_of plan.now node) seat.now.cue ≡ None }
+    ensures { IsTrue result → cues.next_item (sound.script_of plan.now node) seat.now.cue ≡ None }
 {
     match seat.cue.next(script_at(plan, node)) {
         Some(_) => false,
@@ -165,10 +153,10 @@ fn turn<R: Wait, S: RecLock>(
     link: &mut HubLink<'_, R>,
     lock: &mut S,
 ) -> Result<bool, Stop>
-    requires sound { IsSound plan.now }
-    requires seat { IsSeatOf (rules_of table.now) plan.now node seat.old }
-    ensures seat { OnOk result (StaysSeated (rules_of table.now) plan.now node seat.old seat.new) }
-    ensures none { IfOk result (λ closed. IsTrue closed → next_item (script_of plan.now node) seat.new.cue ≡ None) }
+    requires sound { sound.IsSound plan.now }
+    requires seat { handed.IsSeatOf (rules_of table.now) plan.now node seat.old }
+    ensures seat { OnOk result (seated.StaysSeated (rules_of table.now) plan.now node seat.old seat.new) }
+    ensures none { IfOk result (λ closed. IsTrue closed → cues.next_item (sound.script_of plan.now node) seat.new.cue ≡ None) }
 {
     let waits = may_wait(plan, seat, node);
     match link.receive(waits) {
@@ -186,10 +174,10 @@ fn turn<R: Wait, S: RecLock>(
 
 /// The node at its opening.
 fn opened(alloc: Global, plan: &Plan, node: u32) -> Result<Seat, NoMemory>
-    requires sound { IsSound plan.now }
+    requires sound { sound.IsSound plan.now }
     requires node { node < plan.now.config.nodes }
-    ensures node { IfOk result (λ s. s.node ≡ at_opening node plan.now.config) }
-    ensures cue { IfOk result (λ s. s.cue ≡ first_cue []) }
+    ensures node { IfOk result (λ s. s.node ≡ handed.at_opening node plan.now.config) }
+    ensures cue { IfOk result (λ s. s.cue ≡ cues.first_cue []) }
 {
     let own = Node::new(alloc, node, &plan.config)?;
     Ok(Seat {
@@ -200,7 +188,7 @@ fn opened(alloc: Global, plan: &Plan, node: u32) -> Result<Seat, NoMemory>
 
 /// Has the journal all entries that a node takes?
 fn is_full(seat: &Seat) -> bool
-    ensures { result ≡ nat_le most_entries (length seat.now.node.entries) }
+    ensures { result ≡ nat_le cues.most_entries (length seat.now.node.entries) }
 {
     seat.node.entries().len() as u64 >= MOST_ENTRIES
 }
@@ -217,10 +205,10 @@ pub fn serve_seated<R: Wait, S: RecLock, G: Gate>(
     gate: &mut G,
     node: u32,
 ) -> Result<Option<Journal>, NoMemory>
-    requires sound { IsSound plan.now }
+    requires sound { sound.IsSound plan.now }
     requires node { node < plan.now.config.nodes }
     ensures served { IfOk result (λ o. IfSome o (HasServed (rules_of table.now) plan.now node)) }
-    ensures turns { ServesInTurns node result (G.passes gate.old) (G.passes gate.new) }
+    ensures turns { seated.ServesInTurns node result (G.passes gate.old) (G.passes gate.new) }
 {
     let mut seat = opened(alloc, plan, node)?;
     for number in 0..u64::MAX {

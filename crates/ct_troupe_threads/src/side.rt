@@ -3,7 +3,7 @@ ghost use Rattle.std.specs.Prelude.{◌≡◌, All, length};
 ghost use Rattle.std.specs.Thread.{IsSync};
 ghost use Rattle.ct_call.specs.Shown.{rules_of};
 ghost use Rattle.ct_script.specs.Sound.{IsSound};
-ghost use Rattle.ct_troupe_threads.specs.Sides.{AreColumnsOf, PlaysAt};
+ghost use Rattle.ct_troupe_threads.specs.Sides as sides;
 
 use crate::column::{Column, play_column};
 use crate::gate::ThreadGate;
@@ -25,7 +25,7 @@ fn play_at<R: Threads + Wait + Sync, G: ThreadGate>(
 )
     requires sound { All IsSound plans.now }
     requires shared { IsSync R.row }
-    ensures { PlaysAt (rules_of table.now) plans.now place column.new }
+    ensures { sides.PlaysAt (rules_of table.now) plans.now place column.new }
 {
     if let Some(plan) = plans.get(place) {
         play_column(rt, alloc, table, plan, column);
@@ -44,7 +44,7 @@ pub fn play_side_by_side<R: Threads + Wait + Sync, G: ThreadGate>(
     requires sound { All IsSound plans.now }
     requires shared { IsSync R.row }
     ensures len { length columns.new ≡ length columns.old }
-    ensures each { AreColumnsOf (rules_of table.now) plans.now columns.new }
+    ensures each { sides.AreColumnsOf (rules_of table.now) plans.now columns.new }
 {
     let count = columns.len();
     if count == 0 {
@@ -56,7 +56,7 @@ pub fn play_side_by_side<R: Threads + Wait + Sync, G: ThreadGate>(
         count,
         &|i: usize, column: &mut Column<G>|
             requires { IsSync R.row × All IsSound plans.now }
-            ensures { PlaysAt (rules_of table.entry.now) plans.entry.now i column.exit.now }
+            ensures { sides.PlaysAt (rules_of table.entry.now) plans.entry.now i column.exit.now }
         { play_at(rt, alloc, table, plans, i, column) },
     );
 }

@@ -2,17 +2,17 @@
 ghost use Rattle.std.specs.Prelude.{◌≡◌, ◌<◌, ◌^◌, ℕ, Some, IfOk, IfSome, length, map, slice_get};
 ghost use Rattle.ct_call.specs.Shown.{rules_of};
 ghost use Rattle.ct_script.specs.Sound.{IsSound};
-ghost use Rattle.ct_troupe_threads.specs.Threaded.{AreSettled, HasServed, served};
+ghost use Rattle.ct_troupe_threads.specs.Threaded as threaded;
 ghost use Rattle.ct_troupe.specs.Played.{ArePlayed};
 
 use crate::beside::serve_beside;
 use crate::settled::are_settled;
 use ct_call::table::CallTable;
-use ct_script::plan::Plan;
 use ct_journal::journal::Journal;
 use ct_links::hub::Hub;
 use ct_links::seats::LockBook;
 use ct_outside::gate::Gate;
+use ct_script::plan::Plan;
 use ct_values::memory::NoMemory;
 use std::alloc::Global;
 use std::sync::{Mutex, Wait};
@@ -29,7 +29,7 @@ fn serve_all<R: Threads + Wait + Sync, G: Gate + Send>(
 ) -> Result<Vec<Result<Option<Journal>, NoMemory>>, NoMemory>
     requires { IsSound plan.now }
     ensures count { IfOk result (λ v. length v.items ≡ plan.now.config.nodes) }
-    ensures each { IfOk result (λ v. (n : ℕ) (r : _) → slice_get v.items n ≡ Some r → IfOk r (λ o. IfSome o (HasServed (rules_of table.now) plan.now n))) }
+    ensures each { IfOk result (λ v. (n : ℕ) (r : _) → slice_get v.items n ≡ Some r → IfOk r (λ o. IfSome o (threaded.HasServed (rules_of table.now) plan.now n))) }
 {
     let hub = Hub::new(rt, alloc, plan.config.nodes)?;
     let book = LockBook::new(rt, alloc);
@@ -40,7 +40,7 @@ fn serve_all<R: Threads + Wait + Sync, G: Gate + Send>(
         plan.config.nodes as usize,
         &|node: usize| -> Result<Option<Journal>, NoMemory>
             requires { IsSound plan.now × (node < plan.now.config.nodes) × (node < 2 ^ 32) × (boxes.now ≡ plan.now.config.nodes) }
-            ensures { IfOk result (λ o. IfSome o (HasServed (rules_of table.entry.now) plan.entry.now node)) }
+            ensures { IfOk result (λ o. IfSome o (threaded.HasServed (rules_of table.entry.now) plan.entry.now node)) }
         { serve_beside(rt, alloc, table, plan, boxes, pages, gates, node as u32) },
     )?;
     Ok(all)
@@ -51,7 +51,7 @@ fn gather(
     alloc: Global,
     all: Vec<Result<Option<Journal>, NoMemory>>,
 ) -> Result<Option<Vec<Journal>>, NoMemory>
-    ensures { IfOk result (λ o. IfSome o (λ v. all.items ≡ map served v.items)) }
+    ensures { IfOk result (λ o. IfSome o (λ v. all.items ≡ map threaded.served v.items)) }
 {
     let mut journals = Vec::new(alloc);
     for left in all {
@@ -73,7 +73,7 @@ fn play_behind<R: Threads + Wait + Sync, G: Gate + Send>(
 ) -> Result<Option<Vec<Journal>>, NoMemory>
     requires { IsSound plan.now }
     ensures played { IfOk result (λ o. IfSome o (λ v. ArePlayed (rules_of table.now) plan.now v.items)) }
-    ensures settled { IfOk result (λ o. IfSome o (λ v. AreSettled v.items)) }
+    ensures settled { IfOk result (λ o. IfSome o (λ v. threaded.AreSettled v.items)) }
 {
     let all = serve_all(rt, alloc, table, plan, gates)?;
     let Some(journals) = gather(alloc, all)? else {
@@ -99,7 +99,7 @@ pub fn play_in_threads<R: Threads + Wait + Sync, G: Gate + Send>(
 ) -> Result<Option<Vec<Journal>>, NoMemory>
     requires { IsSound plan.now }
     ensures played { IfOk result (λ o. IfSome o (λ v. ArePlayed (rules_of table.now) plan.now v.items)) }
-    ensures settled { IfOk result (λ o. IfSome o (λ v. AreSettled v.items)) }
+    ensures settled { IfOk result (λ o. IfSome o (λ v. threaded.AreSettled v.items)) }
 {
     let mut locked = Vec::new(alloc);
     let each = gates.iter_mut();

@@ -1,6 +1,6 @@
 //! Why a step is refused, apart from a number that would reach its limit. No call takes memory.
 ghost use Rattle.std.specs.Prelude.{◌≡◌, ◌∷◌, nat_lt, [], MatchOption, slice_get};
-ghost use Rattle.ct_rules_cluster.specs.Cluster.{absent, is_delivered, is_true, is_up, is_waiting, node_at, sent_at};
+ghost use Rattle.ct_rules_cluster.specs.Cluster as cluster;
 ghost use Rattle.ct_rules_cluster.specs.Faults as rule;
 ghost use Rattle.ct_rules_cluster.specs.declared.step.Step.TheVariants as step;
 ghost use Rattle.ct_rules_node.specs.Node.{is_serving};
@@ -15,7 +15,7 @@ use ct_rules_cluster::step::{Step, StepFault};
 /// Is the node's mark there and set?
 #[tactic(auto, unfolding(ct_rules_cluster::specs::Cluster::is_true))]
 pub(crate) fn is_marked(marks: &[bool], node: u32) -> bool
-    ensures { result ≡ is_true (slice_get marks.now node) }
+    ensures { result ≡ cluster.is_true (slice_get marks.now node) }
 {
     match marks.get(node as usize) {
         Some(mark) => *mark,
@@ -58,7 +58,7 @@ impl World {
     /// Does the node run?
     #[tactic(auto, unfolding(ct_rules_cluster::specs::Cluster::is_up))]
     pub fn is_up(&self, node: u32) -> bool
-        ensures { result ≡ is_up node self.now.cluster }
+        ensures { result ≡ cluster.is_up node self.now.cluster }
     {
         is_marked(self.parts.running.as_slice(), node)
     }
@@ -110,7 +110,7 @@ impl World {
     /// The node of this number, where there is one.
     #[tactic(auto, using(crate::proofs::Cores::core_there, crate::proofs::Cores::core_gone), unfolding(ct_rules_cluster::specs::Cluster::node_at, ct_rules_cluster::specs::Cluster::or_absent))]
     pub(crate) fn core(&self, node: u32) -> Option<&Core>
-        ensures { MatchOption result (node_at node self.now.cluster ≡ absent) (λ x. node_at node self.now.cluster ≡ x.now.node) }
+        ensures { MatchOption result (cluster.node_at node self.now.cluster ≡ cluster.absent) (λ x. cluster.node_at node self.now.cluster ≡ x.now.node) }
     {
         self.parts.cores.as_slice().get(node as usize)
     }
@@ -118,7 +118,7 @@ impl World {
     /// Does the node serve?
     #[tactic(auto, unfolding(ct_rules_cluster::specs::Cluster::absent, ct_rules_node::specs::Node::is_serving))]
     fn serves(&self, node: u32) -> bool
-        ensures { result ≡ is_serving (node_at node self.now.cluster).phase }
+        ensures { result ≡ is_serving (cluster.node_at node self.now.cluster).phase }
     {
         match self.core(node) {
             Some(core) => core.serving(),
@@ -129,7 +129,7 @@ impl World {
     /// Does the node lead its generation with the round completed?
     #[tactic(auto, unfolding(ct_rules_cluster::specs::Cluster::absent, ct_rules_cluster::specs::Faults::leads))]
     fn leads(&self, node: u32) -> bool
-        ensures { result ≡ rule.leads (node_at node self.now.cluster).generation (node_at node self.now.cluster).lead }
+        ensures { result ≡ rule.leads (cluster.node_at node self.now.cluster).generation (cluster.node_at node self.now.cluster).lead }
     {
         match self.core(node) {
             Some(core) => core.leads(),
@@ -187,14 +187,14 @@ impl World {
 
     /// Does the message of this number wait?
     fn waits(&self, number: u64) -> bool
-        ensures { result ≡ is_waiting (sent_at number self.now.cluster) }
+        ensures { result ≡ cluster.is_waiting (cluster.sent_at number self.now.cluster) }
     {
         self.parts.mail.is_waiting(number)
     }
 
     /// Was the message of this number delivered?
     fn was_delivered(&self, number: u64) -> bool
-        ensures { result ≡ is_delivered (sent_at number self.now.cluster) }
+        ensures { result ≡ cluster.is_delivered (cluster.sent_at number self.now.cluster) }
     {
         self.parts.mail.is_delivered(number)
     }

@@ -1,7 +1,7 @@
 //! What a step prints, and the messages that it sends.
 ghost use Rattle.std.specs.Prelude.{◌≡◌, ◌∷◌, ◌++◌, ◌+◌, ◌^◌, ◌<◌, ◌≤◌, [], IfOk, OnOk, length};
 ghost use Rattle.ct_rules_cluster.specs.Cluster.{able_from};
-ghost use Rattle.ct_rules_cluster.specs.Steps.{frames_of, gone, lines_of};
+ghost use Rattle.ct_rules_cluster.specs.Steps as steps;
 ghost use Rattle.ct_rules_cluster.specs.declared.step.Line.TheVariants as line;
 ghost use Rattle.ct_world.specs.Feeding.{TellsAll, TellsOne};
 
@@ -46,7 +46,7 @@ pub(crate) fn stopped(
     node: u32,
     calls: Vec<PendingCall>,
 ) -> Result<Vec<Line>, NoMemory>
-    ensures { IfOk result (λ lines. lines.items ≡ line.Stopped node ∷ gone calls.items) }
+    ensures { IfOk result (λ lines. lines.items ≡ line.Stopped node ∷ steps.gone calls.items) }
 {
     let mut lines = one(alloc, Line::Stopped(node))?;
     for pending in calls {

@@ -2,7 +2,7 @@
 ghost use Rattle.std.specs.Prelude.{◌≡◌, ◌<◌, true, false, IfOk, Some, length, slice_get, slice_set};
 ghost use Rattle.ct_call.specs.Rules.{Rules};
 ghost use Rattle.ct_call.specs.Shown.{rules_of};
-ghost use Rattle.ct_rules_cluster.specs.Cluster.{Sent, is_up, pending_in, sent_at};
+ghost use Rattle.ct_rules_cluster.specs.Cluster as cluster;
 ghost use Rattle.ct_rules_cluster.specs.Steps.{without_holder};
 ghost use Rattle.ct_rules_cluster.specs.declared.step.Step.TheVariants as step;
 ghost use Rattle.ct_core.specs.Core as machine;
@@ -34,7 +34,7 @@ fn mark(marks: &mut Items<bool>, node: u32, mark: bool)
 /// The client calls that wait at the node of this number, by number.
 fn pending_at(cores: &[Core], node: u32) -> Result<Vec<PendingCall>, NoMemory>
     requires { node < length cores.now }
-    ensures { IfOk result (λ calls. (x : machine.Core) → slice_get cores.now node ≡ Some x → calls.items ≡ by_number (λ y. y.call) (pending_in x.pnn 0 x.node.dbs)) }
+    ensures { IfOk result (λ calls. (x : machine.Core) → slice_get cores.now node ≡ Some x → calls.items ≡ by_number (λ y. y.call) (cluster.pending_in x.pnn 0 x.node.dbs)) }
 {
     cores[node as usize].pending()
 }
@@ -81,7 +81,7 @@ impl Parts {
     /// A message that waits comes to its receiver, which runs.
     fn hand_over(&mut self, table: &CallTable, number: u64) -> Result<Vec<Line>, StepFault>
         requires may { MayTake (step.Deliver number) self.old }
-        requires at { (s : Sent) × (sent_at number (cluster_of self.old) ≡ Some s) × (is_up s.frame.receiver (cluster_of self.old) ≡ true) }
+        requires at { (s : cluster.Sent) × (cluster.sent_at number (cluster_of self.old) ≡ Some s) × (cluster.is_up s.frame.receiver (cluster_of self.old) ≡ true) }
         ensures step { Takes (λ lines. lines.items) result (rules_of table.now) (step.Deliver number) self.old self.new }
         ensures seats { AreSeated self.new.config self.new.cores }
     {
@@ -93,8 +93,8 @@ impl Parts {
     /// A message that waits is dropped, since its receiver is down.
     fn lose(&mut self, number: u64, receiver: u32) -> Result<Vec<Line>, StepFault>
         requires may { MayTake (step.Deliver number) self.old }
-        requires at { (s : Sent) × (sent_at number (cluster_of self.old) ≡ Some s) × (s.frame.receiver ≡ receiver) }
-        requires down { is_up receiver (cluster_of self.old) ≡ false }
+        requires at { (s : cluster.Sent) × (cluster.sent_at number (cluster_of self.old) ≡ Some s) × (s.frame.receiver ≡ receiver) }
+        requires down { cluster.is_up receiver (cluster_of self.old) ≡ false }
         ensures step { (rules : Rules) → Takes (λ lines. lines.items) result rules (step.Deliver number) self.old self.new }
         ensures seats { AreSeated self.new.config self.new.cores }
     {

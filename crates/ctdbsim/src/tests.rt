@@ -4,15 +4,14 @@ ghost use Rattle.std.specs.Prelude.{[], None};
 use ct_bus_exchange::handlers::Handlers;
 use ct_bus_exchange::turns::BusTurns;
 use ct_call::table::CallTable;
-use ct_script::plan::Plan;
 use ct_journal::journal::Journal;
 use ct_main::run::run;
 use ct_outside::fault::{Failed, SinkFault};
 use ct_outside::memory::{MemSink, MemSource};
 use ct_outside::sink::Sink;
 use ct_outside::source::Source;
-use ct_troupe::columns::Columns;
-use ct_troupe::troupe::{PlayFault, Troupe};
+use ct_script::plan::Plan;
+use ct_troupe_threads::column_threads::{Columns, PlayFault, Troupe};
 use std::alloc::Global;
 use std::test::Fail;
 
